@@ -1,0 +1,8 @@
+-- What is to be believed, in the order of document 01; the laws of it stand under Laws.
+pub mod Words
+pub mod Machine
+pub mod Slicing
+pub mod Table
+pub mod Occurrence
+pub mod Reading
+pub mod Laws

@@ -1,0 +1,2 @@
+-- What a read outside the desk answers and leaves.
+pub mod Outside

@@ -1,0 +1,53 @@
+-- A read outside the desk: over any table, from any place and count, into a lent list of numbers.
+use Prim.Native.Nat.{ℕ, zero, suc, _+_, _/_}
+use mathlib.Core.Bool.{Bool, true, false}
+use mathlib.Core.List.{List, [], _∷_, _++_}
+use lib.Dec.{ltb}
+use lib.ListN.{length, getD, drop}
+use Rattle.matching.specs.Words.{Word}
+use Rattle.matching.specs.Table.{slotsIn}
+use Rattle.matching.specs.Occurrence.{Occurrence, flat}
+use Rattle.matching.specs.Reading.{Outcome, read, allBelow}
+use Rattle.reading.specs.declared.ReadRefusal.{ReadRefusal}
+use Rattle.reading.specs.declared.ReadRefusal.the-variants.{Place, Long}
+use Rattle.reading.specs.declared.Ending.{Ending}
+use Rattle.reading.specs.declared.Ending.the-variants.{Stopped, Refused}
+use Rattle.reading.specs.declared.SplitAnswer.{SplitAnswer}
+use Rattle.reading.specs.declared.WholeAnswer.{WholeAnswer}
+
+-- a read is refused, or it comes to an outcome
+pub data ReadOf : Type 0 where
+  refusedRead : ReadRefusal → ReadOf
+  readTo : Outcome → ReadOf
+
+-- by whether each state is below s, and whether the bytes taken and the piece pass 4,294,967,295
+abbrev pub readBy : Outcome → Bool → Bool → ReadOf
+readBy r false long = refusedRead Place
+readBy r true true = refusedRead Long
+readBy r true false = readTo r
+
+-- over a table of k machines of n bits, into a list of so many numbers, two a record
+unfoldable pub readOf : ℕ → ℕ → List ℕ → List ℕ → ℕ → Word → ℕ → ReadOf
+readOf n k table place count piece len =
+    readBy (read n (slotsIn n k (length table)) table place count (len / 2) piece)
+    (allBelow (slotsIn n k (length table)) place)
+    (ltb 4294967295 (count + length piece))
+
+-- the list after a read: the records at its front, and the rest as it was
+abbrev pub listBy : List ℕ → ReadOf → List ℕ
+listBy list (refusedRead why) = list
+listBy list (readTo r) = flat (r .found) ++ drop (length (flat (r .found))) list
+
+-- the answers
+abbrev pub splitBy : List ℕ → ReadOf → SplitAnswer
+splitBy place (refusedRead why) = record { taken = 0; place = place; records = 0; ending = Refused why }
+splitBy place (readTo r) = record { taken = r .taken; place = r .place; records = length (r .found); ending = Stopped (r .stop) }
+
+abbrev pub wholeBy : ℕ → ReadOf → WholeAnswer
+wholeBy place (refusedRead why) = record { taken = 0; place = place; records = 0; ending = Refused why }
+wholeBy place (readTo r) = record { taken = r .taken; place = getD (r .place) 0 0; records = length (r .found); ending = Stopped (r .stop) }
+
+-- the number of a refusal in the table of refusals; nothing is returned with it
+abbrev pub readNumber : ReadRefusal → ℕ
+readNumber Place = 15
+readNumber Long = 14

@@ -1,0 +1,2 @@
+-- What building answers and leaves.
+pub mod Building

@@ -1,0 +1,57 @@
+-- What reading a set answers, and the document's number and values of each fault.
+use Prim.Native.Nat.{ℕ, zero, suc, _+_, _-_}
+use mathlib.Core.List.{List, [], _∷_, _++_}
+use lib.ListN.{length, replicate, take, drop}
+use Rattle.matching.specs.Words.{Word}
+use Rattle.tagset.specs.Grammar.{SetOf, goodSet, badSet, setOf}
+use Rattle.tagset.specs.declared.SetFault.{SetFault}
+use Rattle.tagset.specs.declared.SetFault.the-variants.{Cut, Many, Kind, Length, Empty, Repeat}
+use Rattle.tagset.specs.declared.Tags.{Tags}
+use Rattle.tagset.specs.declared.SetRead.{SetRead}
+use Rattle.tagset.specs.declared.Verdict.{Verdict}
+use Rattle.tagset.specs.declared.Verdict.the-variants.{Good, Bad}
+
+-- the number of a fault in the table of refusals
+abbrev pub faultNumber : SetFault → ℕ
+faultNumber (Cut k) = 1
+faultNumber (Many k) = 2
+faultNumber (Kind k) = 3
+faultNumber (Length k) = 4
+faultNumber Empty = 5
+faultNumber (Repeat k) = 6
+
+-- what is returned with it: the entry
+abbrev pub faultValues : SetFault → List ℕ
+faultValues (Cut k) = k ∷ []
+faultValues (Many k) = k ∷ []
+faultValues (Kind k) = k ∷ []
+faultValues (Length k) = k ∷ []
+faultValues Empty = 0 ∷ []
+faultValues (Repeat k) = k ∷ []
+
+-- where the payloads of entries begin and end, the first entry beginning at `at`
+unfoldable pub begun : ℕ → List Word → List ℕ
+begun at [] = []
+begun at (t ∷ ts) = (at + 4) ∷ begun (at + 4 + length t) ts
+
+unfoldable pub ended : ℕ → List Word → List ℕ
+ended at [] = []
+ended at (t ∷ ts) = (at + 4 + length t) ∷ ended (at + 4 + length t) ts
+
+-- so many numbers: a list's, and zeros behind them
+abbrev pub padded : ℕ → List ℕ → List ℕ
+padded n l = l ++ replicate (n - length l) 0
+
+-- where the tags of a set lie
+unfoldable pub tagsLie : List Word → Tags
+tagsLie ts = record { count = length ts; from = padded 16 (begun 0 ts); to = padded 16 (ended 0 ts) }
+
+unfoldable pub setRead : SetOf → SetRead
+setRead (goodSet ts) = record { verdict = Good; tags = tagsLie ts }
+setRead (badSet fault) = record { verdict = Bad fault; tags = tagsLie [] }
+
+-- the runs of bytes that stand at some places
+unfoldable pub cutAt : List ℕ → List ℕ → List ℕ → List Word
+cutAt bytes [] tos = []
+cutAt bytes (a ∷ froms) [] = []
+cutAt bytes (a ∷ froms) (e ∷ tos) = take (e - a) (drop a bytes) ∷ cutAt bytes froms tos

@@ -1,0 +1,3 @@
+-- What a tag set is, and what reading one answers.
+pub mod Grammar
+pub mod Answer
