@@ -1,2 +1,3 @@
 -- What building answers and leaves.
 pub mod Building
+pub mod Laws

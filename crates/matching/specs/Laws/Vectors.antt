@@ -26,7 +26,7 @@ vectorBy-lt g (t ∷ ts) = rw (pow-suc 2 (length ts)) (digits-lt (vectorBy-lt g 
 
 pub vector-lt : (ts : List Word) (w : Word) → vector ts w < 2 ^ length ts
 unfolding vector
-vector-lt ts w = vectorBy-lt (λ t. ends t w) ts
+vector-lt ts w = vectorBy-lt _ ts
 
 pub reduced-length : (f : ℕ → ℕ) (ts : List Word) → length (reduced f ts) ≡ length ts
 unfolding reduced
@@ -78,13 +78,13 @@ vectorBy-same g h (t ∷ ts) m k e = ap₂ (λ (x : ℕ) (b : Bool). x * 2 + con
 unfoldable pub vectors : List (ℕ → ℕ) → List Word → Word → List ℕ
 vectors fs ts w = map (λ f. vector (reduced f ts) (map f w)) fs
 
-andAll-vector : (fs : List (ℕ → ℕ)) (g : Word → Bool) (ts : List Word) (w : Word)
+anded-vectors : (fs : List (ℕ → ℕ)) (g : Word → Bool) (ts : List Word) (w : Word)
     → anded (vectorBy g ts) (vectors fs ts w) ≡ vectorBy (λ t. g t && endsAll fs t w) ts
 unfolding anded vectors endsAll vector reduced
-andAll-vector [] g ts w = ap (λ (p : Word → Bool). vectorBy p ts) (fun-ext (λ t. sym (and-true (g t))))
-andAll-vector (f ∷ fs) g ts w =
+anded-vectors [] g ts w = ap (λ (p : Word → Bool). vectorBy p ts) (fun-ext (λ t. sym (and-true (g t))))
+anded-vectors (f ∷ fs) g ts w =
     ap (λ (v : ℕ). anded v (vectors fs ts w)) (vectorBy-and g (map f) (λ t. ends t (map f w)) ts)
-    ∙ andAll-vector fs (λ t. g t && ends (map f t) (map f w)) ts w
+    ∙ anded-vectors fs (λ t. g t && ends (map f t) (map f w)) ts w
     ∙ ap (λ (p : Word → Bool). vectorBy p ts) (fun-ext (λ t. and-assoc (g t) (ends (map f t) (map f w)) (endsAll fs t w)))
 
 vectorBy-map : (h : Word → Bool) (f : Word → Word) (ts : List Word) → vectorBy h (map f ts) ≡ vectorBy (λ t. h (f t)) ts
@@ -98,7 +98,7 @@ pub and-vectors : (f : ℕ → ℕ) (fs : List (ℕ → ℕ)) (m : ℕ) → Apar
 unfolding vector reduced endsAll
 and-vectors f fs m k ts w ht hw =
     ap (λ (v : ℕ). anded v (vectors fs ts w)) (vectorBy-map (λ t. ends t (map f w)) (map f) ts)
-    ∙ andAll-vector fs (λ t. ends (map f t) (map f w)) ts w
+    ∙ anded-vectors fs (λ t. ends (map f t) (map f w)) ts w
     ∙ vectorBy-same (λ t. endsAll (f ∷ fs) t w) (λ t. ends t w) ts m ht (λ t h. slices-end f fs m k t w h hw)
 
 -- and from a mask of at least as many ones as there are tags

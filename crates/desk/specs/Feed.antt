@@ -1,0 +1,59 @@
+-- Feeding a piece to one ticket.
+use Prim.Native.Nat.{ℕ, _+_, _-_}
+use mathlib.Core.Bool.{Bool, true, false}
+use mathlib.Core.List.{List, [], _∷_}
+use lib.Dec.{eqb, ltb}
+use lib.ListN.{length, set}
+use Rattle.matching.specs.Words.{Word}
+use Rattle.matching.specs.Table.{slotsIn}
+use Rattle.matching.specs.Reading.{Outcome, read}
+use Rattle.matching.specs.declared.Stop.the-variants.{Damaged}
+use Rattle.desk.specs.Rooms.{ticketIn, roomOf}
+use Rattle.desk.specs.Shared.{recordsOf, pushAll}
+use Rattle.desk.specs.declared.Serial.{Serial}
+use Rattle.desk.specs.declared.Ticket.{Ticket}
+use Rattle.desk.specs.declared.Desk.{Desk}
+use Rattle.desk.specs.declared.Feeding.{Feeding}
+use Rattle.desk.specs.declared.FeedAnswer.the-variants as F
+
+-- the reading of a piece for a ticket, into the room that the list has left
+abbrev pub readFor : Desk → Ticket → List ℕ → Word → Outcome
+readFor d t table piece = read 1 (slotsIn 1 8 (length table)) table (t .place) (t .taken) (256 - d .records .count) piece
+
+-- the ticket after a reading
+abbrev pub readOn : Ticket → Outcome → Ticket
+readOn t r = record { held = true; serial = t .serial; edition = t .edition; taken = t .taken + r .taken; place = r .place }
+
+-- the desk after a reading for the ticket in room i: the records have the ticket's serial and edition
+abbrev pub fedBy : Desk → ℕ → Ticket → Outcome → Feeding
+fedBy d i t r = record {
+  desk = record {
+    tickets = set (d .tickets) i (readOn t r);
+    records = pushAll (d .records) (recordsOf (t .serial) (t .edition) (r .found));
+    edition = d .edition;
+    serial = d .serial;
+    slots = d .slots;
+  };
+  answer = F.Fed (r .taken) (length (r .found)) (r .stop);
+}
+
+-- by whether the serial has a room, whether its ticket is of the edition in force, whether the table has the slots of the last
+-- replacement, and whether the bytes taken and the piece pass 4,294,967,295
+abbrev pub feedBy : Desk → ℕ → Ticket → List ℕ → Word → Bool → Bool → Bool → Bool → Feeding
+feedBy d i t table piece false ours same long = record { desk = d; answer = F.NoTicket }
+feedBy d i t table piece true false same long = record { desk = d; answer = F.Stale (t .edition) }
+feedBy d i t table piece true true false long = record { desk = d; answer = F.Fed 0 0 Damaged }
+feedBy d i t table piece true true true true = record { desk = d; answer = F.Long }
+feedBy d i t table piece true true true false = fedBy d i t (readFor d t table piece)
+
+-- with the room that the serial has
+abbrev pub feedIn : Desk → ℕ → List ℕ → Word → Feeding
+feedIn d i table piece =
+    feedBy d i (ticketIn (d .tickets) i) table piece
+    (ltb i 16)
+    (eqb (ticketIn (d .tickets) i .edition .0) (d .edition .0))
+    (eqb (slotsIn 1 8 (length table)) (d .slots))
+    (ltb 4294967295 (ticketIn (d .tickets) i .taken + length piece))
+
+unfoldable pub feedOf : Desk → Serial → List ℕ → Word → Feeding
+feedOf d s table piece = feedIn d (roomOf (d .tickets) s) table piece

@@ -1,0 +1,5 @@
+-- The laws of the desk's definitions.
+pub mod Rooms
+pub mod Shared
+pub mod Views
+pub mod Good

@@ -1,0 +1,136 @@
+-- The laws of rooms: of the first room that a test holds of, and of setting one.
+use Prim.Native.Nat.{_+_, _<_, _≤_, suc, zero, ℕ}
+use mathlib.Core.Bool.{Bool, cond, false, false≢true, not, true, true≢false}
+use mathlib.Core.List.{List, [], _∷_}
+use mathlib.Core.Logic.{_↔_}
+use mathlib.Core.Path.{_≡_, refl}
+use native.Mathlib.Decide.{decLe}
+use native.Mathlib.Numerals.{add-one}
+use native.Mathlib.Omega.{arith}
+use lib.Dec.{eqb, eqb-refl}
+use lib.ListN.{drop, length}
+use lib.Seq.{drop-cons, drop-length}
+use Rattle.desk.specs.Rooms.{firstRoom, freeRoom, isFor, isFree, noTicket, ticketIn, ticketsHeld}
+use Rattle.desk.specs.declared.Serial.{Serial}
+use Rattle.desk.specs.declared.Ticket.{Ticket}
+use Rattle.matching.specs.Laws.Bools.{and-both, and-l, and-r, is-true, not-both}
+use Rattle.matching.specs.Laws.Vectors.{one-lt}
+use Rattle.matching.specs.Laws.Words.{eqb-eq}
+
+module _ (g : Ticket → Bool) where
+  -- a loop that looks from the front has come to room i
+  unfoldable pub Sought : List Ticket → ℕ → Type 0
+  Sought rooms i = i + firstRoom g (drop i rooms) ≡ firstRoom g rooms
+
+  pub sought-start : (rooms : List Ticket) → Sought rooms 0
+  unfolding Sought
+  sought-start rooms = omega arith
+
+  module _ (rooms : List Ticket) (i : ℕ) (s : Sought rooms i) where
+    -- where the test holds at i, i is the first
+    pub sought-here : i < length rooms → g (ticketIn rooms i) ≡ true → i ≡ firstRoom g rooms
+    unfolding firstRoom Sought
+    sought-here h e =
+        let z : firstRoom g (drop i rooms) ≡ 0 = rw (drop-cons rooms i noTicket, e) in
+        omega arith
+
+    -- where it does not, look further
+    pub sought-on : i < length rooms → g (ticketIn rooms i) ≡ false → Sought rooms (i + 1)
+    unfolding firstRoom Sought
+    sought-on h e =
+        let z : firstRoom g (drop i rooms) ≡ suc (firstRoom g (drop (i + 1) rooms)) = rw (add-one, drop-cons rooms i noTicket, e) in
+        omega arith
+
+    -- past the end there is none
+    pub sought-end : i ≡ length rooms → i ≡ firstRoom g rooms
+    unfolding firstRoom Sought
+    sought-end e =
+        let z : firstRoom g (drop i rooms) ≡ 0 = rw (e, drop-length) in
+        omega arith
+
+  pub firstRoom-le : (rooms : List Ticket) → firstRoom g rooms ≤ length rooms
+  unfolding firstRoom
+  firstRoom-le [] = omega arith
+  firstRoom-le (t ∷ rooms) = go (g t) (firstRoom-le rooms)
+    where
+      go : (b : Bool) → firstRoom g rooms ≤ length rooms → cond b 0 (suc (firstRoom g rooms)) ≤ suc (length rooms)
+      go true h = omega arith
+      go false h = omega arith
+
+  -- the test holds of the first, where there is one
+  pub firstRoom-holds : (rooms : List Ticket) → firstRoom g rooms < length rooms → g (ticketIn rooms (firstRoom g rooms)) ≡ true
+  unfolding firstRoom
+  firstRoom-holds [] h = absurd (omega arith)
+  firstRoom-holds (t ∷ rooms) h = go (g t) refl (firstRoom-holds rooms) h
+    where
+      go : (b : Bool) → g t ≡ b → (firstRoom g rooms < length rooms → g (ticketIn rooms (firstRoom g rooms)) ≡ true)
+          → cond b 0 (suc (firstRoom g rooms)) < suc (length rooms) → g (ticketIn (t ∷ rooms) (cond b 0 (suc (firstRoom g rooms)))) ≡ true
+      go true e f h = e
+      go false e f h = f (omega arith)
+
+  -- and of none before it
+  pub firstRoom-before : (rooms : List Ticket) (i : ℕ) → i < firstRoom g rooms → g (ticketIn rooms i) ≡ false
+  unfolding firstRoom
+  firstRoom-before [] i h = absurd (omega arith)
+  firstRoom-before (t ∷ rooms) i h = go (g t) refl i (firstRoom-before rooms) h
+    where
+      go : (b : Bool) → g t ≡ b → (i : ℕ) → ((j : ℕ) → j < firstRoom g rooms → g (ticketIn rooms j) ≡ false)
+          → i < cond b 0 (suc (firstRoom g rooms)) → g (ticketIn (t ∷ rooms) i) ≡ false
+      go true e i f h = absurd (omega arith)
+      go false e zero f h = e
+      go false e (suc j) f h = f j (omega arith)
+
+  -- where a room is found by the test, the first is no later
+  pub firstRoom-found : (rooms : List Ticket) (i : ℕ) → g (ticketIn rooms i) ≡ true → firstRoom g rooms ≤ i
+  firstRoom-found rooms i e = go (decLe (firstRoom g rooms) i)
+    where
+      go : Dec (firstRoom g rooms ≤ i) → firstRoom g rooms ≤ i
+      go (yes h) = h
+      go (no h) = absurd (not-both e (firstRoom-before rooms i (omega arith)))
+
+-- ---- tickets
+
+-- a ticket that is for a serial is held and has it
+pub for-held : (s : Serial) (t : Ticket) → isFor s t ≡ true → (t .held ≡ true) × (t .serial .0 ≡ s .0)
+for-held s t e = (and-l (t .held) (eqb (t .serial .0) (s .0)) e, eqb-eq (t .serial .0) (s .0) (and-r (t .held) (eqb (t .serial .0) (s .0)) e))
+
+pub held-for : (s : Serial) (t : Ticket) → t .held ≡ true → t .serial .0 ≡ s .0 → isFor s t ≡ true
+held-for s t h e = and-both (t .held) (eqb (t .serial .0) (s .0)) h (is-true (eqb (t .serial .0) (s .0)) (rw e (eqb-refl (s .0))))
+
+pub free-held : (t : Ticket) → isFree t ≡ true → t .held ≡ false
+free-held t e = go (t .held) refl e
+  where
+    go : (b : Bool) → t .held ≡ b → not b ≡ true → t .held ≡ false
+    go true p q = absurd (false≢true q)
+    go false p q = p
+
+pub held-free : (t : Ticket) → isFree t ≡ false → t .held ≡ true
+held-free t e = go (t .held) refl e
+  where
+    go : (b : Bool) → t .held ≡ b → not b ≡ false → t .held ≡ true
+    go true p q = p
+    go false p q = absurd (true≢false q)
+
+-- a ticket that is held has a room
+pub held-inside : (rooms : List Ticket) (i : ℕ) → ticketIn rooms i .held ≡ true → i < length rooms
+held-inside [] i h = absurd (false≢true h)
+held-inside (t ∷ rooms) zero h = omega arith
+held-inside (t ∷ rooms) (suc i) h = omega (arith, held-inside rooms i h)
+
+-- ---- how many are held
+
+pub held-le : (rooms : List Ticket) → ticketsHeld rooms ≤ length rooms
+unfolding ticketsHeld
+held-le [] = omega arith
+held-le (t ∷ rooms) = omega (arith, held-le rooms, one-lt (t .held))
+
+-- no room is free exactly if every one is held
+pub full-iff : (rooms : List Ticket) → (freeRoom rooms ≡ length rooms) ↔ (ticketsHeld rooms ≡ length rooms)
+unfolding firstRoom ticketsHeld
+full-iff [] = (λ e. refl, λ e. refl)
+full-iff (t ∷ rooms) = go (t .held) (full-iff rooms)
+  where
+    go : (b : Bool) → (freeRoom rooms ≡ length rooms) ↔ (ticketsHeld rooms ≡ length rooms)
+        → (cond (not b) 0 (suc (freeRoom rooms)) ≡ suc (length rooms)) ↔ (cond b 1 0 + ticketsHeld rooms ≡ suc (length rooms))
+    go true f = (λ e. omega (arith, f .0 (omega arith)), λ e. omega (arith, f .1 (omega arith)))
+    go false f = (λ e. absurd (omega arith), λ e. absurd (omega (arith, held-le rooms)))

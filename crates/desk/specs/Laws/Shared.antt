@@ -1,0 +1,93 @@
+-- The ring as a list: pushing puts a record behind those held, popping takes the oldest.
+use Prim.Native.Nat.{_%_, _+_, _-_, _<_, _≤_, suc, zero, ℕ}
+use mathlib.Core.List.{List, [], _++_, _∷_, append-assoc, append-nil}
+use mathlib.Core.Path.{_∙_, _≡_, ap, refl, sym}
+use native.Mathlib.Numerals.{add-one}
+use native.Mathlib.Omega.{arith}
+use lib.ListN.{getD, length, length-map, length-set, set}
+use lib.Seq.{getD-set-other, getD-set-same}
+use Rattle.desk.specs.Shared.{held, noRecord, popped, push, pushAll, recordOf, recordsOf, round}
+use Rattle.desk.specs.declared.Edition.{Edition}
+use Rattle.desk.specs.declared.Record.{Record}
+use Rattle.desk.specs.declared.Records.{Records}
+use Rattle.desk.specs.declared.Serial.{Serial}
+use Rattle.matching.specs.Occurrence.{Occurrence}
+
+round-wrap : (l : List Record) (h n : ℕ) → round l (h % 256) n ≡ round l h n
+unfolding round
+round-wrap l h zero = refl
+round-wrap l h (suc n) =
+    let e : h % 256 % 256 ≡ h % 256 = omega arith in
+    let f : suc (h % 256) % 256 ≡ suc h % 256 = omega arith in
+    let t : round l (suc (h % 256)) n ≡ round l (suc h) n = sym (round-wrap l (suc (h % 256)) n) ∙ (rw f (round-wrap l (suc h) n)) in
+    rw (e, t)
+
+round-snoc : (l : List Record) (h n i : ℕ) → i ≡ (h + n) % 256 → round l h (suc n) ≡ round l h n ++ (getD l i noRecord ∷ [])
+unfolding round
+round-snoc l h zero i e =
+    let f : i ≡ h % 256 = omega arith in
+    rw f
+round-snoc l h (suc n) i e =
+    let f : i ≡ (suc h + n) % 256 = omega arith in
+    ap (λ (t : List Record). getD l (h % 256) noRecord ∷ t) (round-snoc l (suc h) n i f)
+
+round-set : (l : List Record) (r : Record) (h n k i : ℕ) → n ≤ k → k < 256 → i ≡ (h + k) % 256 → round (set l i r) h n ≡ round l h n
+unfolding round
+round-set l r h zero k i p q e = refl
+round-set l r h (suc n) k i p q e =
+    let ne : (h % 256 ≡ i → ⊥) = λ z. omega arith in
+    let f : i ≡ (suc h + (k - 1)) % 256 = omega arith in
+    let t : round (set l i r) (suc h) n ≡ round l (suc h) n = round-set l r (suc h) n (k - 1) i (omega arith) (omega arith) f in
+    rw (getD-set-other l i (h % 256) r noRecord ne, t)
+
+pub held-push : (q : Records) (r : Record) → length (q .ring) ≡ 256 → q .count < 256 → held (push q r) ≡ held q ++ (r ∷ [])
+held-push q r e h =
+    let i = (q .first + q .count) % 256 in
+    let hi : i < length (q .ring) = omega arith in
+    rw add-one
+    (round-snoc (set (q .ring) i r) (q .first) (q .count) i refl
+    ∙ (rw (round-set (q .ring) r (q .first) (q .count) (q .count) i (omega arith) h refl, getD-set-same (q .ring) i r noRecord hi)))
+
+pub held-pushAll : (q : Records) (rs : List Record) → length (q .ring) ≡ 256 → q .count + length rs ≤ 256 → held (pushAll q rs) ≡ held q ++ rs
+unfolding pushAll
+held-pushAll q [] e h = sym (append-nil _)
+held-pushAll q (r ∷ rs) e h =
+    held-pushAll (push q r) rs (simp length-set e) (omega arith)
+    ∙ (rw (held-push q r e (omega arith), append-assoc))
+
+round-pop : (l : List Record) (h n : ℕ) → h < 256 → round l h (suc n) ≡ getD l h noRecord ∷ round l ((h + 1) % 256) n
+unfolding round
+round-pop l h n p =
+    let e : h % 256 ≡ h = omega arith in
+    let w : round l ((h + 1) % 256) n ≡ round l (suc h) n = round-wrap l (h + 1) n ∙ ap (λ (k : ℕ). round l k n) (add-one h) in
+    rw (e, w)
+
+-- what is held is the oldest record, and behind it what is held without it
+pub held-popped : (q : Records) → q .first < 256 → 0 < q .count → held q ≡ getD (q .ring) (q .first) noRecord ∷ held (popped q)
+held-popped q h p =
+    let c : q .count ≡ suc (q .count - 1) = omega arith in
+    ap (λ (n : ℕ). round (q .ring) (q .first) n) c ∙ round-pop (q .ring) (q .first) (q .count - 1) h
+
+pub held-length : (q : Records) → length (held q) ≡ q .count
+unfolding round
+held-length q = go (q .count) (q .first)
+  where
+    go : (n h : ℕ) → length (round (q .ring) h n) ≡ n
+    go zero h = refl
+    go (suc n) h = ap suc (go n (suc h))
+
+-- what pushing keeps, and how the count goes
+pub record Pushed (q p : Records) (n : ℕ) : Type 0 where
+  pub ring : length (p .ring) ≡ length (q .ring)
+  pub first : p .first ≡ q .first
+  pub count : p .count ≡ q .count + n
+
+pub pushed : (q : Records) (rs : List Record) → Pushed q (pushAll q rs) (length rs)
+unfolding pushAll
+pushed q [] = record { ring = refl; first = refl; count = omega arith }
+pushed q (r ∷ rs) =
+    let p = pushed (push q r) rs in
+    record { ring = p .ring ∙ simp length-set; first = p .first; count = omega arith }
+
+pub recordsOf-length : (s : Serial) (e : Edition) (os : List Occurrence) → length (recordsOf s e os) ≡ length os
+recordsOf-length s e os = length-map os (recordOf s e)

@@ -1,0 +1,9 @@
+-- What the desk's calls answer and leave.
+pub mod Rooms
+pub mod Shared
+pub mod Calls
+pub mod Replace
+pub mod Feed
+pub mod Reached
+pub mod Numbers
+pub mod Laws

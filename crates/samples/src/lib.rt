@@ -1,0 +1,1 @@
+// The bench samples that are proved: one table of theorems, in specs/Samples.antt.

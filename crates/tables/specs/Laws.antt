@@ -1,0 +1,2 @@
+-- The laws of building.
+pub mod Cases
