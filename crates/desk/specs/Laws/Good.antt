@@ -14,7 +14,7 @@ use Rattle.desk.specs.Calls.{newDesk}
 use Rattle.desk.specs.Feed.{fedBy, readFor, readOn}
 use Rattle.desk.specs.Laws.Rooms.{firstRoom-holds, for-held}
 use Rattle.desk.specs.Laws.Shared.{pushed, recordsOf-length}
-use Rattle.desk.specs.Laws.Views.{Closes, Feeds, Opens, Replaces, Takes, close-no-ticket, closed, closes, fed, feed-long, feed-no-ticket, feed-other-slots, feed-stale, feeds, open-no-room, open-no-set, open-serial-end, opened, opens, replace-edition-end, replace-fault, replace-table, replaced, replaces, take-nothing, taken, takes}
+use Rattle.desk.specs.Laws.Views.{Closes, Feeds, Opens, Replaces, Takes, close-done, close-no-ticket, closes, feed-long, feed-no-ticket, feed-other-slots, feed-read, feed-stale, feeds, open-done, open-no-room, open-no-set, open-serial-end, opens, replace-done, replace-edition-end, replace-fault, replace-table, replaces, take-nothing, take-oldest, takes}
 use Rattle.desk.specs.Reached.{Call, Reached, afterCall, byCall, callClose, callFeed, callOpen, callReplace, callTake, fromNew}
 use Rattle.desk.specs.Rooms.{freeTicket, isFor, newTicket, roomOf, serialOf, ticketIn}
 use Rattle.desk.specs.Shared.{recordsOf}
@@ -44,7 +44,7 @@ pub record Placed (edition slots : ℕ) (t : Ticket) : Type 0 where
   pub below : t .edition .0 ≡ edition → allBelow slots (t .place) ≡ true
   pub width : length (t .place) ≡ 8
 
-pub record Good (d : Desk) : Type 0 where
+pub record GoodDesk (d : Desk) : Type 0 where
   pub rooms : length (d .tickets) ≡ 16
   pub ring : length (d .records .ring) ≡ 256
   pub first : d .records .first < 256
@@ -57,7 +57,7 @@ none-held zero i = refl
 none-held (suc n) zero = refl
 none-held (suc n) (suc i) = none-held n i
 
-good-new : Good newDesk
+good-new : GoodDesk newDesk
 good-new = record {
   rooms = refl;
   ring = refl;
@@ -81,11 +81,11 @@ unfolding allBelow
 zeros-below s zero h = refl
 zeros-below s (suc n) h = and-both (ltb 0 s) (allBelow s (replicate n 0)) (is-true (ltb 0 s) (lt→ltb 0 s h)) (zeros-below s n h)
 
-good-opens : (d : Desk) (r : Opening) → Opens d r → Good d → Good (r .desk)
+good-opens : (d : Desk) (r : Opening) → Opens d r → GoodDesk d → GoodDesk (r .desk)
 good-opens d r (open-no-set a) g = g
 good-opens d r (open-serial-end a b) g = g
 good-opens d r (open-no-room a b c) g = g
-good-opens d r (opened a b i e h) g = record {
+good-opens d r (open-done a b i e h) g = record {
   rooms = simp length-set (g .rooms);
   ring = g .ring;
   first = g .first;
@@ -101,9 +101,9 @@ good-opens d r (opened a b i e h) g = record {
     new : Placed (d .edition .0) (d .slots) (newTicket (serialOf (d .serial .0 + 1)) (d .edition))
     new = record { of = omega arith; below = λ k. zeros-below (d .slots) 8 (g .slots (some (d .edition .0) a)); width = refl }
 
-good-closes : (d : Desk) (s : Serial) (r : Closing) → Closes d s r → Good d → Good (r .desk)
+good-closes : (d : Desk) (s : Serial) (r : Closing) → Closes d s r → GoodDesk d → GoodDesk (r .desk)
 good-closes d s r (close-no-ticket h) g = g
-good-closes d s r (closed i e h) g = record {
+good-closes d s r (close-done i e h) g = record {
   rooms = simp length-set (g .rooms);
   ring = g .ring;
   first = g .first;
@@ -112,9 +112,9 @@ good-closes d s r (closed i e h) g = record {
   places = set-places (Placed (d .edition .0) (d .slots)) (d .tickets) i freeTicket (g .places) (λ k. absurd (false≢true k));
 }
 
-good-takes : (d : Desk) (r : Taking) → Takes d r → Good d → Good (r .desk)
+good-takes : (d : Desk) (r : Taking) → Takes d r → GoodDesk d → GoodDesk (r .desk)
 good-takes d r (take-nothing e) g = g
-good-takes d r (taken h) g =
+good-takes d r (take-oldest h) g =
     record { rooms = g .rooms; ring = g .ring; first = omega arith; count = omega (arith, g .count); slots = g .slots; places = g .places }
 
 -- an accepted table has a slot for the start state of each machine
@@ -125,11 +125,11 @@ slots-some bytes len count e =
     subst (λ (n : ℕ). 0 < slotsIn 1 8 n) l
     (lt-of-lt-of-le (lt-of-le-of-lt zero-le (walk-lt (tagsFor 1 (a .tags) 0) [])) (enough-iff 1 (slotsIn 1 8 (length (replicate {A = ℕ} len 0))) (a .tags) 8 .0 (a .room) 0 (omega arith)))
 
-good-replaces : (d : Desk) (bytes : List ℕ) (len : ℕ) (r : Replacing) → Replaces d bytes len r → Good d → Good (r .desk)
+good-replaces : (d : Desk) (bytes : List ℕ) (len : ℕ) (r : Replacing) → Replaces d bytes len r → GoodDesk d → GoodDesk (r .desk)
 good-replaces d bytes len r (replace-fault fault e) g = g
 good-replaces d bytes len r (replace-table machine needs e) g = g
 good-replaces d bytes len r (replace-edition-end count e l) g = g
-good-replaces d bytes len r (replaced count e l) g = record {
+good-replaces d bytes len r (replace-done count e l) g = record {
   rooms = g .rooms;
   ring = g .ring;
   first = g .first;
@@ -138,8 +138,8 @@ good-replaces d bytes len r (replaced count e l) g = record {
   places = λ i h. let p = g .places i h in record { of = omega (arith, p .of); below = λ q. absurd (omega (arith, p .of)); width = p .width };
 }
 
-pub good-fed : (d : Desk) (i : ℕ) (t : Ticket) (table : List ℕ) (piece : Word) → Good d → t .held ≡ true → Placed (d .edition .0) (d .slots) t
-    → t .edition .0 ≡ d .edition .0 → slotsIn 1 8 (length table) ≡ d .slots → Good (fedBy d i t (readFor d t table piece) .desk)
+pub good-fed : (d : Desk) (i : ℕ) (t : Ticket) (table : List ℕ) (piece : Word) → GoodDesk d → t .held ≡ true → Placed (d .edition .0) (d .slots) t
+    → t .edition .0 ≡ d .edition .0 → slotsIn 1 8 (length table) ≡ d .slots → GoodDesk (fedBy d i t (readFor d t table piece) .desk)
 good-fed d i t table piece g h p e s =
     let r = readFor d t table piece in
     let k = read-kept 1 (slotsIn 1 8 (length table)) table (t .place) (t .taken) (256 - d .records .count) piece in
@@ -160,18 +160,18 @@ good-fed d i t table piece g h p e s =
     }
 
 -- the ticket of a serial that has a room
-pub room-held : (d : Desk) (s : Serial) → Good d → roomOf (d .tickets) s < 16 → isFor s (ticketIn (d .tickets) (roomOf (d .tickets) s)) ≡ true
+pub room-held : (d : Desk) (s : Serial) → GoodDesk d → roomOf (d .tickets) s < 16 → isFor s (ticketIn (d .tickets) (roomOf (d .tickets) s)) ≡ true
 room-held d s g h = firstRoom-holds (isFor s) (d .tickets) (omega (arith, g .rooms))
 
 good-feeds : (d : Desk) (i : ℕ) (table : List ℕ) (piece : Word) (r : Feeding) → (i < 16 → ticketIn (d .tickets) i .held ≡ true)
-    → Feeds d i table piece r → Good d → Good (r .desk)
+    → Feeds d i table piece r → GoodDesk d → GoodDesk (r .desk)
 good-feeds d i table piece r f (feed-no-ticket a) g = g
 good-feeds d i table piece r f (feed-stale a b) g = g
 good-feeds d i table piece r f (feed-other-slots a b c) g = g
 good-feeds d i table piece r f (feed-long a b c l) g = g
-good-feeds d i table piece r f (fed a b c l) g = good-fed d i (ticketIn (d .tickets) i) table piece g (f a) (g .places i (f a)) b c
+good-feeds d i table piece r f (feed-read a b c l) g = good-fed d i (ticketIn (d .tickets) i) table piece g (f a) (g .places i (f a)) b c
 
-pub good-after : (d : Desk) (c : Call) → Good d → Good (afterCall d c)
+pub good-after : (d : Desk) (c : Call) → GoodDesk d → GoodDesk (afterCall d c)
 good-after d (callReplace set run) g = good-replaces d set (length run) _ (replaces d set (length run)) g
 good-after d callOpen g = good-opens d _ (opens d) g
 good-after d (callFeed s table piece) g =
@@ -180,6 +180,6 @@ good-after d (callClose s) g = good-closes d s _ (closes d s) g
 good-after d callTake g = good-takes d _ (takes d) g
 
 -- EVERY DESK that comes from a new desk and the calls is good
-pub good : {d : Desk} → Reached d → Good d
+pub good : {d : Desk} → Reached d → GoodDesk d
 good fromNew = good-new
 good (byCall r c) = good-after _ c (good r)

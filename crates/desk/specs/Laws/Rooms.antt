@@ -3,13 +3,13 @@ use Prim.Native.Nat.{_+_, _<_, _≤_, suc, zero, ℕ}
 use mathlib.Core.Bool.{Bool, cond, false, false≢true, not, true, true≢false}
 use mathlib.Core.List.{List, [], _∷_}
 use mathlib.Core.Logic.{_↔_}
-use mathlib.Core.Path.{_≡_, refl}
+use mathlib.Core.Path.{_≡_, ap, refl}
 use native.Mathlib.Decide.{decLe}
 use native.Mathlib.Numerals.{add-one}
 use native.Mathlib.Omega.{arith}
 use lib.Dec.{eqb, eqb-refl}
-use lib.ListN.{drop, length}
-use lib.Seq.{drop-cons, drop-length}
+use lib.ListN.{drop, length, set}
+use lib.Seq.{drop-cons, drop-length, getD-set-other, getD-set-same}
 use Rattle.desk.specs.Rooms.{firstRoom, freeRoom, isFor, isFree, noTicket, ticketIn, ticketsHeld}
 use Rattle.desk.specs.declared.Serial.{Serial}
 use Rattle.desk.specs.declared.Ticket.{Ticket}
@@ -88,6 +88,45 @@ module _ (g : Ticket → Bool) where
       go (yes h) = h
       go (no h) = absurd (not-both e (firstRoom-before rooms i (omega arith)))
 
+-- ---- one room set
+
+module _ (g : Ticket → Bool) where
+  -- the first is the same where the test says the same of the ticket that was there
+  pub firstRoom-kept : (rooms : List Ticket) (i : ℕ) (t : Ticket) → g t ≡ g (ticketIn rooms i) → firstRoom g (set rooms i t) ≡ firstRoom g rooms
+  unfolding firstRoom
+  firstRoom-kept [] i t e = refl
+  firstRoom-kept (r ∷ rooms) zero t e = ap (λ (b : Bool). cond b 0 (suc (firstRoom g rooms))) e
+  firstRoom-kept (r ∷ rooms) (suc i) t e = ap (λ (n : ℕ). cond (g r) 0 (suc n)) (firstRoom-kept rooms i t e)
+
+  -- a ticket of which alone the test holds is the first
+  pub firstRoom-new : (rooms : List Ticket) (i : ℕ) (t : Ticket) → length rooms ≤ firstRoom g rooms → i < length rooms → g t ≡ true → firstRoom g (set rooms i t) ≡ i
+  unfolding firstRoom
+  firstRoom-new [] i t n h e = absurd (omega arith)
+  firstRoom-new (r ∷ rooms) zero t n h e = rw e
+  firstRoom-new (r ∷ rooms) (suc i) t n h e = go (g r) (firstRoom-new rooms i t) n
+    where
+      go : (b : Bool) → (length rooms ≤ firstRoom g rooms → i < length rooms → g t ≡ true → firstRoom g (set rooms i t) ≡ i)
+          → suc (length rooms) ≤ cond b 0 (suc (firstRoom g rooms)) → cond b 0 (suc (firstRoom g (set rooms i t))) ≡ suc i
+      go true f k = absurd (omega arith)
+      go false f k = ap suc (f (omega arith) (omega arith) e)
+
+  -- where the test holds of no ticket, there is none
+  pub firstRoom-none : (rooms : List Ticket) → ((j : ℕ) → g (ticketIn rooms j) ≡ true → ⊥) → length rooms ≤ firstRoom g rooms
+  unfolding firstRoom
+  firstRoom-none [] f = omega arith
+  firstRoom-none (r ∷ rooms) f = go (g r) refl (firstRoom-none rooms (λ j. f (suc j)))
+    where
+      go : (b : Bool) → g r ≡ b → length rooms ≤ firstRoom g rooms → suc (length rooms) ≤ cond b 0 (suc (firstRoom g rooms))
+      go true e h = absurd (f 0 e)
+      go false e h = omega arith
+
+-- the ticket of room j after room i was set
+pub set-same : (rooms : List Ticket) (i : ℕ) (t : Ticket) → i < length rooms → ticketIn (set rooms i t) i ≡ t
+set-same rooms i t h = getD-set-same rooms i t noTicket h
+
+pub set-other : (rooms : List Ticket) (i j : ℕ) (t : Ticket) → (j ≡ i → ⊥) → ticketIn (set rooms i t) j ≡ ticketIn rooms j
+set-other rooms i j t n = getD-set-other rooms i j t noTicket n
+
 -- ---- tickets
 
 -- a ticket that is for a serial is held and has it
@@ -134,3 +173,11 @@ full-iff (t ∷ rooms) = go (t .held) (full-iff rooms)
         → (cond (not b) 0 (suc (freeRoom rooms)) ≡ suc (length rooms)) ↔ (cond b 1 0 + ticketsHeld rooms ≡ suc (length rooms))
     go true f = (λ e. omega (arith, f .0 (omega arith)), λ e. omega (arith, f .1 (omega arith)))
     go false f = (λ e. absurd (omega arith), λ e. absurd (omega (arith, held-le rooms)))
+
+-- setting a room changes how many are held by what it changes there
+pub held-set : (rooms : List Ticket) (i : ℕ) (t : Ticket) → i < length rooms
+    → ticketsHeld (set rooms i t) + cond (ticketIn rooms i .held) 1 0 ≡ ticketsHeld rooms + cond (t .held) 1 0
+unfolding ticketsHeld
+held-set [] i t h = absurd (omega arith)
+held-set (r ∷ rooms) zero t h = omega arith
+held-set (r ∷ rooms) (suc i) t h = omega (arith, held-set rooms i t (omega arith))

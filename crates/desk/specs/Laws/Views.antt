@@ -40,7 +40,7 @@ pub data Opens (d : Desk) : Opening → Type 0 where
   open-no-set : d .edition .0 ≡ 0 → Opens d (record { desk = d; answer = O.NoSet })
   open-serial-end : Not (d .edition .0) 0 → d .serial .0 ≡ 4294967295 → Opens d (record { desk = d; answer = O.SerialEnd })
   open-no-room : Not (d .edition .0) 0 → Not (d .serial .0) 4294967295 → 16 ≤ freeRoom (d .tickets) → Opens d (record { desk = d; answer = O.NoRoom })
-  opened : Not (d .edition .0) 0 → Not (d .serial .0) 4294967295 → (i : ℕ) → i ≡ freeRoom (d .tickets) → i < 16
+  open-done : Not (d .edition .0) 0 → Not (d .serial .0) 4294967295 → (i : ℕ) → i ≡ freeRoom (d .tickets) → i < 16
       → Opens d (record { desk = openedIn d i; answer = O.Opened (serialOf (d .serial .0 + 1)) })
 
 pub opens : (d : Desk) → Opens d (openOf d)
@@ -51,23 +51,23 @@ opens d = go _ _ _ refl refl refl
     go true b c p q r = open-no-set (eqb-true _ _ p)
     go false true c p q r = open-serial-end (eqb-false _ _ p) (eqb-true _ _ q)
     go false false false p q r = open-no-room (eqb-false _ _ p) (eqb-false _ _ q) (ltb-false _ _ r)
-    go false false true p q r = opened (eqb-false _ _ p) (eqb-false _ _ q) (freeRoom (d .tickets)) refl (ltb-true _ _ r)
+    go false false true p q r = open-done (eqb-false _ _ p) (eqb-false _ _ q) (freeRoom (d .tickets)) refl (ltb-true _ _ r)
 
 pub data Closes (d : Desk) (s : Serial) : Closing → Type 0 where
   close-no-ticket : 16 ≤ roomOf (d .tickets) s → Closes d s (record { desk = d; answer = C.NoTicket })
-  closed : (i : ℕ) → i ≡ roomOf (d .tickets) s → i < 16 → Closes d s (record { desk = withTicket d i freeTicket; answer = C.Closed })
+  close-done : (i : ℕ) → i ≡ roomOf (d .tickets) s → i < 16 → Closes d s (record { desk = withTicket d i freeTicket; answer = C.Closed })
 
 pub closes : (d : Desk) (s : Serial) → Closes d s (closeOf d s)
 unfolding closeOf
 closes d s = go _ refl
   where
     go : (a : Bool) → ltb (roomOf (d .tickets) s) 16 ≡ a → Closes d s (closeBy d s a)
-    go true p = closed (roomOf (d .tickets) s) refl (ltb-true _ _ p)
+    go true p = close-done (roomOf (d .tickets) s) refl (ltb-true _ _ p)
     go false p = close-no-ticket (ltb-false _ _ p)
 
 pub data Takes (d : Desk) : Taking → Type 0 where
   take-nothing : d .records .count ≡ 0 → Takes d (record { desk = d; answer = K.Nothing })
-  taken : 0 < d .records .count
+  take-oldest : 0 < d .records .count
       → Takes d (record { desk = withRecords d (popped (d .records)); answer = K.Taken (getD (d .records .ring) (d .records .first) noRecord) })
 
 pub takes : (d : Desk) → Takes d (takeOf d)
@@ -80,14 +80,14 @@ takes d = go _ refl
 
     go : (a : Bool) → eqb (d .records .count) 0 ≡ a → Takes d (takeBy d a)
     go true p = take-nothing (eqb-true _ _ p)
-    go false p = taken (pos _ (eqb-false _ _ p))
+    go false p = take-oldest (pos _ (eqb-false _ _ p))
 
 pub data Replaces (d : Desk) (bytes : List ℕ) (len : ℕ) : Replacing → Type 0 where
   replace-fault : (fault : SetFault) → builtOf 1 8 bytes len ≡ B.Fault fault → Replaces d bytes len (record { desk = d; answer = R.Fault fault })
   replace-table : (machine needs : ℕ) → builtOf 1 8 bytes len ≡ B.Table machine needs → Replaces d bytes len (record { desk = d; answer = R.Table machine needs })
   replace-edition-end : (count : ℕ) → builtOf 1 8 bytes len ≡ B.Tags count → d .edition .0 ≡ 4294967295
       → Replaces d bytes len (record { desk = d; answer = R.EditionEnd })
-  replaced : (count : ℕ) → builtOf 1 8 bytes len ≡ B.Tags count → Not (d .edition .0) 4294967295
+  replace-done : (count : ℕ) → builtOf 1 8 bytes len ≡ B.Tags count → Not (d .edition .0) 4294967295
       → Replaces d bytes len (record { desk = underNext d (slotsIn 1 8 len); answer = R.Replaced (editionOf (d .edition .0 + 1)) count })
 
 pub replaces : (d : Desk) (bytes : List ℕ) (len : ℕ) → Replaces d bytes len (replaceOf d bytes len)
@@ -98,7 +98,7 @@ replaces d bytes len = go _ _ refl refl
     go (B.Fault fault) e p q = replace-fault fault p
     go (B.Table machine needs) e p q = replace-table machine needs p
     go (B.Tags count) true p q = replace-edition-end count p (eqb-true _ _ q)
-    go (B.Tags count) false p q = replaced count p (eqb-false _ _ q)
+    go (B.Tags count) false p q = replace-done count p (eqb-false _ _ q)
 
 -- by the room that the serial has
 pub data Feeds (d : Desk) (i : ℕ) (table : List ℕ) (piece : Word) : Feeding → Type 0 where
@@ -109,7 +109,7 @@ pub data Feeds (d : Desk) (i : ℕ) (table : List ℕ) (piece : Word) : Feeding 
       → Feeds d i table piece (record { desk = d; answer = F.Fed 0 0 Damaged })
   feed-long : i < 16 → ticketIn (d .tickets) i .edition .0 ≡ d .edition .0 → slotsIn 1 8 (length table) ≡ d .slots
       → 4294967295 < ticketIn (d .tickets) i .taken + length piece → Feeds d i table piece (record { desk = d; answer = F.Long })
-  fed : i < 16 → ticketIn (d .tickets) i .edition .0 ≡ d .edition .0 → slotsIn 1 8 (length table) ≡ d .slots
+  feed-read : i < 16 → ticketIn (d .tickets) i .edition .0 ≡ d .edition .0 → slotsIn 1 8 (length table) ≡ d .slots
       → ticketIn (d .tickets) i .taken + length piece ≤ 4294967295
       → Feeds d i table piece (fedBy d i (ticketIn (d .tickets) i) (readFor d (ticketIn (d .tickets) i) table piece))
 
@@ -122,7 +122,7 @@ feeds-in d i table piece = go _ _ _ _ refl refl refl refl
     go true false c e p q r u = feed-stale (ltb-true _ _ p) (eqb-false _ _ q)
     go true true false e p q r u = feed-other-slots (ltb-true _ _ p) (eqb-true _ _ q) (eqb-false _ _ r)
     go true true true true p q r u = feed-long (ltb-true _ _ p) (eqb-true _ _ q) (eqb-true _ _ r) (ltb-true _ _ u)
-    go true true true false p q r u = fed (ltb-true _ _ p) (eqb-true _ _ q) (eqb-true _ _ r) (ltb-false _ _ u)
+    go true true true false p q r u = feed-read (ltb-true _ _ p) (eqb-true _ _ q) (eqb-true _ _ r) (ltb-false _ _ u)
 
 pub feeds : (d : Desk) (s : Serial) (table : List ℕ) (piece : Word) → Feeds d (roomOf (d .tickets) s) table piece (feedOf d s table piece)
 unfolding feedOf

@@ -1,0 +1,21 @@
+-- How the theorems are shown.
+pub mod Snoc
+pub mod Accounts
+pub mod Seats
+pub mod Invariant
+pub mod Taking
+pub mod Opening
+pub mod Closing
+pub mod Replacing
+pub mod Feeding
+pub mod Fed
+pub mod Steps
+pub mod Ledger
+pub mod LedgerOpening
+pub mod LedgerSteps
+pub mod Becomes
+pub mod Stages
+pub mod Serving
+pub mod ServingAll
+pub mod States
+pub mod Later

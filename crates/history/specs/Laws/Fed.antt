@@ -1,0 +1,169 @@
+-- What a feed that reads leaves.
+use Prim.Native.Nat.{_+_, _-_, _<_, _≤_, suc, zero, ℕ}
+use mathlib.Core.Bool.{Bool, _&&_, true}
+use mathlib.Core.List.{List, [], _++_, _∷_, append-assoc, append-nil}
+use mathlib.Core.Logic.{inl, inr}
+use mathlib.Core.Path.{_∙_, _≡_, ap, ap₂, refl, subst, sym}
+use native.Mathlib.Nat.{le-of-eq, le-trans, zero-add}
+use native.Mathlib.Omega.{arith}
+use lib.Dec.{eqb}
+use lib.ListN.{length, length-append, set, take}
+use lib.Seq.{length-take-le}
+use Rattle.desk.specs.Feed.{fedBy, readFor, readOn}
+use Rattle.desk.specs.Laws.Good.{GoodDesk, good}
+use Rattle.desk.specs.Laws.Rooms.{firstRoom-kept, for-held, held-for}
+use Rattle.desk.specs.Laws.Shared.{held-pushAll, recordsOf-length}
+use Rattle.desk.specs.Reached.{Reached}
+use Rattle.desk.specs.Rooms.{editionOf, isFor, roomOf, serialOf, ticketIn}
+use Rattle.desk.specs.Shared.{held, pushAll, recordsOf}
+use Rattle.desk.specs.declared.Desk.{Desk}
+use Rattle.desk.specs.declared.Record.{Record}
+use Rattle.desk.specs.declared.Serial.{Serial}
+use Rattle.desk.specs.declared.Ticket.{Ticket}
+use Rattle.history.specs.History.{Account, World, accountAt, grown, onSerial, recordsDue, recordsFor, stream, withAccounts}
+use Rattle.history.specs.Laws.Accounts.{onSerial-length, recordsFor-append, recordsFor-other, recordsFor-own, recordsOf-append}
+use Rattle.history.specs.Laws.Feeding.{agrees, force, live, mine, read-done}
+use Rattle.history.specs.Laws.Invariant.{Inv, Kept, Stranger, changed-each, wide}
+use Rattle.history.specs.Laws.Seats.{Agrees, Seat, for-other, seat-kept, seat-same, seated, unique-set}
+use Rattle.matching.specs.Laws.Expected.{Done}
+use Rattle.matching.specs.Laws.Occurrences.{occurrencesFrom-append}
+use Rattle.matching.specs.Occurrence.{Occurrence, occurrences, occurrencesFrom}
+use Rattle.matching.specs.Reading.{Outcome}
+use Rattle.matching.specs.Words.{Below, Word, same}
+
+below-append : (m : ℕ) (x y : Word) → Below m x → Below m y → Below m (x ++ y)
+below-append m [] y hx hy = hy
+below-append m (c ∷ x) y hx hy = (hx .0, below-append m x y (hx .1) hy)
+
+below-take : (m n : ℕ) (x : Word) → Below m x → Below m (take n x)
+below-take m zero x h = tt
+below-take m (suc n) [] h = tt
+below-take m (suc n) (c ∷ x) h = (h .0, below-take m n x (h .1))
+
+-- more records behind a stream
+stream-grown : (d : Desk) (out rs : List Record) → GoodDesk d → d .records .count + length rs ≤ 256
+    → out ++ held (pushAll (d .records) rs) ≡ (out ++ held (d .records)) ++ rs
+stream-grown d out rs g h =
+    ap {B = List Record} (λ (l : List Record). out ++ l) (held-pushAll (d .records) rs (g .ring) h) ∙ sym (append-assoc out (held (d .records)) rs)
+
+module _ (w : World) (v : Inv w) (s : Serial) (k : ℕ) (hk : k < length (w .accounts)) (ek : s .0 ≡ suc k) (piece : Word) (b : Below 256 piece)
+    (hi : roomOf (w .desk .tickets) s < 16) (same : ticketIn (w .desk .tickets) (roomOf (w .desk .tickets) s) .edition .0 ≡ w .desk .edition .0)
+    (short : ticketIn (w .desk .tickets) (roomOf (w .desk .tickets) s) .taken + length piece ≤ 4294967295) where
+  abbrev rooms : List Ticket
+  rooms = w .desk .tickets
+
+  abbrev i : ℕ
+  i = roomOf rooms s
+
+  abbrev t : Ticket
+  t = ticketIn rooms i
+
+  abbrev a : Account
+  a = accountAt w k
+
+  abbrev r : Outcome
+  r = readFor (w .desk) t (w .table) piece
+
+  abbrev more : Word
+  more = take (r .taken) piece
+
+  abbrev rs : List Record
+  rs = recordsOf (t .serial) (t .edition) (r .found)
+
+  abbrev after : World
+  after = withAccounts w (fedBy (w .desk) i t r .desk) (onSerial (s .0) (grown more) (w .accounts))
+
+  done : Done 1 8 (a .tags) (a .bytes) (length (a .bytes)) (256 - w .desk .records .count) piece r
+  done = read-done w v s k hk ek hi same piece b
+
+  fit : Agrees t a
+  fit = agrees w v s k hk ek hi same
+
+  for-s : isFor s t ≡ true
+  for-s = mine w v s k hk ek hi same
+
+  read-for : isFor s (readOn t r) ≡ true
+  read-for = held-for s (readOn t r) refl (for-held s t for-s .1)
+
+  -- the records have the account's serial and edition
+  labels : rs ≡ recordsOf (serialOf (suc k)) (editionOf (a .edition)) (r .found)
+  labels = λ d. recordsOf (record { 0 = (for-held s t for-s .1 ∙ ek) d }) (record { 0 = fit .edition d }) (r .found)
+
+  pub stream-fed : stream after ≡ stream w ++ rs
+  stream-fed =
+      stream-grown (w .desk) (w .out) rs (good (v .reached))
+      (omega (arith, done .fits, recordsOf-length (t .serial) (t .edition) (r .found), good (v .reached) .count))
+
+  -- the account's own records are the occurrences in its bytes and the new ones
+  here : recordsFor (suc k) (stream after) ≡ recordsDue (grown more a)
+  here =
+      ap (recordsFor (suc k)) (stream-fed ∙ ap {B = List Record} (λ (l : List Record). stream w ++ l) labels)
+      ∙ recordsFor-append (suc k) (stream w) (recordsOf (serialOf (suc k)) (editionOf (a .edition)) (r .found))
+      ∙ ap₂ _++_ (v .records k hk) (recordsFor-own (serialOf (suc k)) (editionOf (a .edition)) (r .found))
+      ∙ ap₂ (λ (n : ℕ) (l : List Occurrence). recordsDue a ++ recordsOf (serialOf n) (editionOf (a .edition)) l) (sym (v .numbered k hk)) (done .found)
+      ∙ sym (recordsOf-append (serialOf (a .serial)) (editionOf (a .edition)) (occurrences (a .tags) (a .bytes)) (occurrencesFrom (a .tags) (a .bytes) (length (a .bytes)) more))
+      ∙ ap (recordsOf (serialOf (a .serial)) (editionOf (a .edition))) (sym (occurrencesFrom-append (a .tags) [] 0 (a .bytes) more ∙ ap {B = List Occurrence} (λ (n : ℕ). occurrences (a .tags) (a .bytes) ++ occurrencesFrom (a .tags) (a .bytes) n more) (zero-add (length (a .bytes)))))
+
+  -- another serial's are the same
+  elsewhere : (n : ℕ) → (n ≡ suc k → ⊥) → recordsFor n (stream after) ≡ recordsFor n (stream w)
+  elsewhere n ne =
+      ap (recordsFor n) stream-fed ∙ recordsFor-append n (stream w) rs
+      ∙ ap {B = List Record} (λ (l : List Record). recordsFor n (stream w) ++ l) (recordsFor-other n (t .serial) (t .edition) (r .found) (λ e. ne (sym e ∙ for-held s t for-s .1 ∙ ek)))
+      ∙ append-nil (recordsFor n (stream w))
+
+  seat : Seat (set rooms i (readOn t r)) (grown more a)
+  seat =
+      let q = seat-same rooms (wide w v) i (readOn t r) hi s refl read-for in
+      subst (λ (n : ℕ). Seat (set rooms i (readOn t r)) (record { serial = n; edition = a .edition; tags = a .tags; bytes = a .bytes ++ more; closed = a .closed })) (ek ∙ sym (v .numbered k hk))
+      (seated (live w v s k hk ek hi same) (omega (arith, q .0))
+      (subst (λ (x : Ticket). Agrees x (record { serial = s .0; edition = a .edition; tags = a .tags; bytes = a .bytes ++ more; closed = a .closed })) (sym (q .1))
+      (record {
+        edition = fit .edition;
+        taken = ap (λ (n : ℕ). n + r .taken) (fit .taken) ∙ sym (length-append (a .bytes) more ∙ ap (λ (n : ℕ). length (a .bytes) + n) (length-take-le (r .taken) piece (done .part)));
+        place = done .place;
+      })))
+
+  apart : (j : ℕ) → j < length (w .accounts) → (j ≡ k → ⊥) → s .0 ≡ accountAt w j .serial → ⊥
+  apart j h n e = n (omega (arith, e, ek, v .numbered j h))
+
+  each : (P : ℕ → Account → Type 0) → ((j : ℕ) → j < length (w .accounts) → (j ≡ k → ⊥) → P j (accountAt w j)) → P k (grown more a)
+      → (j : ℕ) → j < length (after .accounts) → P j (accountAt after j)
+  each = changed-each w v s k hk ek (grown more)
+
+  count : length (after .accounts) ≡ length (w .accounts)
+  count = onSerial-length (s .0) (grown more) (w .accounts)
+
+  stranger : (n : ℕ) → Stranger (length (after .accounts)) n → n ≡ suc k → ⊥
+  stranger n (inl z) e = omega (arith, z, e)
+  stranger n (inr z) e = omega (arith, z, e, hk, count)
+
+  kept : Kept (w .edition) (w .tags) (grown more a)
+  kept =
+      let q = v .kept k hk in
+      record {
+        from = q .from;
+        upto = q .upto;
+        current = q .current;
+        lawful = q .lawful;
+        bytes = below-append 256 (a .bytes) more (q .bytes) (below-take 256 (r .taken) piece b);
+        small = omega (arith, length-append (a .bytes) more, length-take-le (r .taken) piece (done .part), done .part, fit .taken, short);
+      }
+
+  pub inv-read : Reached (after .desk) → Inv after
+  inv-read p = record {
+    reached = p;
+    serials = count ∙ v .serials;
+    numbered = each (λ j x. x .serial ≡ suc j) (λ j h n. v .numbered j h) (v .numbered k hk);
+    edition = v .edition;
+    force = v .force;
+    kept = each (λ j x. Kept (w .edition) (w .tags) x) (λ j h n. v .kept j h) kept;
+    seats = each (λ j x. Seat (set rooms i (readOn t r)) x)
+        (λ j h n. seat-kept rooms (wide w v) i (readOn t r) hi (accountAt w j) (for-other s _ t for-s (apart j h n)) (for-other s _ (readOn t r) read-for (apart j h n)) (v .seats j h)) seat;
+    strangers = λ n h. le-trans (v .strangers n (subst (λ (c : ℕ). Stranger c (n .0)) count h)) (le-of-eq (sym (firstRoom-kept (isFor n) rooms i (readOn t r) (ap (λ (x : Bool). x && eqb (t .serial .0) (n .0)) (sym (for-held s t for-s .0))))));
+    unique = unique-set rooms (wide w v) i (readOn t r) hi (v .unique) (λ n j ne x y. ne (v .unique n j i x (same-for n y)));
+    records = each (λ j x. recordsFor (suc j) (stream after) ≡ recordsDue x) (λ j h n. elsewhere (suc j) (λ e. n (omega (arith, e))) ∙ v .records j h) here;
+    nobody = λ n h. elsewhere n (stranger n h) ∙ v .nobody n (subst (λ (c : ℕ). Stranger c n) count h);
+  }
+    where
+      same-for : (n : Serial) → isFor n (readOn t r) ≡ true → isFor n t ≡ true
+      same-for n y = held-for n t (for-held s t for-s .0) (for-held n (readOn t r) y .1)

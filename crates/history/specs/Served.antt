@@ -1,0 +1,123 @@
+-- The history in which the tickets of another history are served one after another, by serial. It is a history of the same calls, from
+-- a new desk.
+use Rattle.matching.specs.declared.Stop.the-variants as S
+use Rattle.desk.specs.declared.ReplaceAnswer.the-variants as R
+use Rattle.desk.specs.declared.OpenAnswer.the-variants as O
+use Rattle.desk.specs.declared.FeedAnswer.the-variants as F
+use Rattle.desk.specs.declared.CloseAnswer.the-variants as C
+use Rattle.desk.specs.declared.TakeAnswer.the-variants as K
+use Prim.Native.Nat.{_+_, _-_, suc, zero, ℕ}
+use mathlib.Core.Bool.{Bool, _&&_, false, true}
+use mathlib.Core.List.{List, [], _++_, _∷_}
+use mathlib.Core.Path.{_≡_}
+use lib.Dec.{eqb, leb, ltb}
+use lib.ListN.{drop, length, replicate, set, take}
+use Rattle.desk.specs.Calls.{closeOf, openOf, takeOf}
+use Rattle.desk.specs.Feed.{feedOf}
+use Rattle.desk.specs.Numbers.{closeNumber, feedNumber, openNumber, replaceNumber, takeNumber}
+use Rattle.desk.specs.Replace.{replaceOf}
+use Rattle.desk.specs.Rooms.{roomOf, serialOf, ticketIn}
+use Rattle.desk.specs.declared.Desk.{Desk}
+use Rattle.desk.specs.declared.FeedAnswer.{FeedAnswer}
+use Rattle.desk.specs.declared.Serial.{Serial}
+use Rattle.history.specs.History.{Account, Act, Order, World, actClose, actFeed, actOpen, actReplace, actTake, run, start, step}
+use Rattle.matching.specs.Laws.States.{most}
+use Rattle.matching.specs.Words.{Word}
+
+-- calls to come, which may go by what the calls before them have left
+abbrev pub Script : Type 0
+Script = World → List Act
+
+-- no calls; and one script behind another
+abbrev pub nothing : Script
+nothing w = []
+
+abbrev pub then : Script → Script → Script
+then f g w = f w ++ g (run w (f w))
+
+-- replacements as they were called
+unfoldable pub called : List Order → List Act
+called [] = []
+called (o ∷ os) = actReplace (o .set) (o .run) ∷ called os
+
+-- records are taken until the list is empty
+abbrev pub emptied : Script
+emptied w = replicate (w .desk .records .count) actTake
+
+-- where a feed stops FULL the list is emptied, and then goes what is given for the bytes that it didn't take
+abbrev pub afterFull : FeedAnswer → (ℕ → Script) → Script
+afterFull (F.Fed count records S.All) more = nothing
+afterFull (F.Fed count records S.Full) more = then emptied (more count)
+afterFull (F.Fed count records S.Damaged) more = nothing
+afterFull F.NoTicket more = nothing
+afterFull (F.Stale e) more = nothing
+afterFull F.Long more = nothing
+
+-- bytes fed for a serial, in at most so many feeds
+unfoldable pub fedWhole : ℕ → Serial → Word → Script
+fedWhole zero s b w = []
+fedWhole (suc most) s b w = actFeed s b ∷ afterFull (feedOf (w .desk) s (w .table) b .answer) (λ count. fedWhole most s (drop count b)) (step w (actFeed s b))
+
+-- pieces fed one after another; emptying the list once more than there are bytes is always enough
+unfoldable pub fedPieces : Serial → List Word → Script
+fedPieces s [] w = []
+fedPieces s (p ∷ ps) w = then (fedWhole (length p + 2) s p) (fedPieces s ps) w
+
+-- the bytes of some pieces
+unfoldable pub joined : List Word → Word
+joined [] = []
+joined (p ∷ ps) = p ++ joined ps
+
+abbrev pub shutIf : Bool → Serial → Script
+shutIf true s w = actClose s ∷ []
+shutIf false s w = []
+
+-- one ticket: the replacements up to its edition, its opening, its bytes in some pieces, and its closing if it was closed
+abbrev pub servedOne : List Order → Account → List Word → Script
+servedOne orders a pieces w =
+    then (λ v. called (take (a .edition - v .edition) (drop (v .edition) orders)))
+    (then (λ v. actOpen ∷ []) (then (fedPieces (serialOf (a .serial)) pieces) (shutIf (a .closed) (serialOf (a .serial))))) w
+
+-- tickets in the order of their accounts, the first of which is that of ticket k, then the replacements that are left
+unfoldable pub servedAll : List Order → (ℕ → List Word) → ℕ → List Account → Script
+servedAll orders cut k [] w = called (drop (w .edition) orders)
+servedAll orders cut k (a ∷ more) w = then (servedOne orders a (cut k)) (servedAll orders cut (suc k) more) w
+
+-- the history that serves the tickets of a world one after another; the bytes taken for ticket k go in the pieces that `cut k` says
+abbrev pub serving : (ℕ → List Word) → World → List Act
+serving cut w = servedAll (w .orders) cut 0 (w .accounts) start
+
+-- whether a call goes through; FULL and DAMAGED are stops and no refusals
+abbrev pub accepts : World → Act → Type 0
+accepts w (actReplace set run) = replaceNumber (replaceOf (w .desk) set (length run) .answer) ≡ 0
+accepts w actOpen = openNumber (openOf (w .desk) .answer) ≡ 0
+accepts w (actFeed s piece) = feedNumber (feedOf (w .desk) s (w .table) piece .answer) ≡ 0
+accepts w (actClose s) = closeNumber (closeOf (w .desk) s .answer) ≡ 0
+accepts w actTake = takeNumber (takeOf (w .desk) .answer) ≡ 0
+
+-- no call of a history is refused
+unfoldable pub NoneRefused : World → List Act → Type 0
+NoneRefused w [] = Unit {0}
+NoneRefused w (a ∷ acts) = accepts w a × NoneRefused (step w a) acts
+
+-- what a desk shows of a serial
+pub data TicketState : Type 0 where
+  neverGiven : TicketState
+  isClosed : TicketState
+  isStale : TicketState
+  isOpen : TicketState
+
+-- by whether it was given, whether it has a room, and whether its ticket is of the edition in force
+abbrev pub stateBy : Bool → Bool → Bool → TicketState
+stateBy false room current = neverGiven
+stateBy true false current = isClosed
+stateBy true true false = isStale
+stateBy true true true = isOpen
+
+abbrev pub wasGiven : Desk → Serial → Bool
+wasGiven d s = ltb 0 (s .0) && leb (s .0) (d .serial .0)
+
+unfoldable pub stateOf : Desk → Serial → TicketState
+stateOf d s =
+    stateBy (wasGiven d s) (ltb (roomOf (d .tickets) s) 16)
+    (eqb (ticketIn (d .tickets) (roomOf (d .tickets) s) .edition .0) (d .edition .0))

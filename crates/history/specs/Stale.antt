@@ -1,0 +1,169 @@
+-- After a replacement an older ticket is stale and takes no byte, or stays closed.
+use Rattle.desk.specs.declared.FeedAnswer.the-variants as F
+use Rattle.desk.specs.declared.CloseAnswer.the-variants as C
+use Prim.Native.Nat.{_<_, _≤_, suc, ℕ}
+use mathlib.Core.Bool.{Bool, false, not, true}
+use mathlib.Core.List.{List}
+use mathlib.Core.Logic.{_↔_, _⊎_, inl, inr}
+use mathlib.Core.Path.{_∙_, _≡_, ap, ap₂, refl, subst, sym}
+use native.Mathlib.Nat.{le-trans}
+use native.Mathlib.Omega.{arith}
+use lib.Dec.{eqb}
+use lib.ListN.{length}
+use Rattle.desk.specs.Calls.{closeOf}
+use Rattle.desk.specs.Feed.{feedOf}
+use Rattle.desk.specs.Laws.Views.{Closes, Feeds, close-done, close-no-ticket, closes, feed-long, feed-no-ticket, feed-other-slots, feed-read, feed-stale, feeds}
+use Rattle.desk.specs.Rooms.{editionOf, roomOf, serialOf, ticketIn}
+use Rattle.desk.specs.declared.Closing.{Closing}
+use Rattle.desk.specs.declared.Feeding.{Feeding}
+use Rattle.desk.specs.declared.Serial.{Serial}
+use Rattle.history.specs.History.{Account, Act, AllBytes, World, accountAt, run, start}
+use Rattle.history.specs.Laws.Invariant.{Inv, Stranger}
+use Rattle.history.specs.Laws.Later.{goes-run}
+use Rattle.history.specs.Laws.LedgerSteps.{sound, sound-run}
+use Rattle.history.specs.Laws.Seats.{Agrees, Seat, no-seat, seated}
+use Rattle.history.specs.Laws.States.{known-or-not, state-is, stateOfAccount}
+use Rattle.history.specs.Served.{isClosed, isStale, stateBy, stateOf}
+use Rattle.matching.specs.Laws.Bools.{is-false, not-both}
+use Rattle.matching.specs.Laws.Words.{eqb-eq}
+use Rattle.matching.specs.Words.{Word}
+
+-- what the desk says of a ticket that is older than the set: it is stale or closed; a feed is refused, over every table; and while it is
+-- stale it can be closed
+pub record Older (w : World) (a : Account) : Type 0 where
+  pub state : (stateOf (w .desk) (serialOf (a .serial)) ≡ isStale) ⊎ (stateOf (w .desk) (serialOf (a .serial)) ≡ isClosed)
+  pub stale-feed : a .closed ≡ false → (table : List ℕ) (piece : Word) → feedOf (w .desk) (serialOf (a .serial)) table piece ≡ record { desk = w .desk; answer = F.Stale (editionOf (a .edition)) }
+  pub closed-feed : a .closed ≡ true → (table : List ℕ) (piece : Word) → feedOf (w .desk) (serialOf (a .serial)) table piece ≡ record { desk = w .desk; answer = F.NoTicket }
+  pub stale-close : a .closed ≡ false → closeOf (w .desk) (serialOf (a .serial)) .answer ≡ C.Closed
+  pub closed-close : a .closed ≡ true → closeOf (w .desk) (serialOf (a .serial)) ≡ record { desk = w .desk; answer = C.NoTicket }
+
+module _ (w : World) (v : Inv w) (k : ℕ) (hk : k < length (w .accounts)) where
+  abbrev a : Account
+  a = accountAt w k
+
+  abbrev s : Serial
+  s = serialOf (a .serial)
+
+  -- a closed serial has no room, over any later call
+  closed-room : a .closed ≡ true → 16 ≤ roomOf (w .desk .tickets) s
+  closed-room c = go (v .seats k hk)
+    where
+      go : Seat (w .desk .tickets) a → 16 ≤ roomOf (w .desk .tickets) s
+      go (no-seat q h) = h
+      go (seated q h g) = absurd (not-both c q)
+
+  open-room : a .closed ≡ false → (roomOf (w .desk .tickets) s < 16) × Agrees (ticketIn (w .desk .tickets) (roomOf (w .desk .tickets) s)) a
+  open-room c = go (v .seats k hk)
+    where
+      go : Seat (w .desk .tickets) a → (roomOf (w .desk .tickets) s < 16) × Agrees (ticketIn (w .desk .tickets) (roomOf (w .desk .tickets) s)) a
+      go (no-seat q h) = absurd (not-both q c)
+      go (seated q h g) = (h, g)
+
+  -- NO TICKET for ever: a closed serial is refused by feed and close, over every table
+  pub closed-feed-is : a .closed ≡ true → (table : List ℕ) (piece : Word) → feedOf (w .desk) s table piece ≡ record { desk = w .desk; answer = F.NoTicket }
+  closed-feed-is c table piece = go _ (feeds (w .desk) s table piece)
+    where
+      go : (r : Feeding) → Feeds (w .desk) (roomOf (w .desk .tickets) s) table piece r → r ≡ record { desk = w .desk; answer = F.NoTicket }
+      go r (feed-no-ticket h) = refl
+      go r (feed-stale h e) = absurd (omega (arith, h, closed-room c))
+      go r (feed-other-slots h e n) = absurd (omega (arith, h, closed-room c))
+      go r (feed-long h e l m) = absurd (omega (arith, h, closed-room c))
+      go r (feed-read h e l m) = absurd (omega (arith, h, closed-room c))
+
+  pub closed-close-is : a .closed ≡ true → closeOf (w .desk) s ≡ record { desk = w .desk; answer = C.NoTicket }
+  closed-close-is c = go _ (closes (w .desk) s)
+    where
+      go : (r : Closing) → Closes (w .desk) s r → r ≡ record { desk = w .desk; answer = C.NoTicket }
+      go r (close-no-ticket h) = refl
+      go r (close-done i e h) = absurd (omega (arith, h, e, closed-room c))
+
+  pub open-close-is : a .closed ≡ false → closeOf (w .desk) s .answer ≡ C.Closed
+  open-close-is c = go _ (closes (w .desk) s)
+    where
+      go : (r : Closing) → Closes (w .desk) s r → r .answer ≡ C.Closed
+      go r (close-no-ticket h) = absurd (omega (arith, h, open-room c .0))
+      go r (close-done i e h) = refl
+
+  stale-feed-is : a .closed ≡ false → a .edition < w .edition → (table : List ℕ) (piece : Word) → feedOf (w .desk) s table piece ≡ record { desk = w .desk; answer = F.Stale (editionOf (a .edition)) }
+  stale-feed-is c old table piece = go _ (feeds (w .desk) s table piece)
+    where
+      room : (roomOf (w .desk .tickets) s < 16) × Agrees (ticketIn (w .desk .tickets) (roomOf (w .desk .tickets) s)) a
+      room = open-room c
+
+      older : ticketIn (w .desk .tickets) (roomOf (w .desk .tickets) s) .edition .0 ≡ w .desk .edition .0 → ⊥
+      older e = omega (arith, e, room .1 .edition, old, v .edition)
+
+      go : (r : Feeding) → Feeds (w .desk) (roomOf (w .desk .tickets) s) table piece r → r ≡ record { desk = w .desk; answer = F.Stale (editionOf (a .edition)) }
+      go r (feed-no-ticket h) = absurd (omega (arith, h, room .0))
+      go r (feed-stale h e) = λ d. record { desk = w .desk; answer = F.Stale (record { 0 = room .1 .edition d }) }
+      go r (feed-other-slots h e n) = absurd (older e)
+      go r (feed-long h e l m) = absurd (older e)
+      go r (feed-read h e l m) = absurd (older e)
+
+  older-is : a .edition < w .edition → Older w a
+  older-is old = record {
+    state = go (a .closed) refl;
+    stale-feed = λ c. stale-feed-is c old;
+    closed-feed = closed-feed-is;
+    stale-close = open-close-is;
+    closed-close = closed-close-is;
+  }
+    where
+      shown : stateOf (w .desk) s ≡ stateOfAccount (w .edition) a
+      shown = subst (λ (n : ℕ). stateOf (w .desk) (serialOf n) ≡ stateOfAccount (w .edition) a) (sym (v .numbered k hk)) (state-is w v k hk)
+
+      other : eqb (a .edition) (w .edition) ≡ false
+      other = is-false (eqb (a .edition) (w .edition)) (λ e. omega (arith, old, eqb-eq (a .edition) (w .edition) e))
+
+      go : (b : Bool) → a .closed ≡ b → (stateOf (w .desk) s ≡ isStale) ⊎ (stateOf (w .desk) s ≡ isClosed)
+      go true c = inr (shown ∙ ap (λ (b : Bool). stateBy true (not b) (eqb (a .edition) (w .edition))) c)
+      go false c = inl (shown ∙ ap₂ (λ (b x : Bool). stateBy true (not b) x) c other)
+
+-- THE THEOREM. Once the edition in force is later than a ticket's, then after any more calls the ticket is stale or closed, has the bytes that
+-- it had, and if it was closed is closed still
+pub after-a-replacement : (acts more : List Act) → AllBytes acts → AllBytes more → (k : ℕ) → k < length (run start acts .accounts)
+    → accountAt (run start acts) k .edition < run start acts .edition
+    → (accountAt (run (run start acts) more) k .bytes ≡ accountAt (run start acts) k .bytes)
+    × (accountAt (run start acts) k .closed ≡ true → accountAt (run (run start acts) more) k .closed ≡ true)
+    × Older (run (run start acts) more) (accountAt (run (run start acts) more) k)
+after-a-replacement acts more b c k h old =
+    let w = run start acts in
+    let s = sound acts b in
+    let g = goes-run w more c (s .inv) in
+    let l = g .each k h in
+    let t = sound-run w more c s in
+    (l .bytes (inr old), l .closed, older-is (run w more) (t .inv) k (le-trans h (g .accounts)) (omega (arith, old, l .edition, g .edition)))
+
+-- NO TICKET, exactly: after any history a feed or a close of a serial is refused so exactly if no opening answered it or it was closed
+pub no-ticket : (acts : List Act) → AllBytes acts → (s : Serial)
+    → (closeOf (run start acts .desk) s .answer ≡ C.NoTicket) ↔ ((k : ℕ) → k < length (run start acts .accounts) → accountAt (run start acts) k .serial ≡ s .0 → accountAt (run start acts) k .closed ≡ true)
+no-ticket acts b s = (there, back)
+  where
+    w : World
+    w = run start acts
+
+    v : Inv w
+    v = sound acts b .inv
+
+    there : closeOf (w .desk) s .answer ≡ C.NoTicket → (k : ℕ) → k < length (w .accounts) → accountAt w k .serial ≡ s .0 → accountAt w k .closed ≡ true
+    there e k h q = go (accountAt w k .closed) refl
+      where
+        go : (x : Bool) → accountAt w k .closed ≡ x → accountAt w k .closed ≡ true
+        go true c = c
+        go false c = absurd (let m : closeOf (w .desk) s .answer ≡ C.Closed = subst (λ (n : Serial). closeOf (w .desk) n .answer ≡ C.Closed) (λ d. record { 0 = q d }) (open-close-is w v k h c) in let z : _≡_ {A = ℕ} 0 1 = cc in omega arith)
+
+    back : ((k : ℕ) → k < length (w .accounts) → accountAt w k .serial ≡ s .0 → accountAt w k .closed ≡ true) → closeOf (w .desk) s .answer ≡ C.NoTicket
+    back f = go (known-or-not w v (s .0))
+      where
+        none : 16 ≤ roomOf (w .desk .tickets) s → closeOf (w .desk) s .answer ≡ C.NoTicket
+        none h = cases _ (closes (w .desk) s)
+          where
+            cases : (r : Closing) → Closes (w .desk) s r → r .answer ≡ C.NoTicket
+            cases r (close-no-ticket q) = refl
+            cases r (close-done i e q) = absurd (omega (arith, h, e, q))
+
+        go : ((k : ℕ) × (k < length (w .accounts)) × (s .0 ≡ suc k)) ⊎ Stranger (length (w .accounts)) (s .0) → closeOf (w .desk) s .answer ≡ C.NoTicket
+        go (inl z) =
+            let q : accountAt w (z .0) .serial ≡ s .0 = v .numbered (z .0) (z .1) ∙ sym (z .2) in
+            none (subst (λ (n : Serial). 16 ≤ roomOf (w .desk .tickets) n) (λ d. record { 0 = q d }) (closed-room w v (z .0) (z .1) (f (z .0) (z .1) q)))
+        go (inr z) = none (v .strangers s z)
