@@ -2,5 +2,10 @@
 pub mod History
 pub mod Served
 pub mod Laws
+pub mod Demand2
 pub mod Demand3
 pub mod Stale
+pub mod Stream
+pub mod Depends
+pub mod Progress
+pub mod Incident

@@ -31,11 +31,11 @@ use Rattle.matching.specs.Occurrence.{Occurrence, occurrences, occurrencesFrom}
 use Rattle.matching.specs.Reading.{Outcome}
 use Rattle.matching.specs.Words.{Below, Word, same}
 
-below-append : (m : ℕ) (x y : Word) → Below m x → Below m y → Below m (x ++ y)
+pub below-append : (m : ℕ) (x y : Word) → Below m x → Below m y → Below m (x ++ y)
 below-append m [] y hx hy = hy
 below-append m (c ∷ x) y hx hy = (hx .0, below-append m x y (hx .1) hy)
 
-below-take : (m n : ℕ) (x : Word) → Below m x → Below m (take n x)
+pub below-take : (m n : ℕ) (x : Word) → Below m x → Below m (take n x)
 below-take m zero x h = tt
 below-take m (suc n) [] h = tt
 below-take m (suc n) (c ∷ x) h = (h .0, below-take m n x (h .1))

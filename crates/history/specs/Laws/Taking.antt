@@ -12,7 +12,7 @@ use Rattle.desk.specs.declared.Taking.{Taking}
 use Rattle.history.specs.History.{World, actTake, step, stream, taking}
 use Rattle.history.specs.Laws.Invariant.{Inv, inv-stream}
 
-stream-takes : (w : World) (r : Taking) → GoodDesk (w .desk) → Takes (w .desk) r → stream (taking w (r .desk) (r .answer)) ≡ stream w
+pub stream-takes : (w : World) (r : Taking) → GoodDesk (w .desk) → Takes (w .desk) r → stream (taking w (r .desk) (r .answer)) ≡ stream w
 stream-takes w r g (take-nothing e) = ap {B = List Record} (λ (l : List Record). l ++ held (w .desk .records)) (append-nil (w .out))
 stream-takes w r g (take-oldest h) =
     append-assoc (w .out) (getD (w .desk .records .ring) (w .desk .records .first) noRecord ∷ []) (held (popped (w .desk .records)))

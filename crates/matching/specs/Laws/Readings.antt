@@ -59,7 +59,7 @@ module _ (n k s : ℕ) (ts : List Word) (tab : List ℕ) (held : Holds n k s ts 
       ∙ vector-walk (tagsFor n ts m) (map (slice n m) v))
       (vectors-placeAfter j (suc m) v (omega arith))
 
-  below-placeAfter : (j m : ℕ) (v : Word) → m + j ≤ k → allBelow s (placeAfter n ts m j v) ≡ true
+  pub below-placeAfter : (j m : ℕ) (v : Word) → m + j ≤ k → allBelow s (placeAfter n ts m j v) ≡ true
   unfolding allBelow placeAfter
   below-placeAfter zero m v h = refl
   below-placeAfter (suc j) m v h =

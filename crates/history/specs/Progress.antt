@@ -1,0 +1,73 @@
+-- Once the list is empty, a nonempty piece on a live ticket, not LONG and over the table as replacement left it, advances.
+use Rattle.desk.specs.declared.FeedAnswer.the-variants as F
+use Prim.Native.Nat.{_-_, _<_, ℕ}
+use mathlib.Core.Bool.{Bool, false, true}
+use mathlib.Core.List.{List, _∷_}
+use mathlib.Core.Path.{_≡_, ap, refl}
+use native.Mathlib.Omega.{arith}
+use lib.Dec.{eqb, ltb}
+use lib.ListN.{length}
+use borrow.Author.Tests.{eqb-true, ltb-true}
+use Rattle.desk.specs.Feed.{feedOf}
+use Rattle.desk.specs.Laws.Views.{Feeds, feed-long, feed-no-ticket, feed-other-slots, feed-read, feed-stale, feeds}
+use Rattle.desk.specs.Rooms.{roomOf, ticketIn}
+use Rattle.desk.specs.declared.Desk.{Desk}
+use Rattle.desk.specs.declared.FeedAnswer.{FeedAnswer}
+use Rattle.desk.specs.declared.Feeding.{Feeding}
+use Rattle.desk.specs.declared.Serial.{Serial}
+use Rattle.history.specs.History.{Act, AllBytes, World, accountAt, run, start}
+use Rattle.history.specs.Laws.Feeding.{force, read-due}
+use Rattle.history.specs.Laws.Invariant.{Inv, given}
+use Rattle.history.specs.Laws.LedgerSteps.{sound}
+use Rattle.history.specs.Served.{isOpen, stateBy, stateOf, wasGiven}
+use Rattle.matching.specs.Laws.Expected.{expected-advances}
+use Rattle.matching.specs.Words.{Below, Word}
+
+-- the bytes that a feed took
+abbrev pub bytesTaken : FeedAnswer → ℕ
+bytesTaken (F.Fed count records stop) = count
+bytesTaken F.NoTicket = 0
+bytesTaken (F.Stale e) = 0
+bytesTaken F.Long = 0
+
+-- a ticket that the desk shows as open has a room and is of the edition in force
+open-has : (d : Desk) (s : Serial) → stateOf d s ≡ isOpen
+    → (roomOf (d .tickets) s < 16) × (ticketIn (d .tickets) (roomOf (d .tickets) s) .edition .0 ≡ d .edition .0)
+unfolding stateOf
+open-has d s e = go (wasGiven d s) (ltb (roomOf (d .tickets) s) 16) refl (eqb (ticketIn (d .tickets) (roomOf (d .tickets) s) .edition .0) (d .edition .0)) refl e
+  where
+    go : (a b : Bool) → ltb (roomOf (d .tickets) s) 16 ≡ b → (c : Bool) → eqb (ticketIn (d .tickets) (roomOf (d .tickets) s) .edition .0) (d .edition .0) ≡ c → stateBy a b c ≡ isOpen
+        → (roomOf (d .tickets) s < 16) × (ticketIn (d .tickets) (roomOf (d .tickets) s) .edition .0 ≡ d .edition .0)
+    go true true p true q z = (ltb-true _ _ p, eqb-true _ _ q)
+    go true true p false q z = absurd (let y : _≡_ {A = ℕ} 0 1 = cc in omega arith)
+    go true false p c q z = absurd (let y : _≡_ {A = ℕ} 0 1 = cc in omega arith)
+    go false b p c q z = absurd (let y : _≡_ {A = ℕ} 0 1 = cc in omega arith)
+
+-- PROGRESS: no byte has more than 16 matches, and an empty list has room for 256
+pub progress : (acts : List Act) → AllBytes acts → (s : Serial) → stateOf (run start acts .desk) s ≡ isOpen → run start acts .desk .records .count ≡ 0
+    → (c : ℕ) (piece : Word) → Below 256 (c ∷ piece) → (feedOf (run start acts .desk) s (run start acts .table) (c ∷ piece) .answer ≡ F.Long → ⊥)
+    → 0 < bytesTaken (feedOf (run start acts .desk) s (run start acts .table) (c ∷ piece) .answer)
+progress acts b s is-open empty c piece bytes not-long = go _ (feeds d s (w .table) (c ∷ piece)) refl
+  where
+    w : World
+    w = run start acts
+
+    d : Desk
+    d = w .desk
+
+    v : Inv w
+    v = sound acts b .inv
+
+    have : (roomOf (d .tickets) s < 16) × (ticketIn (d .tickets) (roomOf (d .tickets) s) .edition .0 ≡ d .edition .0)
+    have = open-has d s is-open
+
+    go : (r : Feeding) → Feeds d (roomOf (d .tickets) s) (w .table) (c ∷ piece) r → feedOf d s (w .table) (c ∷ piece) ≡ r → 0 < bytesTaken (r .answer)
+    go r (feed-no-ticket h) q = absurd (omega (arith, h, have .0))
+    go r (feed-stale h e) q = absurd (e (have .1))
+    go r (feed-other-slots h e n) q = let g = given w v s h in absurd (n (force w v s (g .0) (g .1) (g .2) h e .slots-are))
+    go r (feed-long h e l m) q = absurd (not-long (ap (λ (x : Feeding). x .answer) q))
+    go r (feed-read h e l m) q =
+        let g = given w v s h in
+        let a = accountAt w (g .0) in
+        rw (read-due w v s (g .0) (g .1) (g .2) h e (c ∷ piece) bytes)
+        (expected-advances 1 8 (a .tags) c piece (a .bytes) (length (a .bytes)) (256 - d .records .count) (omega (arith, v .kept (g .0) (g .1) .lawful .few, empty)))

@@ -1,0 +1,177 @@
+//! The desk's calls in scripts.
+
+use super::{pieces, sets, Generator};
+use crate::table::Layout;
+
+impl Generator {
+    /// A ticket that is open and not stale.
+    fn live(&mut self) -> Option<u32> {
+        let desk = self.replay.desk();
+        let live = desk.tickets().iter().filter(|t| !desk.is_stale(t));
+        let live: Vec<u32> = live.map(|ticket| ticket.serial.0).collect();
+        self.rng.pick(&live)
+    }
+
+    /// Most often a live ticket's serial; else a stale, closed or never given.
+    pub(super) fn serial(&mut self) -> u32 {
+        let last = self.replay.desk().serial().0;
+        let tickets = self.replay.desk().tickets().iter();
+        let not_closed: Vec<u32> = tickets.map(|ticket| ticket.serial.0).collect();
+        let ever = self.rng.below(last as usize + 2) as u32;
+        match self.rng.below(12) {
+            0 => self.rng.pick(&[0, last.saturating_add(1), u32::MAX]),
+            1 => Some(ever),
+            2 => self.rng.pick(&not_closed),
+            _ => self.live().or_else(|| self.rng.pick(&not_closed)),
+        }
+        .unwrap_or(ever)
+    }
+
+    /// Sees to it that there is a live ticket over a table of its slot count.
+    fn make_ready(&mut self) {
+        if self.replay.desk().edition().0 == 0 {
+            self.good_set();
+            self.lend_enough(Layout::Split);
+            self.say("replace");
+        }
+        let slots = self.replay.desk().slots();
+        if Layout::Split.slots(self.replay.lent()) != slots {
+            let odd = self.rng.below(24);
+            self.say(&format!("lend {}", 24 * slots + odd));
+        }
+        if self.live().is_none() {
+            let tickets = self.replay.desk().tickets();
+            if let (16, Some(oldest)) = (tickets.len(), tickets.first()) {
+                let line = format!("close {}", oldest.serial.0);
+                self.say(&line);
+            }
+            self.say("open");
+        }
+    }
+
+    fn feed_to(&mut self, serial: u32, piece: &[u8]) {
+        let serial = self.number(u64::from(serial));
+        self.say_with(&format!("feed {serial}"), piece);
+    }
+
+    /// A piece for some ticket, most often a live one.
+    pub(super) fn feed(&mut self) {
+        if !self.rng.once_in(8) {
+            self.make_ready();
+        }
+        let serial = self.serial();
+        let piece = pieces::piece(&mut self.rng, &self.tags);
+        self.feed_to(serial, &piece);
+    }
+
+    /// One run of bytes in several pieces, with other tickets between them.
+    pub(super) fn feed_cut(&mut self) {
+        self.make_ready();
+        let Some(serial) = self.live() else {
+            return;
+        };
+        let length = self.rng.between(4, 90);
+        let run = pieces::of_length(&mut self.rng, &self.tags, length);
+        let mut rest = run.as_slice();
+        while !rest.is_empty() {
+            let (piece, after) = rest.split_at(self.rng.between(1, rest.len()));
+            self.feed_to(serial, piece);
+            rest = after;
+            if self.rng.once_in(3) {
+                let other = self.serial();
+                let piece = pieces::piece(&mut self.rng, &self.tags);
+                self.feed_to(other, &piece);
+            }
+        }
+    }
+
+    pub(super) fn take(&mut self) {
+        let all = self.replay.desk().held() + 1;
+        let some = self.rng.one_of(&[1, 1, 2, 3, 8, 17, 40, all]);
+        for _ in 0..some.min(all) {
+            self.say("take");
+        }
+    }
+
+    pub(super) fn open(&mut self) {
+        for _ in 0..self.rng.one_of(&[1, 1, 1, 1, 1, 2, 3, 4, 17]) {
+            self.say("open");
+        }
+    }
+
+    pub(super) fn close(&mut self) {
+        for _ in 0..self.rng.one_of(&[1, 1, 1, 1, 1, 2, 3, 16]) {
+            let serial = self.serial();
+            let again = self.rng.once_in(4);
+            let number = self.number(u64::from(serial));
+            self.say(&format!("close {number}"));
+            if again {
+                self.feed_to(serial, b"a");
+            }
+        }
+    }
+
+    pub(super) fn show(&mut self) {
+        self.say("show");
+    }
+
+    /// A replacement by new tags, the same again, or what the set now is.
+    pub(super) fn replace(&mut self) {
+        match self.rng.below(4) {
+            0 => self.set_of_tags(),
+            1 => {}
+            _ => self.good_set(),
+        }
+        if !self.rng.once_in(3) {
+            self.lend_enough(Layout::Split);
+        }
+        self.say("replace");
+        if self.rng.once_in(2) {
+            let stale = self.serial();
+            self.feed_to(stale, &self.tags[0].clone());
+        }
+    }
+
+    /// Fills the list with matches of nested tags, then goes on at its brink.
+    pub(super) fn fill_list(&mut self) {
+        self.nested_set();
+        self.lend_enough(Layout::Split);
+        self.say("replace");
+        self.make_ready();
+        let letter = self.tags[0][0];
+        for _ in 0..self.rng.between(1, 4) {
+            let serial = self.serial();
+            let length = self.rng.between(1, 300);
+            self.feed_to(serial, &vec![letter; length]);
+        }
+        for _ in 0..self.rng.between(2, 12) {
+            self.feed_at_brink(letter);
+        }
+        self.say("show");
+    }
+
+    /// Every count of matches meets just too little room, just enough, or any.
+    fn feed_at_brink(&mut self, letter: u8) {
+        let matches = self.tags.len();
+        let any = self.rng.below(18);
+        let room = self.rng.one_of(&[matches - 1, matches - 1, matches, any]);
+        let room_now = 256 - self.replay.desk().held();
+        for _ in room_now..room {
+            self.say("take");
+        }
+        let serial = self.serial();
+        let length = self.rng.one_of(&[0, 1, 1, 1, 2, 3]);
+        let mut piece = vec![letter; length];
+        if self.rng.once_in(6) {
+            piece.insert(0, letter ^ 1);
+        }
+        self.feed_to(serial, &piece);
+    }
+
+    /// A set in which as many tags end at a byte as there are.
+    pub(super) fn nested_set(&mut self) {
+        let tags = sets::nested(&mut self.rng);
+        self.use_tags(tags);
+        self.set_of_tags();
+    }
+}

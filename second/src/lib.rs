@@ -1,0 +1,21 @@
+//! The independent second program, written from document 01 and REPLAY.md alone.
+//!
+//! The first group of modules is the rules of document 01, the second the
+//! replay script, the third the comparison with another replay program.
+
+pub mod desk;
+pub mod machine;
+pub mod occurrences;
+pub mod reading;
+pub mod refusal;
+pub mod set;
+pub mod table;
+
+pub mod replay;
+pub mod script;
+
+pub mod differ;
+pub mod generate;
+pub mod rng;
+pub mod shrink;
+pub mod tally;

@@ -1,0 +1,113 @@
+//! Reading a piece over any table: document 01, "Reading a piece".
+
+use crate::refusal::Refusal;
+use crate::table::Table;
+
+/// The reason for stopping.
+#[derive(Clone, Copy, Debug, PartialEq, Eq)]
+pub enum Stop {
+    All,
+    Full,
+    Damaged,
+}
+
+impl Stop {
+    /// The document's word for it.
+    pub fn name(self) -> &'static str {
+        match self {
+            Stop::All => "ALL",
+            Stop::Full => "FULL",
+            Stop::Damaged => "DAMAGED",
+        }
+    }
+}
+
+/// The answer of a reading.
+#[derive(Clone, Debug, PartialEq, Eq)]
+pub struct Reading {
+    /// The number of bytes of the piece taken.
+    pub taken: usize,
+    /// The new place: one state number per machine.
+    pub place: Vec<u16>,
+    pub stop: Stop,
+    /// The number of records written.
+    pub records: usize,
+}
+
+/// A read outside the desk: PLACE, then LONG, then the reading.
+pub fn read_outside(
+    table: Table,
+    place: &[u16],
+    count: u32,
+    piece: &[u8],
+    list: &mut [u32],
+) -> Result<Reading, Refusal> {
+    if place.iter().any(|state| !table.has(*state)) {
+        return Err(Refusal::Place);
+    }
+    read(table, place, count, piece, list)
+}
+
+/// LONG, then the reading. Every state of `place` is below s.
+pub fn read(
+    table: Table,
+    place: &[u16],
+    count: u32,
+    piece: &[u8],
+    list: &mut [u32],
+) -> Result<Reading, Refusal> {
+    // In 64 bits, for the sum passes what 32 hold.
+    if u64::from(count) + piece.len() as u64 > u64::from(u32::MAX) {
+        return Err(Refusal::Long);
+    }
+    Ok(walk(table, place, count, piece, list))
+}
+
+/// Takes byte after byte; count plus the piece fits 32 bits.
+fn walk(table: Table, place: &[u16], count: u32, piece: &[u8], list: &mut [u32]) -> Reading {
+    let mut place = place.to_vec();
+    let mut ahead = place.clone();
+    // Two numbers a record; an odd last number isn't used.
+    let mut room = list.chunks_exact_mut(2);
+    let mut stop = Stop::All;
+    let mut taken = 0usize;
+    let mut records = 0usize;
+    for byte in piece {
+        let Some(matches) = step(table, &place, *byte, &mut ahead) else {
+            stop = Stop::Damaged;
+            break;
+        };
+        if matches.count_ones() as usize > room.len() {
+            stop = Stop::Full;
+            break;
+        }
+        taken += 1;
+        let end = count + taken as u32;
+        // By tag number: each of the 16 bits, the least first. A bit at or
+        // above the number of tags is reported as the numbers say.
+        for tag in (0..16).filter(|tag| matches >> tag & 1 == 1) {
+            if let Some(record) = room.next() {
+                record.copy_from_slice(&[end, tag]);
+                records += 1;
+            }
+        }
+        std::mem::swap(&mut place, &mut ahead);
+    }
+    Reading {
+        taken,
+        place,
+        stop,
+        records,
+    }
+}
+
+/// One byte on: `ahead` becomes the place after it, and the answer is the AND
+/// of the vectors there; nothing where a next number read is not below s.
+fn step(table: Table, place: &[u16], byte: u8, ahead: &mut [u16]) -> Option<u16> {
+    let mut matches = u16::MAX;
+    for (machine, (state, new)) in place.iter().zip(ahead).enumerate() {
+        *new = table.next(machine, *state, byte)?;
+        matches &= table.vector(machine, *new)?;
+    }
+    Some(matches)
+}

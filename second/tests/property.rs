@@ -1,0 +1,250 @@
+//! Readings over built tables are the occurrences, for random sets over small
+//! alphabets, random cuts and room limits.
+
+use second::desk::{Desk, Record, Serial, MOST_RECORDS};
+use second::machine::{bit_of, Machine};
+use second::occurrences::occurrences;
+use second::reading::{read_outside, Reading, Stop};
+use second::replay::Replay;
+use second::rng::Rng;
+use second::set::{read_set, write_set};
+use second::table::{build, Layout, Table};
+
+/// Letters that differ in few bits.
+const LETTERS: [u8; 3] = [0x61, 0x63, 0xe1];
+
+fn random_bytes(rng: &mut Rng, letters: usize, length: usize) -> Vec<u8> {
+    (0..length).map(|_| LETTERS[rng.below(letters)]).collect()
+}
+
+/// Distinct tags over an alphabet of so many letters.
+fn random_tags(rng: &mut Rng, letters: usize) -> Vec<Vec<u8>> {
+    let mut tags: Vec<Vec<u8>> = Vec::new();
+    for _ in 0..rng.between(1, 16) {
+        let longest = rng.one_of(&[2, 4, 8, 32]);
+        let length = rng.between(1, longest);
+        let tag = random_bytes(rng, letters, length);
+        if !tags.contains(&tag) {
+            tags.push(tag);
+        }
+    }
+    tags
+}
+
+/// Bytes in which whole tags stand among random letters.
+fn random_input(rng: &mut Rng, letters: usize, tags: &[Vec<u8>]) -> Vec<u8> {
+    let mut input = Vec::new();
+    for _ in 0..rng.between(1, 12) {
+        input.extend(rng.pick(tags).unwrap_or_default());
+        let length = rng.below(4);
+        input.extend(random_bytes(rng, letters, length));
+    }
+    input
+}
+
+/// A built table, its tags, and the input read over it.
+struct Case {
+    layout: Layout,
+    table: Vec<u16>,
+    input: Vec<u8>,
+    all: Vec<(usize, usize)>,
+}
+
+impl Case {
+    fn random(rng: &mut Rng, layout: Layout) -> Case {
+        let letters = rng.between(1, 3);
+        let tags = random_tags(rng, letters);
+        let input = random_input(rng, letters, &tags);
+        let odd = rng.below(30);
+        let mut table = vec![9; 513 * layout.machines() * layout.slot_length() + odd];
+        let built = build(layout, &write_set(&tags), &mut table);
+        assert_eq!(built, Ok(tags.len()));
+        let all = occurrences(&tags, &input);
+        Case {
+            layout,
+            table,
+            input,
+            all,
+        }
+    }
+
+    /// Reads the bytes from `at` to `end` into a list of so many numbers and
+    /// compares with the occurrences among them.
+    fn check(&self, place: &[u16], at: usize, end: usize, list: usize) -> Reading {
+        let mut list = vec![7; list];
+        let here = |(e, _): &&(usize, usize)| at < *e && *e <= end;
+        let here: Vec<(usize, usize)> = self.all.iter().filter(here).copied().collect();
+        // The first record without room stops the whole of its byte.
+        let stopped = here.get(list.len() / 2).map(|(e, _)| e - 1);
+        let table = Table::lent(self.layout, &self.table);
+        let piece = &self.input[at..end];
+        let reading = read_outside(table, place, at as u32, piece, &mut list);
+        let reading = reading.expect("no refusal");
+        assert_eq!(at + reading.taken, stopped.unwrap_or(end));
+        let stop = match stopped {
+            Some(_) => Stop::Full,
+            None => Stop::All,
+        };
+        assert_eq!(reading.stop, stop);
+        let written = here.iter().filter(|(e, _)| *e <= at + reading.taken);
+        let mut expected: Vec<u32> = written.flat_map(|(e, t)| [*e as u32, *t as u32]).collect();
+        assert_eq!(reading.records, expected.len() / 2);
+        expected.resize(list.len(), 7);
+        assert_eq!(list, expected);
+        reading
+    }
+}
+
+fn check_layout(layout: Layout, cases: u64) {
+    for seed in 0..cases {
+        let mut rng = Rng::new(seed);
+        let case = Case::random(&mut rng, layout);
+        let mut place = vec![0; layout.machines()];
+        let mut at = 0;
+        while at < case.input.len() {
+            let end = rng.between(at, case.input.len());
+            let list = rng.one_of(&[0, 1, 2, 3, 9, 31, 32, 33, 400]);
+            let reading = case.check(&place, at, end, list);
+            at += reading.taken;
+            place = reading.place;
+        }
+    }
+}
+
+#[test]
+fn split_readings_are_the_occurrences() {
+    check_layout(Layout::Split, 300);
+}
+
+#[test]
+fn whole_byte_readings_are_the_occurrences() {
+    check_layout(Layout::Whole, 150);
+}
+
+/// The next state by the words of the definition and nothing else.
+fn next_by_definition(prefixes: &[Vec<u8>], p: &[u8], c: u8) -> usize {
+    let followed = [p, &[c]].concat();
+    (0..=followed.len())
+        .find_map(|from| prefixes.iter().position(|q| *q == followed[from..]))
+        .expect("the empty prefix is a suffix")
+}
+
+fn check_machine(machine: &Machine, tags: &[Vec<u8>], symbols: &[u8]) {
+    let prefixes = machine.prefixes();
+    for (p, (next, vector)) in prefixes.iter().zip(machine.slots()) {
+        for c in symbols {
+            let defined = next_by_definition(prefixes, p, *c);
+            assert_eq!(usize::from(next[usize::from(*c)]), defined);
+        }
+        for i in 0..16 {
+            let flagged = tags.get(i).is_some_and(|tag| p.ends_with(tag));
+            assert_eq!(vector >> i & 1 == 1, flagged);
+        }
+    }
+}
+
+#[test]
+fn machines_are_as_defined() {
+    for seed in 0..12 {
+        let mut rng = Rng::new(seed);
+        let tags = random_tags(&mut rng, 3);
+        let set = read_set(&write_set(&tags)).expect("a good set");
+        let letters = [0x61, 0x63, 0xe1, 0, 0x62, 255];
+        check_machine(&Machine::whole_byte(&set), &tags, &letters);
+        for b in 0..8 {
+            let reduce = |tag: &Vec<u8>| tag.iter().map(|byte| bit_of(*byte, b)).collect();
+            let reduced: Vec<Vec<u8>> = tags.iter().map(reduce).collect();
+            check_machine(&Machine::bit(&set, b), &reduced, &[0, 1]);
+        }
+    }
+}
+
+/// The records of a ticket are the occurrences in the bytes it took, whatever
+/// the other tickets do, and the list never holds more than 256.
+fn check_desk(seed: u64) {
+    let mut rng = Rng::new(seed);
+    let tags = random_tags(&mut rng, 2);
+    let mut desk = Desk::new();
+    let mut table = vec![0; 11_496];
+    let replaced = desk.replace(&write_set(&tags), &mut table);
+    assert!(replaced.is_ok());
+    let mut taken: Vec<Vec<u8>> = vec![vec![]; 3];
+    let mut records: Vec<Vec<(usize, usize)>> = vec![vec![]; 3];
+    let mut hand_out = |record: Record| {
+        let found = (record.end as usize, usize::from(record.tag.0));
+        records[record.serial.0 as usize - 1].push(found);
+    };
+    for serial in 1..=3 {
+        assert_eq!(desk.open(), Ok(Serial(serial)));
+    }
+    for _ in 0..120 {
+        let ticket = rng.below(3);
+        let piece = random_input(&mut rng, 2, &tags);
+        let fed = desk.feed(Serial(ticket as u32 + 1), &piece, &table);
+        let fed = fed.expect("no refusal");
+        assert_eq!(fed.stop == Stop::All, fed.taken == piece.len());
+        taken[ticket].extend(&piece[..fed.taken]);
+        assert!(desk.held() <= MOST_RECORDS);
+        for _ in 0..rng.below(200) {
+            desk.take().map(&mut hand_out).unwrap_or(());
+        }
+    }
+    while let Ok(record) = desk.take() {
+        hand_out(record);
+    }
+    for (bytes, records) in taken.iter().zip(&records) {
+        assert_eq!(*records, occurrences(&tags, bytes));
+    }
+}
+
+#[test]
+fn desk_records_are_the_occurrences() {
+    for seed in 0..40 {
+        check_desk(seed);
+    }
+}
+
+/// Lines of random pieces of calls: each is answered, and none does harm.
+#[test]
+fn any_line_is_answered() {
+    let parts: [&[u8]; 20] = [
+        b" ",
+        b" ",
+        b" ",
+        b"set",
+        b"feed",
+        b"read",
+        b"split",
+        b"whole",
+        b"peek",
+        b"poke",
+        b"lend",
+        b"1",
+        b"0",
+        b"65535",
+        b"4294967295",
+        b"131841",
+        b"\"",
+        b"x",
+        b"-",
+        b"\0",
+    ];
+    let mut rng = Rng::new(9);
+    let mut replay = Replay::new();
+    for _ in 0..20_000 {
+        let line: Vec<&[u8]> = (0..rng.between(1, 24))
+            .map(|_| rng.pick(&parts).unwrap_or(b" "))
+            .collect();
+        assert!(!replay.line(&line.concat()).is_empty());
+    }
+}
+
+#[test]
+fn direct_comparison_finds_what_stands_there() {
+    let tags = vec![b"aa".to_vec(), b"b".to_vec(), b"ab".to_vec()];
+    assert_eq!(
+        occurrences(&tags, b"aaab"),
+        [(2, 0), (3, 0), (4, 1), (4, 2)]
+    );
+    assert_eq!(occurrences(&tags, b""), []);
+}

@@ -1,0 +1,209 @@
+//! The bench samples of document 01, by their numbers.
+
+mod helpers;
+
+use helpers::*;
+use second::machine::Machine;
+use second::reading::Stop;
+use second::set::{read_set, write_set};
+use second::table::{Layout, Table};
+
+#[test]
+fn sample_1_whole_byte_machine() {
+    let set = read_set(&write_set(&HERS)).expect("a good set");
+    assert_eq!(Machine::whole_byte(&set).states(), 10);
+    let table = table_of(Layout::Whole, &HERS, 10);
+    let input = b"hxhe";
+    let path: Vec<u16> = (0..=input.len())
+        .map(|n| read_from_start(Layout::Whole, &table, &input[..n]).0.place[0])
+        .collect();
+    assert_eq!(path, [0, 1, 0, 1, 2]);
+}
+
+#[test]
+fn sample_2_states_of_the_bit_machines() {
+    let set = read_set(&write_set(&HERS)).expect("a good set");
+    let states: Vec<usize> = (0..8).map(|b| Machine::bit(&set, b).states()).collect();
+    assert_eq!(states, [9, 8, 8, 10, 8, 5, 5, 5]);
+}
+
+#[test]
+fn sample_3_hishers() {
+    let records = records_of(&HERS, "hishers");
+    assert_eq!(records, [(3, 2), (5, 0), (5, 1), (7, 3)]);
+}
+
+#[test]
+fn sample_4_one_machine_alone_flags_a_tag() {
+    let numbers = table_of(Layout::Split, &HERS, 10);
+    let (reading, records) = read_from_start(Layout::Split, &numbers, b"hx");
+    let table = Table::lent(Layout::Split, &numbers);
+    let vectors: Vec<u16> = reading
+        .place
+        .iter()
+        .enumerate()
+        .map(|(b, state)| table.vector(b, *state).expect("a state below s"))
+        .collect();
+    assert_eq!(vectors[7] & 1, 1);
+    assert_eq!(vectors[3] & 1, 0);
+    assert_eq!(vectors.iter().fold(u16::MAX, |and, vector| and & vector), 0);
+    assert_eq!(records, []);
+}
+
+#[test]
+fn sample_5_a_and_aa() {
+    assert_eq!(records_of(&["a", "aa"], "aa"), [(1, 0), (2, 0), (2, 1)]);
+}
+
+#[test]
+fn sample_6_overlapping_ends() {
+    assert_eq!(records_of(&["aa"], "aaaa"), [(2, 0), (3, 0), (4, 0)]);
+}
+
+#[test]
+fn sample_7_an_empty_piece() {
+    for layout in [Layout::Split, Layout::Whole] {
+        let table = table_of(layout, &HERS, 10);
+        let (reading, records) = read_from_start(layout, &table, b"");
+        assert_eq!((reading.taken, reading.stop), (0, Stop::All));
+        assert_eq!(records, []);
+    }
+    check(&[
+        ("set \"he\"", "set 6"),
+        ("replace", "edition 1 tags 1"),
+        ("open", "serial 1"),
+        ("feed 1 -", "taken 0 stop ALL"),
+    ]);
+}
+
+#[test]
+fn sample_8_nine_slots_and_ten() {
+    check(&[
+        ("set \"he\" \"she\" \"his\" \"hers\"", "set 28"),
+        ("lend 216", "lent 216"),
+        ("replace", "refused 7 3 10"),
+        ("build split", "refused 7 3 10"),
+        ("lend 239", "lent 239"),
+        ("replace", "refused 7 3 10"),
+        ("lend 240", "lent 240"),
+        ("replace", "edition 1 tags 4"),
+    ]);
+}
+
+/// A desk with tags a, aa, one open ticket and so many records held.
+fn desk_holding(records: usize) -> Vec<(String, String)> {
+    // Each ticket's first byte a gives one record; b parts the a's.
+    let piece = "ab".repeat(records);
+    let taken = format!("taken {} stop ALL", 2 * records);
+    [
+        ("set \"a\" \"aa\"".to_string(), "set 11".to_string()),
+        ("replace".into(), "edition 1 tags 2".into()),
+        ("open".into(), "serial 1".into()),
+        (format!("feed 1 \"{piece}\""), taken),
+    ]
+    .to_vec()
+}
+
+fn check_holding(records: usize, calls: &[(&str, &str)]) {
+    let before = desk_holding(records);
+    let before = before
+        .iter()
+        .map(|(line, answer)| (line.as_str(), answer.as_str()));
+    let calls: Vec<(&str, &str)> = before.chain(calls.iter().copied()).collect();
+    check(&calls);
+}
+
+#[test]
+fn sample_9_254_held() {
+    check_holding(254, &[("feed 1 \"aa\"", "taken 1 stop FULL")]);
+}
+
+#[test]
+fn sample_10_255_held() {
+    check_holding(
+        255,
+        &[
+            ("feed 1 \"a\"", "taken 1 stop ALL"),
+            ("feed 1 \"a\"", "taken 0 stop FULL"),
+        ],
+    );
+    check_holding(
+        254,
+        &[
+            ("feed 1 \"a\"", "taken 1 stop ALL"),
+            ("feed 1 \"a\"", "taken 0 stop FULL"),
+            ("take", "record 1 1 1 0"),
+            ("feed 1 \"a\"", "taken 1 stop ALL"),
+        ],
+    );
+}
+
+#[test]
+fn sample_11_counts_and_lengths() {
+    let tags = |count: usize| -> String {
+        let words: Vec<String> = (0..count).map(|k| format!("\"{k:02}\"")).collect();
+        format!("set {}", words.join(" "))
+    };
+    let long = |length: usize| format!("set \"{}\"", "a".repeat(length));
+    check(&[
+        (&tags(16), "set 96"),
+        ("replace", "edition 1 tags 16"),
+        (&tags(17), "set 102"),
+        ("replace", "refused 2 16"),
+        (&long(32), "set 36"),
+        ("replace", "edition 2 tags 1"),
+        (&long(33), "set 37"),
+        ("replace", "refused 4 0"),
+    ]);
+}
+
+#[test]
+fn sample_12_a_cut_input() {
+    check(&[
+        ("set \"he\" \"she\" \"his\" \"hers\"", "set 28"),
+        ("replace", "edition 1 tags 4"),
+        ("open", "serial 1"),
+        ("feed 1 \"ush\"", "taken 3 stop ALL"),
+        ("feed 1 \"ers\"", "taken 3 stop ALL"),
+        ("take", "record 1 1 4 0"),
+        ("take", "record 1 1 4 1"),
+        ("take", "record 1 1 6 3"),
+        ("take", "refused 16"),
+    ]);
+}
+
+#[test]
+fn sample_13_the_same_set_again() {
+    check(&[
+        ("set \"he\"", "set 6"),
+        ("replace", "edition 1 tags 1"),
+        ("open", "serial 1"),
+        ("replace", "edition 2 tags 1"),
+        ("feed 1 \"he\"", "refused 13 1"),
+    ]);
+}
+
+#[test]
+fn sample_14_a_closed_serial() {
+    let mut calls = vec![("set \"he\"", "set 6"), ("replace", "edition 1 tags 1")];
+    let serials: Vec<String> = (1..=16).map(|n| format!("serial {n}")).collect();
+    calls.extend(serials.iter().map(|serial| ("open", serial.as_str())));
+    calls.extend([
+        ("open", "refused 11"),
+        ("close 5", "closed 5"),
+        ("close 5", "refused 12"),
+        ("feed 5 -", "refused 12"),
+        ("open", "serial 17"),
+        ("open", "refused 11"),
+        ("feed 5 \"he\"", "refused 12"),
+        ("close 5", "refused 12"),
+        ("feed 17 \"he\"", "taken 2 stop ALL"),
+        ("take", "record 17 1 2 0"),
+    ]);
+    check(&calls);
+}
+
+#[test]
+fn the_bench_example() {
+    assert_eq!(records_of(&HERS, "ushers"), [(4, 0), (4, 1), (6, 3)]);
+}
