@@ -1,5 +1,5 @@
 -- A new desk, opening, closing and taking: what each answers, and the desk after it. A refused call leaves the desk as it was.
-use Prim.Native.Nat.{ℕ, _+_}
+use Prim.Native.Nat.{ℕ, _+_, _%_}
 use mathlib.Core.Bool.{Bool, true, false}
 use lib.Dec.{eqb, ltb}
 use lib.ListN.{getD, set, replicate}
@@ -58,7 +58,7 @@ closeOf d s = closeBy d s (ltb (roomOf (d .tickets) s) 16)
 -- by whether the list is empty
 abbrev pub takeBy : Desk → Bool → Taking
 takeBy d true = record { desk = d; answer = K.Nothing }
-takeBy d false = record { desk = withRecords d (popped (d .records)); answer = K.Taken (getD (d .records .ring) (d .records .first) noRecord) }
+takeBy d false = record { desk = withRecords d (popped (d .records)); answer = K.Taken (getD (d .records .ring) (d .records .first % 256) noRecord) }
 
 unfoldable pub takeOf : Desk → Taking
 takeOf d = takeBy d (eqb (d .records .count) 0)

@@ -6,7 +6,7 @@ use lib.Dec.{eqb, ltb}
 use lib.ListN.{length, set}
 use Rattle.matching.specs.Words.{Word}
 use Rattle.matching.specs.Table.{slotsIn}
-use Rattle.matching.specs.Reading.{Outcome, read}
+use Rattle.matching.specs.Reading.{Outcome, read, allBelow}
 use Rattle.matching.specs.declared.Stop.the-variants.{Damaged}
 use Rattle.desk.specs.Rooms.{ticketIn, roomOf}
 use Rattle.desk.specs.Shared.{recordsOf, pushAll}
@@ -38,13 +38,15 @@ fedBy d i t r = record {
 }
 
 -- by whether the serial has a room, whether its ticket is of the edition in force, whether the table has the slots of the last
--- replacement, and whether the bytes taken and the piece pass 4,294,967,295
-abbrev pub feedBy : Desk → ℕ → Ticket → List ℕ → Word → Bool → Bool → Bool → Bool → Feeding
-feedBy d i t table piece false ours same long = record { desk = d; answer = F.NoTicket }
-feedBy d i t table piece true false same long = record { desk = d; answer = F.Stale (t .edition) }
-feedBy d i t table piece true true false long = record { desk = d; answer = F.Fed 0 0 Damaged }
-feedBy d i t table piece true true true true = record { desk = d; answer = F.Long }
-feedBy d i t table piece true true true false = fedBy d i t (readFor d t table piece)
+-- replacement, whether the bytes taken and the piece pass 4,294,967,295, and whether the ticket's states are below the slots, as those of
+-- a desk that the calls have made always are
+abbrev pub feedBy : Desk → ℕ → Ticket → List ℕ → Word → Bool → Bool → Bool → Bool → Bool → Feeding
+feedBy d i t table piece false ours same long below = record { desk = d; answer = F.NoTicket }
+feedBy d i t table piece true false same long below = record { desk = d; answer = F.Stale (t .edition) }
+feedBy d i t table piece true true false long below = record { desk = d; answer = F.Fed 0 0 Damaged }
+feedBy d i t table piece true true true true below = record { desk = d; answer = F.Long }
+feedBy d i t table piece true true true false false = record { desk = d; answer = F.Fed 0 0 Damaged }
+feedBy d i t table piece true true true false true = fedBy d i t (readFor d t table piece)
 
 -- with the room that the serial has
 abbrev pub feedIn : Desk → ℕ → List ℕ → Word → Feeding
@@ -54,6 +56,7 @@ feedIn d i table piece =
     (eqb (ticketIn (d .tickets) i .edition .0) (d .edition .0))
     (eqb (slotsIn 1 8 (length table)) (d .slots))
     (ltb 4294967295 (ticketIn (d .tickets) i .taken + length piece))
+    (allBelow (slotsIn 1 8 (length table)) (ticketIn (d .tickets) i .place))
 
 unfoldable pub feedOf : Desk → Serial → List ℕ → Word → Feeding
 feedOf d s table piece = feedIn d (roomOf (d .tickets) s) table piece

@@ -1,5 +1,6 @@
 -- What the desk's calls answer and leave.
 pub mod Rooms
+pub mod Wanted
 pub mod Shared
 pub mod Calls
 pub mod Replace

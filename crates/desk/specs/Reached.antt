@@ -1,4 +1,5 @@
--- How a desk comes about: from a new desk by the calls, and in no other way. It is the one premise that a call of the desk states.
+-- How a desk comes about: from a new desk by the calls, and in no other way. The calls themselves answer over any desk; the theorems of the
+-- demands speak of these.
 use Prim.Native.Nat.{ℕ}
 use mathlib.Core.List.{List}
 use lib.ListN.{length}

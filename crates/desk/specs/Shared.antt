@@ -1,7 +1,7 @@
 -- The list of records that all tickets share: a ring of 256, the oldest at first.
 use Prim.Native.Nat.{ℕ, zero, suc, _+_, _-_, _%_}
 use mathlib.Core.List.{List, [], _∷_, map}
-use lib.ListN.{getD, set, replicate}
+use lib.ListN.{drop, getD, set, replicate}
 use Rattle.matching.specs.Occurrence.{Occurrence}
 use Rattle.desk.specs.Rooms.{serialOf, editionOf, tagOf}
 use Rattle.desk.specs.declared.Serial.{Serial}
@@ -42,3 +42,8 @@ recordOf s e o = record { serial = s; edition = e; end = o .end; tag = tagOf (o 
 
 abbrev pub recordsOf : Serial → Edition → List Occurrence → List Record
 recordsOf s e os = map (recordOf s e) os
+
+-- the first n ends and tags of a run of numbers, a tag being a number of 8 bits
+unfoldable pub paired : ℕ → List ℕ → List Occurrence
+paired zero run = []
+paired (suc n) run = record { end = getD run 0 0; tag = getD run 1 0 % 256 } ∷ paired n (drop 2 run)

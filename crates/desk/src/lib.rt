@@ -1,10 +1,19 @@
 // The desk (document 01, 'The desk'): tickets, one list of records shared by all, the edition and the last serial.
+mod rooms;
+mod shared;
+
 use matching::Stop;
+use rooms::Wanted;
 use tagset::SetFault;
+ghost use mathlib.Core.Path.{_≡_};
+ghost use lib.ListN.{length};
+ghost use Rattle.desk.specs.Calls.{newDesk, openOf, closeOf, takeOf};
 
 // Three kinds of number that can't be passed for one another: an old tag number needs its edition.
 pub struct Serial(pub u32);
+
 pub struct Edition(pub u32);
+
 pub struct Tag(pub u8);
 
 // A room for a ticket: free, or held by a ticket that is open or stale.
@@ -99,4 +108,130 @@ pub struct Closing {
 pub struct Taking {
     pub desk: Desk,
     pub answer: TakeAnswer,
+}
+
+impl Desk {
+    pub const TICKETS: usize = 16;
+
+    pub const RECORDS: usize = 256;
+    // The largest serial; so too the largest edition and the most bytes of a ticket.
+    pub const LAST: u32 = 4294967295;
+
+    pub fn new() -> Self
+        ensures { λ r. ⌜ r ≡ newDesk ⌝ }
+    {
+        let free = Ticket {
+            held: false,
+            serial: Serial(0),
+            edition: Edition(0),
+            taken: 0,
+            place: [0u16; 8],
+        };
+        let none = Record {
+            serial: Serial(0),
+            edition: Edition(0),
+            end: 0,
+            tag: Tag(0),
+        };
+        let records = Records {
+            ring: [none; 256],
+            first: 0,
+            count: 0,
+        };
+        Desk {
+            tickets: [free; 16],
+            records,
+            edition: Edition(0),
+            serial: Serial(0),
+            slots: 0,
+        }
+    }
+
+    pub fn open(self) -> Opening
+        ensures { λ r. ⌜ r ≡ openOf self ⌝ }
+    {
+        let edition = self.edition;
+        let last = self.serial;
+        if edition.0 == 0 {
+            return Opening {
+                desk: self,
+                answer: OpenAnswer::NoSet,
+            };
+        }
+        if last.0 == Desk::LAST {
+            return Opening {
+                desk: self,
+                answer: OpenAnswer::SerialEnd,
+            };
+        }
+        let tickets = self.tickets;
+        let i = rooms::first_room(tickets, Wanted::Free);
+        if Desk::TICKETS <= i {
+            return Opening {
+                desk: self,
+                answer: OpenAnswer::NoRoom,
+            };
+        }
+        let serial = Serial(last.0 + 1);
+        let mut desk = self;
+        desk.tickets[i] = Ticket {
+            held: true,
+            serial,
+            edition,
+            taken: 0,
+            place: [0u16; 8],
+        };
+        desk.serial = serial;
+        Opening {
+            desk,
+            answer: OpenAnswer::Opened(serial),
+        }
+    }
+
+    pub fn close(self, serial: Serial) -> Closing
+        ensures { λ r. ⌜ r ≡ closeOf self serial ⌝ }
+    {
+        let tickets = self.tickets;
+        let i = rooms::first_room(tickets, Wanted::For(serial));
+        if Desk::TICKETS <= i {
+            return Closing {
+                desk: self,
+                answer: CloseAnswer::NoTicket,
+            };
+        }
+        let mut desk = self;
+        desk.tickets[i] = Ticket {
+            held: false,
+            serial: Serial(0),
+            edition: Edition(0),
+            taken: 0,
+            place: [0u16; 8],
+        };
+        Closing {
+            desk,
+            answer: CloseAnswer::Closed,
+        }
+    }
+
+    pub fn take(self) -> Taking
+        ensures { λ r. ⌜ r ≡ takeOf self ⌝ }
+    {
+        let mut records = self.records;
+        if records.count == 0 {
+            return Taking {
+                desk: self,
+                answer: TakeAnswer::Nothing,
+            };
+        }
+        let first = records.first % Desk::RECORDS;
+        let oldest = records.ring[first];
+        records.first = (first + 1) % Desk::RECORDS;
+        records.count = records.count - 1;
+        let mut desk = self;
+        desk.records = records;
+        Taking {
+            desk,
+            answer: TakeAnswer::Taken(oldest),
+        }
+    }
 }

@@ -167,7 +167,7 @@ module _ (n k : ℕ) (set run : List ℕ) (ts : List Word) (b : AsBuilt n k set 
       let part = take (r .taken) piece in
       record {
         found = ap₂ (λ (x y : List Occurrence). x ++ y) (d .found) (h .found ∙ ap (λ (c : ℕ). occurrencesFrom ts (v ++ part) c (w .taken)) (length-append v part))
-          ∙ sym (occurrencesFrom-append ts v (length v) part (w .taken));
+            ∙ sym (occurrencesFrom-append ts v (length v) part (w .taken));
         place = h .place ∙ ap (placeAfter n ts 0 k) (append-assoc v part (w .taken));
         bytes = below-append 256 part (w .taken) (below-take 256 (r .taken) piece hp) (h .bytes);
       }
@@ -227,9 +227,9 @@ module _ (n k n′ k′ : ℕ) (set run run′ : List ℕ) (ts : List Word) (b :
           let hv′ = below-append 256 v part hv (below-take 256 (r .taken) (t .piece) (h .0)) in
           let c : length (v ++ part) ≡ length v + r .taken = length-append v part ∙ ap (λ (m : ℕ). length v + m) (length-take-le (r .taken) (t .piece) (d .part)) in
           let here : inTurn n k (tableOf n k set run) (r .place) (length v + r .taken) turns .taken ≡ inTurn n′ k′ (tableOf n′ k′ set run′) (r′ .place) (length v + r′ .taken) turns .taken =
-            ap₂ (λ (q : List ℕ) (m : ℕ). inTurn n k (tableOf n k set run) q m turns .taken) (d .place) (sym c)
-            ∙ more (v ++ part) hv′
-            ∙ ap₂ (λ (q : List ℕ) (m : ℕ). inTurn n′ k′ (tableOf n′ k′ set run′) q m turns .taken) (ap (λ (m : ℕ). placeAfter n′ ts 0 k′ (v ++ take m (t .piece))) (a .taken) ∙ sym (d′ .place)) (c ∙ ap (λ (m : ℕ). length v + m) (a .taken)) in
+          ap₂ (λ (q : List ℕ) (m : ℕ). inTurn n k (tableOf n k set run) q m turns .taken) (d .place) (sym c)
+          ∙ more (v ++ part) hv′
+          ∙ ap₂ (λ (q : List ℕ) (m : ℕ). inTurn n′ k′ (tableOf n′ k′ set run′) q m turns .taken) (ap (λ (m : ℕ). placeAfter n′ ts 0 k′ (v ++ take m (t .piece))) (a .taken) ∙ sym (d′ .place)) (c ∙ ap (λ (m : ℕ). length v + m) (a .taken)) in
           ap₂ (λ (x y : Word). x ++ y) (ap (λ (m : ℕ). take m (t .piece)) (a .taken)) here
 
   pub alike-taken : (turns : List Turn) → TurnsOfBytes turns

@@ -63,11 +63,14 @@ pub record SameTickets (w v : World) : Type 0 where
 pub second-part : (acts : List Act) → AllBytes acts → (cut : ℕ → List Word)
     → ((k : ℕ) → k < length (run start acts .accounts) → joined (cut k) ≡ accountAt (run start acts) k .bytes)
     → NoneRefused start (serving cut (run start acts)) × SameTickets (run start acts) (run start (serving cut (run start acts)))
-second-part acts b cut cuts = (c .none, record {
-  accounts = c .accounts-are;
-  records = records-same w v (s .inv) (t .inv) (c .accounts-are);
-  states = states-same w v (s .inv) (t .inv) (c .accounts-are) (sym (t .ledger .editions) ∙ ap {B = ℕ} length (c .orders-are) ∙ s .ledger .editions);
-})
+second-part acts b cut cuts = (
+  c .none,
+  record {
+    accounts = c .accounts-are;
+    records = records-same w v (s .inv) (t .inv) (c .accounts-are);
+    states = states-same w v (s .inv) (t .inv) (c .accounts-are) (sym (t .ledger .editions) ∙ ap {B = ℕ} length (c .orders-are) ∙ s .ledger .editions);
+  },
+)
   where
     w : World
     w = run start acts

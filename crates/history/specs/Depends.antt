@@ -21,7 +21,7 @@ use Rattle.desk.specs.declared.Desk.{Desk}
 use Rattle.desk.specs.declared.Opening.{Opening}
 use Rattle.desk.specs.declared.Serial.{Serial}
 use Rattle.desk.specs.declared.Ticket.{Ticket}
-use Rattle.matching.specs.Reading.{read}
+use Rattle.matching.specs.Reading.{allBelow, read}
 use Rattle.matching.specs.Table.{slotsIn}
 use Rattle.matching.specs.Words.{Word, same}
 
@@ -45,20 +45,21 @@ feed-depends d e s a table piece = go (ltb i 16) refl (ltb j 16) refl
     j : ℕ
     j = roomOf (e .tickets) s
 
-    -- by the four tests, of which the first holds
-    tests : (b c l : Bool) (t u : Ticket) → t ≡ u
-        → feedBy d i t table piece true b c l .answer ≡ feedBy e j u table piece true b c l .answer
-    tests false c l t u q = ap (λ (x : Ticket). F.Stale (x .edition)) q
-    tests true false l t u q = refl
-    tests true true true t u q = refl
-    tests true true false t u q =
+    -- by the tests, of which the first holds
+    tests : (b c l f : Bool) (t u : Ticket) → t ≡ u
+        → feedBy d i t table piece true b c l f .answer ≡ feedBy e j u table piece true b c l f .answer
+    tests false c l f t u q = ap (λ (x : Ticket). F.Stale (x .edition)) q
+    tests true false l f t u q = refl
+    tests true true true f t u q = refl
+    tests true true false false t u q = refl
+    tests true true false true t u q =
         ap₂ (λ (x : Ticket) (n : ℕ). let r = read 1 (slotsIn 1 8 (length table)) table (x .place) (x .taken) (256 - n) piece in F.Fed (r .taken) (length (r .found)) (r .stop)) q (a .room)
 
-    same : i < 16 → feedBy d i (ticketIn (d .tickets) i) table piece true (eqb (ticketIn (d .tickets) i .edition .0) (d .edition .0)) (eqb (slotsIn 1 8 (length table)) (d .slots)) (ltb 4294967295 (ticketIn (d .tickets) i .taken + length piece)) .answer
-        ≡ feedBy e j (ticketIn (e .tickets) j) table piece true (eqb (ticketIn (e .tickets) j .edition .0) (e .edition .0)) (eqb (slotsIn 1 8 (length table)) (e .slots)) (ltb 4294967295 (ticketIn (e .tickets) j .taken + length piece)) .answer
+    same : i < 16 → feedBy d i (ticketIn (d .tickets) i) table piece true (eqb (ticketIn (d .tickets) i .edition .0) (d .edition .0)) (eqb (slotsIn 1 8 (length table)) (d .slots)) (ltb 4294967295 (ticketIn (d .tickets) i .taken + length piece)) (allBelow (slotsIn 1 8 (length table)) (ticketIn (d .tickets) i .place)) .answer
+        ≡ feedBy e j (ticketIn (e .tickets) j) table piece true (eqb (ticketIn (e .tickets) j .edition .0) (e .edition .0)) (eqb (slotsIn 1 8 (length table)) (e .slots)) (ltb 4294967295 (ticketIn (e .tickets) j .taken + length piece)) (allBelow (slotsIn 1 8 (length table)) (ticketIn (e .tickets) j .place)) .answer
     same h =
-        tests (eqb (ticketIn (d .tickets) i .edition .0) (d .edition .0)) (eqb (slotsIn 1 8 (length table)) (d .slots)) (ltb 4294967295 (ticketIn (d .tickets) i .taken + length piece)) (ticketIn (d .tickets) i) (ticketIn (e .tickets) j) (a .ticket h)
-        ∙ λ k. feedBy e j (ticketIn (e .tickets) j) table piece true (eqb (a .ticket h k .edition .0) (a .edition k)) (eqb (slotsIn 1 8 (length table)) (a .slots k)) (ltb 4294967295 (a .ticket h k .taken + length piece)) .answer
+        tests (eqb (ticketIn (d .tickets) i .edition .0) (d .edition .0)) (eqb (slotsIn 1 8 (length table)) (d .slots)) (ltb 4294967295 (ticketIn (d .tickets) i .taken + length piece)) (allBelow (slotsIn 1 8 (length table)) (ticketIn (d .tickets) i .place)) (ticketIn (d .tickets) i) (ticketIn (e .tickets) j) (a .ticket h)
+        ∙ λ k. feedBy e j (ticketIn (e .tickets) j) table piece true (eqb (a .ticket h k .edition .0) (a .edition k)) (eqb (slotsIn 1 8 (length table)) (a .slots k)) (ltb 4294967295 (a .ticket h k .taken + length piece)) (allBelow (slotsIn 1 8 (length table)) (a .ticket h k .place)) .answer
 
     go : (x : Bool) → ltb i 16 ≡ x → (y : Bool) → ltb j 16 ≡ y → feedIn d i table piece .answer ≡ feedIn e j table piece .answer
     go true p true q = rw (p, q) (same (ltb-true i 16 p))

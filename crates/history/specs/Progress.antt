@@ -9,7 +9,8 @@ use lib.Dec.{eqb, ltb}
 use lib.ListN.{length}
 use borrow.Author.Tests.{eqb-true, ltb-true}
 use Rattle.desk.specs.Feed.{feedOf}
-use Rattle.desk.specs.Laws.Views.{Feeds, feed-long, feed-no-ticket, feed-other-slots, feed-read, feed-stale, feeds}
+use Rattle.desk.specs.Laws.Good.{good, on-place}
+use Rattle.desk.specs.Laws.Views.{Feeds, feed-long, feed-no-place, feed-no-ticket, feed-other-slots, feed-read, feed-stale, feeds}
 use Rattle.desk.specs.Rooms.{roomOf, ticketIn}
 use Rattle.desk.specs.declared.Desk.{Desk}
 use Rattle.desk.specs.declared.FeedAnswer.{FeedAnswer}
@@ -66,6 +67,7 @@ progress acts b s is-open empty c piece bytes not-long = go _ (feeds d s (w .tab
     go r (feed-stale h e) q = absurd (e (have .1))
     go r (feed-other-slots h e n) q = let g = given w v s h in absurd (n (force w v s (g .0) (g .1) (g .2) h e .slots-are))
     go r (feed-long h e l m) q = absurd (not-long (ap (λ (x : Feeding). x .answer) q))
+    go r (feed-no-place h e l m n) q = absurd (on-place d s (w .table) (good (v .reached)) h e l n)
     go r (feed-read h e l m) q =
         let g = given w v s h in
         let a = accountAt w (g .0) in

@@ -12,7 +12,7 @@ use lib.Dec.{eqb}
 use lib.ListN.{length}
 use Rattle.desk.specs.Calls.{closeOf}
 use Rattle.desk.specs.Feed.{feedOf}
-use Rattle.desk.specs.Laws.Views.{Closes, Feeds, close-done, close-no-ticket, closes, feed-long, feed-no-ticket, feed-other-slots, feed-read, feed-stale, feeds}
+use Rattle.desk.specs.Laws.Views.{Closes, Feeds, close-done, close-no-ticket, closes, feed-long, feed-no-place, feed-no-ticket, feed-other-slots, feed-read, feed-stale, feeds}
 use Rattle.desk.specs.Rooms.{editionOf, roomOf, serialOf, ticketIn}
 use Rattle.desk.specs.declared.Closing.{Closing}
 use Rattle.desk.specs.declared.Feeding.{Feeding}
@@ -68,6 +68,7 @@ module _ (w : World) (v : Inv w) (k : ℕ) (hk : k < length (w .accounts)) where
       go r (feed-stale h e) = absurd (omega (arith, h, closed-room c))
       go r (feed-other-slots h e n) = absurd (omega (arith, h, closed-room c))
       go r (feed-long h e l m) = absurd (omega (arith, h, closed-room c))
+      go r (feed-no-place h e l m n) = absurd (omega (arith, h, closed-room c))
       go r (feed-read h e l m) = absurd (omega (arith, h, closed-room c))
 
   pub closed-close-is : a .closed ≡ true → closeOf (w .desk) s ≡ record { desk = w .desk; answer = C.NoTicket }
@@ -98,6 +99,7 @@ module _ (w : World) (v : Inv w) (k : ℕ) (hk : k < length (w .accounts)) where
       go r (feed-stale h e) = λ d. record { desk = w .desk; answer = F.Stale (record { 0 = room .1 .edition d }) }
       go r (feed-other-slots h e n) = absurd (older e)
       go r (feed-long h e l m) = absurd (older e)
+      go r (feed-no-place h e l m n) = absurd (older e)
       go r (feed-read h e l m) = absurd (older e)
 
   older-is : a .edition < w .edition → Older w a

@@ -9,10 +9,10 @@ use native.Mathlib.Omega.{arith}
 use lib.ListN.{getD, length, length-append, set, take}
 use Rattle.desk.specs.Calls.{takeOf, withTicket}
 use Rattle.desk.specs.Feed.{fedBy, readFor}
-use Rattle.desk.specs.Laws.Good.{good}
+use Rattle.desk.specs.Laws.Good.{good, on-place}
 use Rattle.desk.specs.Laws.Rooms.{for-held}
 use Rattle.desk.specs.Laws.Shared.{held-popped, recordsOf-length}
-use Rattle.desk.specs.Laws.Views.{Closes, Feeds, Opens, Replaces, Takes, close-done, close-no-ticket, closes, feed-long, feed-no-ticket, feed-other-slots, feed-read, feed-stale, feeds, open-done, open-no-room, open-no-set, open-serial-end, opens, replace-done, replace-edition-end, replace-fault, replace-table, replaces, take-nothing, take-oldest, takes}
+use Rattle.desk.specs.Laws.Views.{Closes, Feeds, Opens, Replaces, Takes, close-done, close-no-ticket, closes, feed-long, feed-no-place, feed-no-ticket, feed-other-slots, feed-read, feed-stale, feeds, open-done, open-no-room, open-no-set, open-serial-end, opens, replace-done, replace-edition-end, replace-fault, replace-table, replaces, take-nothing, take-oldest, takes}
 use Rattle.desk.specs.Rooms.{freeTicket, roomOf, ticketIn}
 use Rattle.desk.specs.Shared.{held, recordsOf, round}
 use Rattle.desk.specs.declared.Closing.{Closing}
@@ -61,6 +61,7 @@ adds-feeds w v s piece b = go _ (feeds (w .desk) s (w .table) piece)
     go r (feed-stale h e) = record { records = []; behind = sym (append-nil (stream w)); of-call = refl }
     go r (feed-other-slots h e n) = record { records = []; behind = sym (append-nil (stream w)); of-call = refl }
     go r (feed-long h e l m) = record { records = []; behind = sym (append-nil (stream w)); of-call = refl }
+    go r (feed-no-place h e l m n) = record { records = []; behind = sym (append-nil (stream w)); of-call = refl }
     go r (feed-read h e l m) =
         let g = given w v s h in
         let t = ticketIn (w .desk .tickets) (roomOf (w .desk .tickets) s) in
@@ -110,7 +111,7 @@ oldest-first acts b r e = go _ (takes (run start acts .desk)) refl e
     go : (t : Taking) → Takes d t → takeOf d ≡ t → t .answer ≡ K.Taken r → held (d .records) ≡ r ∷ held (takeOf d .desk .records)
     go t (take-nothing h) q p = absurd (let z : _≡_ {A = ℕ} 0 1 = cc in omega arith)
     go t (take-oldest h) q p =
-        held-popped (d .records) (good (sound acts b .inv .reached) .first) h
+        held-popped (d .records) h
         ∙ ap₂ (λ (x : Record) (l : List Record). x ∷ l) (cc) (ap (λ (y : Taking). held (y .desk .records)) (sym q))
 
 -- ---- how many records there are
@@ -150,6 +151,7 @@ even-feeds w v s piece b e = go _ (feeds (w .desk) s (w .table) piece)
     go r (feed-stale h q) = e
     go r (feed-other-slots h q n) = let g = given w v s h in absurd (n (force w v s (g .0) (g .1) (g .2) h q .slots-are))
     go r (feed-long h q l m) = e
+    go r (feed-no-place h q l m n) = absurd (on-place (w .desk) s (w .table) (good (v .reached)) h q l n)
     go r (feed-read h q l m) =
         let g = given w v s h in
         let t = ticketIn (w .desk .tickets) (roomOf (w .desk .tickets) s) in

@@ -68,7 +68,7 @@ pub record Samples : Type 0 where
 -- THE SAMPLES
 pub samples : Samples
 unfolding same among ends indexOf withWord withPrefixes withTags prefixes states longest next walk vectorBy vector slice reduced anded
-  spot laid slot slots built roomFrom numbersWhere tagsEnding occurAt occurrencesFrom nexts vectorsAt onesOf flagged allBelow halted tookByte read
+    spot laid slot slots built roomFrom numbersWhere tagsEnding occurAt occurrencesFrom nexts vectorsAt onesOf flagged allBelow halted tookByte read
 samples = record {
   sample-1-states = refl;
   sample-1-walk = refl;

@@ -14,7 +14,7 @@ use Rattle.desk.specs.Calls.{newDesk}
 use Rattle.desk.specs.Feed.{fedBy, readFor, readOn}
 use Rattle.desk.specs.Laws.Rooms.{firstRoom-holds, for-held}
 use Rattle.desk.specs.Laws.Shared.{pushed, recordsOf-length}
-use Rattle.desk.specs.Laws.Views.{Closes, Feeds, Opens, Replaces, Takes, close-done, close-no-ticket, closes, feed-long, feed-no-ticket, feed-other-slots, feed-read, feed-stale, feeds, open-done, open-no-room, open-no-set, open-serial-end, opens, replace-done, replace-edition-end, replace-fault, replace-table, replaces, take-nothing, take-oldest, takes}
+use Rattle.desk.specs.Laws.Views.{Closes, Feeds, Opens, Replaces, Takes, close-done, close-no-ticket, closes, feed-long, feed-no-place, feed-no-ticket, feed-other-slots, feed-read, feed-stale, feeds, open-done, open-no-room, open-no-set, open-serial-end, opens, replace-done, replace-edition-end, replace-fault, replace-table, replaces, take-nothing, take-oldest, takes}
 use Rattle.desk.specs.Reached.{Call, Reached, afterCall, byCall, callClose, callFeed, callOpen, callReplace, callTake, fromNew}
 use Rattle.desk.specs.Rooms.{freeTicket, isFor, newTicket, roomOf, serialOf, ticketIn}
 use Rattle.desk.specs.Shared.{recordsOf}
@@ -169,6 +169,7 @@ good-feeds d i table piece r f (feed-no-ticket a) g = g
 good-feeds d i table piece r f (feed-stale a b) g = g
 good-feeds d i table piece r f (feed-other-slots a b c) g = g
 good-feeds d i table piece r f (feed-long a b c l) g = g
+good-feeds d i table piece r f (feed-no-place a b c l n) g = g
 good-feeds d i table piece r f (feed-read a b c l) g = good-fed d i (ticketIn (d .tickets) i) table piece g (f a) (g .places i (f a)) b c
 
 pub good-after : (d : Desk) (c : Call) → GoodDesk d → GoodDesk (afterCall d c)
@@ -183,3 +184,10 @@ good-after d callTake g = good-takes d _ (takes d) g
 pub good : {d : Desk} → Reached d → GoodDesk d
 good fromNew = good-new
 good (byCall r c) = good-after _ c (good r)
+
+-- over the table of the last replacement a ticket in force is never off its states
+pub on-place : (d : Desk) (s : Serial) (table : List ℕ) → GoodDesk d → roomOf (d .tickets) s < 16 → ticketIn (d .tickets) (roomOf (d .tickets) s) .edition .0 ≡ d .edition .0
+    → slotsIn 1 8 (length table) ≡ d .slots → allBelow (slotsIn 1 8 (length table)) (ticketIn (d .tickets) (roomOf (d .tickets) s) .place) ≡ false → ⊥
+on-place d s table g h e l n =
+    let t = ticketIn (d .tickets) (roomOf (d .tickets) s) in
+    not-both (subst (λ (k : ℕ). allBelow k (t .place) ≡ true) (sym l) (g .places (roomOf (d .tickets) s) (for-held s t (room-held d s g h) .0) .below e)) n

@@ -1,17 +1,19 @@
 -- The ring as a list: pushing puts a record behind those held, popping takes the oldest.
 use Prim.Native.Nat.{_%_, _+_, _-_, _<_, _≤_, suc, zero, ℕ}
 use mathlib.Core.List.{List, [], _++_, _∷_, append-assoc, append-nil}
-use mathlib.Core.Path.{_∙_, _≡_, ap, refl, sym}
+use mathlib.Core.Path.{_∙_, _≡_, ap, ap₂, refl, sym}
+use native.Mathlib.Nat.{mod-eq-of-lt}
 use native.Mathlib.Numerals.{add-one}
 use native.Mathlib.Omega.{arith}
 use lib.ListN.{getD, length, length-map, length-set, set}
 use lib.Seq.{getD-set-other, getD-set-same}
-use Rattle.desk.specs.Shared.{held, noRecord, popped, push, pushAll, recordOf, recordsOf, round}
+use Rattle.desk.specs.Shared.{held, noRecord, paired, popped, push, pushAll, recordOf, recordsOf, round}
 use Rattle.desk.specs.declared.Edition.{Edition}
 use Rattle.desk.specs.declared.Record.{Record}
 use Rattle.desk.specs.declared.Records.{Records}
 use Rattle.desk.specs.declared.Serial.{Serial}
-use Rattle.matching.specs.Occurrence.{Occurrence}
+use Rattle.matching.specs.Laws.AnyTable.{Every}
+use Rattle.matching.specs.Occurrence.{Occurrence, flat}
 
 round-wrap : (l : List Record) (h n : ℕ) → round l (h % 256) n ≡ round l h n
 unfolding round
@@ -55,18 +57,17 @@ held-pushAll q (r ∷ rs) e h =
     held-pushAll (push q r) rs (simp length-set e) (omega arith)
     ∙ (rw (held-push q r e (omega arith), append-assoc))
 
-round-pop : (l : List Record) (h n : ℕ) → h < 256 → round l h (suc n) ≡ getD l h noRecord ∷ round l ((h + 1) % 256) n
+round-pop : (l : List Record) (h n : ℕ) → round l h (suc n) ≡ getD l (h % 256) noRecord ∷ round l ((h + 1) % 256) n
 unfolding round
-round-pop l h n p =
-    let e : h % 256 ≡ h = omega arith in
+round-pop l h n =
     let w : round l ((h + 1) % 256) n ≡ round l (suc h) n = round-wrap l (h + 1) n ∙ ap (λ (k : ℕ). round l k n) (add-one h) in
-    rw (e, w)
+    rw w
 
 -- what is held is the oldest record, and behind it what is held without it
-pub held-popped : (q : Records) → q .first < 256 → 0 < q .count → held q ≡ getD (q .ring) (q .first) noRecord ∷ held (popped q)
-held-popped q h p =
+pub held-popped : (q : Records) → 0 < q .count → held q ≡ getD (q .ring) (q .first % 256) noRecord ∷ held (popped q)
+held-popped q p =
     let c : q .count ≡ suc (q .count - 1) = omega arith in
-    ap (λ (n : ℕ). round (q .ring) (q .first) n) c ∙ round-pop (q .ring) (q .first) (q .count - 1) h
+    ap (λ (n : ℕ). round (q .ring) (q .first) n) c ∙ round-pop (q .ring) (q .first) (q .count - 1)
 
 pub held-length : (q : Records) → length (held q) ≡ q .count
 unfolding round
@@ -91,3 +92,9 @@ pushed q (r ∷ rs) =
 
 pub recordsOf-length : (s : Serial) (e : Edition) (os : List Occurrence) → length (recordsOf s e os) ≡ length os
 recordsOf-length s e os = length-map os (recordOf s e)
+
+-- a run that begins with occurrences, two numbers each, has them
+pub paired-flat : (os : List Occurrence) (rest : List ℕ) → Every (λ o. o .tag < 256) os → paired (length os) (flat os ++ rest) ≡ os
+unfolding paired flat
+paired-flat [] rest h = refl
+paired-flat (o ∷ os) rest h = ap₂ (λ (t : ℕ) (l : List Occurrence). record { end = o .end; tag = t } ∷ l) (mod-eq-of-lt (h .0)) (paired-flat os rest (h .1))

@@ -5,7 +5,7 @@ use Rattle.desk.specs.declared.FeedAnswer.the-variants as F
 use Rattle.desk.specs.declared.CloseAnswer.the-variants as C
 use Rattle.desk.specs.declared.TakeAnswer.the-variants as K
 use Rattle.tables.specs.declared.Built.the-variants as B
-use Prim.Native.Nat.{_+_, _<_, _≤_, suc, zero, ℕ}
+use Prim.Native.Nat.{_%_, _+_, _<_, _≤_, suc, zero, ℕ}
 use mathlib.Core.Bool.{Bool, false, true}
 use mathlib.Core.List.{List}
 use mathlib.Core.Path.{_≡_, refl}
@@ -26,6 +26,7 @@ use Rattle.desk.specs.declared.Opening.{Opening}
 use Rattle.desk.specs.declared.Replacing.{Replacing}
 use Rattle.desk.specs.declared.Serial.{Serial}
 use Rattle.desk.specs.declared.Taking.{Taking}
+use Rattle.matching.specs.Reading.{allBelow}
 use Rattle.matching.specs.Table.{slotsIn}
 use Rattle.matching.specs.Words.{Word}
 use Rattle.matching.specs.declared.Stop.the-variants.{Damaged}
@@ -68,7 +69,7 @@ closes d s = go _ refl
 pub data Takes (d : Desk) : Taking → Type 0 where
   take-nothing : d .records .count ≡ 0 → Takes d (record { desk = d; answer = K.Nothing })
   take-oldest : 0 < d .records .count
-      → Takes d (record { desk = withRecords d (popped (d .records)); answer = K.Taken (getD (d .records .ring) (d .records .first) noRecord) })
+      → Takes d (record { desk = withRecords d (popped (d .records)); answer = K.Taken (getD (d .records .ring) (d .records .first % 256) noRecord) })
 
 pub takes : (d : Desk) → Takes d (takeOf d)
 unfolding takeOf
@@ -109,20 +110,25 @@ pub data Feeds (d : Desk) (i : ℕ) (table : List ℕ) (piece : Word) : Feeding 
       → Feeds d i table piece (record { desk = d; answer = F.Fed 0 0 Damaged })
   feed-long : i < 16 → ticketIn (d .tickets) i .edition .0 ≡ d .edition .0 → slotsIn 1 8 (length table) ≡ d .slots
       → 4294967295 < ticketIn (d .tickets) i .taken + length piece → Feeds d i table piece (record { desk = d; answer = F.Long })
+  feed-no-place : i < 16 → ticketIn (d .tickets) i .edition .0 ≡ d .edition .0 → slotsIn 1 8 (length table) ≡ d .slots
+      → ticketIn (d .tickets) i .taken + length piece ≤ 4294967295 → allBelow (slotsIn 1 8 (length table)) (ticketIn (d .tickets) i .place) ≡ false
+      → Feeds d i table piece (record { desk = d; answer = F.Fed 0 0 Damaged })
   feed-read : i < 16 → ticketIn (d .tickets) i .edition .0 ≡ d .edition .0 → slotsIn 1 8 (length table) ≡ d .slots
       → ticketIn (d .tickets) i .taken + length piece ≤ 4294967295
       → Feeds d i table piece (fedBy d i (ticketIn (d .tickets) i) (readFor d (ticketIn (d .tickets) i) table piece))
 
 pub feeds-in : (d : Desk) (i : ℕ) (table : List ℕ) (piece : Word) → Feeds d i table piece (feedIn d i table piece)
-feeds-in d i table piece = go _ _ _ _ refl refl refl refl
+feeds-in d i table piece = go _ _ _ _ _ refl refl refl refl refl
   where
-    go : (a b c e : Bool) → ltb i 16 ≡ a → eqb (ticketIn (d .tickets) i .edition .0) (d .edition .0) ≡ b → eqb (slotsIn 1 8 (length table)) (d .slots) ≡ c
-        → ltb 4294967295 (ticketIn (d .tickets) i .taken + length piece) ≡ e → Feeds d i table piece (feedBy d i (ticketIn (d .tickets) i) table piece a b c e)
-    go false b c e p q r u = feed-no-ticket (ltb-false _ _ p)
-    go true false c e p q r u = feed-stale (ltb-true _ _ p) (eqb-false _ _ q)
-    go true true false e p q r u = feed-other-slots (ltb-true _ _ p) (eqb-true _ _ q) (eqb-false _ _ r)
-    go true true true true p q r u = feed-long (ltb-true _ _ p) (eqb-true _ _ q) (eqb-true _ _ r) (ltb-true _ _ u)
-    go true true true false p q r u = feed-read (ltb-true _ _ p) (eqb-true _ _ q) (eqb-true _ _ r) (ltb-false _ _ u)
+    go : (a b c e f : Bool) → ltb i 16 ≡ a → eqb (ticketIn (d .tickets) i .edition .0) (d .edition .0) ≡ b → eqb (slotsIn 1 8 (length table)) (d .slots) ≡ c
+        → ltb 4294967295 (ticketIn (d .tickets) i .taken + length piece) ≡ e → allBelow (slotsIn 1 8 (length table)) (ticketIn (d .tickets) i .place) ≡ f
+        → Feeds d i table piece (feedBy d i (ticketIn (d .tickets) i) table piece a b c e f)
+    go false b c e f p q r u z = feed-no-ticket (ltb-false _ _ p)
+    go true false c e f p q r u z = feed-stale (ltb-true _ _ p) (eqb-false _ _ q)
+    go true true false e f p q r u z = feed-other-slots (ltb-true _ _ p) (eqb-true _ _ q) (eqb-false _ _ r)
+    go true true true true f p q r u z = feed-long (ltb-true _ _ p) (eqb-true _ _ q) (eqb-true _ _ r) (ltb-true _ _ u)
+    go true true true false false p q r u z = feed-no-place (ltb-true _ _ p) (eqb-true _ _ q) (eqb-true _ _ r) (ltb-false _ _ u) z
+    go true true true false true p q r u z = feed-read (ltb-true _ _ p) (eqb-true _ _ q) (eqb-true _ _ r) (ltb-false _ _ u)
 
 pub feeds : (d : Desk) (s : Serial) (table : List ℕ) (piece : Word) → Feeds d (roomOf (d .tickets) s) table piece (feedOf d s table piece)
 unfolding feedOf

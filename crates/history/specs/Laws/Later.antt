@@ -8,7 +8,8 @@ use native.Mathlib.Nat.{le-of-eq, le-trans}
 use native.Mathlib.Omega.{arith}
 use lib.ListN.{getD, length, set}
 use borrow.Author.Needs.{needs}
-use Rattle.desk.specs.Laws.Views.{Closes, Feeds, Opens, Replaces, close-done, close-no-ticket, closes, feed-long, feed-no-ticket, feed-other-slots, feed-read, feed-stale, feeds, open-done, open-no-room, open-no-set, open-serial-end, opens, replace-done, replace-edition-end, replace-fault, replace-table, replaces}
+use Rattle.desk.specs.Laws.Good.{good, on-place}
+use Rattle.desk.specs.Laws.Views.{Closes, Feeds, Opens, Replaces, close-done, close-no-ticket, closes, feed-long, feed-no-place, feed-no-ticket, feed-other-slots, feed-read, feed-stale, feeds, open-done, open-no-room, open-no-set, open-serial-end, opens, replace-done, replace-edition-end, replace-fault, replace-table, replaces}
 use Rattle.desk.specs.Rooms.{roomOf, ticketIn}
 use Rattle.desk.specs.declared.Closing.{Closing}
 use Rattle.desk.specs.declared.Desk.{Desk}
@@ -109,6 +110,7 @@ goes-feeds w s piece v = go _ (feeds (w .desk) s (w .table) piece)
     go r (feed-stale h e) = goes-same w _ refl (omega arith)
     go r (feed-other-slots h e n) = let g = given w v s h in absurd (n (force w v s (g .0) (g .1) (g .2) h e .slots-are))
     go r (feed-long h e l m) = goes-same w _ refl (omega arith)
+    go r (feed-no-place h e l m n) = absurd (on-place (w .desk) s (w .table) (good (v .reached)) h e l n)
     go r (feed-read h e l m) = let g = given w v s h in goes-changed w v s (g .0) (g .1) (g .2) (grown _) _ (read-on h e (g .0) (g .1) (g .2) _)
 
 goes-replaces : (w : World) (bytes run : List ℕ) → Inv w → Goes w (step w (actReplace bytes run))
@@ -132,15 +134,15 @@ goes-then u w v g h = record {
   accounts = le-trans (g .accounts) (h .accounts);
   edition = le-trans (g .edition) (h .edition);
   each = λ k l.
-    let a = g .each k l in
-    let b = h .each k (le-trans l (g .accounts)) in
-    record {
-      serial = b .serial ∙ a .serial;
-      edition = b .edition ∙ a .edition;
-      tags = b .tags ∙ a .tags;
-      closed = λ c. b .closed (a .closed c);
-      bytes = λ c. b .bytes (still k l c a) ∙ a .bytes c;
-    };
+      let a = g .each k l in
+      let b = h .each k (le-trans l (g .accounts)) in
+      record {
+        serial = b .serial ∙ a .serial;
+        edition = b .edition ∙ a .edition;
+        tags = b .tags ∙ a .tags;
+        closed = λ c. b .closed (a .closed c);
+        bytes = λ c. b .bytes (still k l c a) ∙ a .bytes c;
+      };
 }
   where
     still : (k : ℕ) → k < length (u .accounts) → (accountAt u k .closed ≡ true) ⊎ (accountAt u k .edition < u .edition) → Later (u .edition) (accountAt u k) (accountAt w k)

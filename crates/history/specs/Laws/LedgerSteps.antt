@@ -10,8 +10,9 @@ use lib.ListN.{length, set, take}
 use borrow.Author.Needs.{needs}
 use Rattle.desk.specs.Calls.{withRecords, withTicket}
 use Rattle.desk.specs.Feed.{fedBy, readFor, readOn}
+use Rattle.desk.specs.Laws.Good.{good, on-place}
 use Rattle.desk.specs.Laws.Rooms.{for-held, held-set}
-use Rattle.desk.specs.Laws.Views.{Closes, Feeds, Replaces, Takes, close-done, close-no-ticket, closes, feed-long, feed-no-ticket, feed-other-slots, feed-read, feed-stale, feeds, replace-done, replace-edition-end, replace-fault, replace-table, replaces, take-nothing, take-oldest, takes}
+use Rattle.desk.specs.Laws.Views.{Closes, Feeds, Replaces, Takes, close-done, close-no-ticket, closes, feed-long, feed-no-place, feed-no-ticket, feed-other-slots, feed-read, feed-stale, feeds, replace-done, replace-edition-end, replace-fault, replace-table, replaces, take-nothing, take-oldest, takes}
 use Rattle.desk.specs.Replace.{underNext}
 use Rattle.desk.specs.Rooms.{editionOf, freeTicket, roomOf, ticketIn, ticketsHeld}
 use Rattle.desk.specs.Shared.{popped}
@@ -30,6 +31,7 @@ use Rattle.history.specs.Laws.LedgerOpening.{ledger-opens}
 use Rattle.history.specs.Laws.Seats.{Seat, no-seat, room-for, seated}
 use Rattle.history.specs.Laws.Snoc.{snoc-each, snoc-last, snoc-length, snoc-old}
 use Rattle.history.specs.Laws.Steps.{inv-step}
+use Rattle.history.specs.Served.{accepts}
 use Rattle.matching.specs.Reading.{Outcome}
 use Rattle.matching.specs.Table.{slotsIn}
 use Rattle.matching.specs.Words.{Below, Word}
@@ -103,6 +105,7 @@ ledger-feeds w s piece v g = go _ (feeds (w .desk) s (w .table) piece)
     go r (feed-stale h e) = g
     go r (feed-other-slots h e n) = let z = given w v s h in absurd (n (force w v s (z .0) (z .1) (z .2) h e .slots-are))
     go r (feed-long h e l m) = g
+    go r (feed-no-place h e l m n) = absurd (on-place (w .desk) s (w .table) (good (v .reached)) h e l n)
     go r (feed-read h e l m) =
         let z = given w v s h in
         let x = readFor (w .desk) (ticketIn (w .desk .tickets) (roomOf (w .desk .tickets) s)) (w .table) piece in

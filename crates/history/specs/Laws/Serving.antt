@@ -114,7 +114,7 @@ at-fedWhole (suc most) w pre x t b small short enough =
         (subst (λ (p : Word). Becomes w (actFeed n b ∷ []) (w .orders) (pre ++ grown p x ∷ [])) (take-all c b (le-of-eq (sym (q .1)))) (f .becomes))
     cases more-feeds (inr q) =
         let rest = more-feeds w2 pre x1 t2 (drop c b) (below-drop 256 c b small)
-          (omega (arith, short, length-append (x .bytes) (take c b), length-take-le c b (omega (arith, q .1)), length-drop c b, q .1)) (inr (left (q .2) (q .1) enough, e .empty)) in
+        (omega (arith, short, length-append (x .bytes) (take c b), length-take-le c b (omega (arith, q .1)), length-drop c b, q .1)) (inr (left (q .2) (q .1) enough, e .empty)) in
         let o2 : w2 .orders ≡ w .orders = e .becomes .orders-are ∙ f .becomes .orders-are in
         let whole : grown (drop c b) x1 ≡ grown b x = grown-twice x (take c b) (drop c b) ∙ ap (λ (p : Word). grown p x) (take-append-drop c b) in
         subst (λ (y : Stop). Becomes w (actFeed n b ∷ afterFull (F.Fed c (f .records) y) more w1) (w .orders) (pre ++ grown b x ∷ [])) (sym (q .0))

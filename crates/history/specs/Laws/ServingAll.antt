@@ -63,10 +63,10 @@ module _ (os : List Order) (fine : AllFine os) (few : length os ≤ 4294967295) 
       → Becomes w (called (take (e - w .edition) (drop (w .edition) os))) (take e os) pre
   to-edition w pre s e low high =
       let p = replaced-all (take (e - w .edition) (drop (w .edition) os)) w (s .sound) (some-fine (w .edition) (e - w .edition) (omega arith))
-        (omega (arith, few, length-take-le (e - w .edition) (drop (w .edition) os) (omega (arith, length-drop (w .edition) os)))) in
+      (omega (arith, few, length-take-le (e - w .edition) (drop (w .edition) os) (omega (arith, length-drop (w .edition) os)))) in
       let sum : w .edition + (e - w .edition) ≡ e = omega arith in
       let q : w .orders ++ take (e - w .edition) (drop (w .edition) os) ≡ take e os =
-        ap {B = List Order} (λ (l : List Order). l ++ take (e - w .edition) (drop (w .edition) os)) (s .orders) ∙ take-more (w .edition) (e - w .edition) os ∙ ap (λ (n : ℕ). take n os) sum in
+      ap {B = List Order} (λ (l : List Order). l ++ take (e - w .edition) (drop (w .edition) os)) (s .orders) ∙ take-more (w .edition) (e - w .edition) os ∙ ap (λ (n : ℕ). take n os) sum in
       subst₂ (λ (l : List Order) (x : List Account). Becomes w (called (take (e - w .edition) (drop (w .edition) os))) l x) q (s .accounts) p
 
   -- a world in which so many replacements were made is under that edition, and under its tags
@@ -178,7 +178,7 @@ module _ (os : List Order) (fine : AllFine os) (few : length os ≤ 4294967295) 
       let so : SoFar w1 (pre ++ a ∷ []) = record { sound = s1; accounts = one .accounts-are; orders = one .orders-are ∙ ap (λ (n : ℕ). take n os) (sym e1); low = omega (arith, e1, r .upto) } in
       let n : length (pre ++ a ∷ []) ≡ suc k = snoc-length pre a noAccount in
       let more = at-servedAll L ready rising cut cuts rest w1 (pre ++ a ∷ []) (q ∙ sym (append-assoc pre (a ∷ []) rest)) so
-        (λ j l h. omega (arith, e1, rising k j (omega (arith, l, n)) h, ap (λ (x : Account). x .edition) here)) in
+      (λ j l h. omega (arith, e1, rising k j (omega (arith, l, n)) h, ap (λ (x : Account). x .edition) here)) in
       becomes-append w (servedOne os a (cut k) w) (servedAll os cut (suc k) rest w1) _ _ _ _ one
       (subst (λ (j : ℕ). Becomes w1 (servedAll os cut j rest w1) os L) n more)
 

@@ -10,8 +10,9 @@ use native.Mathlib.Omega.{arith}
 use lib.ListN.{getD, length, replicate, set, take}
 use Rattle.desk.specs.Calls.{closeOf, openOf, takeOf}
 use Rattle.desk.specs.Feed.{feedOf, readFor}
+use Rattle.desk.specs.Laws.Good.{good, on-place}
 use Rattle.desk.specs.Laws.Rooms.{firstRoom-le, full-iff}
-use Rattle.desk.specs.Laws.Views.{Closes, Feeds, Opens, Takes, close-done, close-no-ticket, closes, feed-long, feed-no-ticket, feed-other-slots, feed-read, feed-stale, feeds, open-done, open-no-room, open-no-set, open-serial-end, opens, take-nothing, take-oldest, takes}
+use Rattle.desk.specs.Laws.Views.{Closes, Feeds, Opens, Takes, close-done, close-no-ticket, closes, feed-long, feed-no-place, feed-no-ticket, feed-other-slots, feed-read, feed-stale, feeds, open-done, open-no-room, open-no-set, open-serial-end, opens, take-nothing, take-oldest, takes}
 use Rattle.desk.specs.Numbers.{closeNumber, feedNumber, openNumber, takeNumber}
 use Rattle.desk.specs.Rooms.{freeRoom, isFree, roomOf, serialOf, ticketIn}
 use Rattle.desk.specs.declared.Closing.{Closing}
@@ -177,14 +178,15 @@ fed-one w s pre x e c now b small short = go _ (feeds (w .desk) (serialOf (x .se
     go z (feed-stale h p) q = absurd (p current)
     go z (feed-other-slots h p l) q = absurd (l slots)
     go z (feed-long h p l m) q = absurd (omega (arith, m, seat .1 .taken, short))
+    go z (feed-no-place h p l m n) q = absurd (on-place (w .desk) (serialOf (x .serial)) (w .table) (good (s .inv .reached)) h p l n)
     go z (feed-read h p l m) q = record {
       count = r .taken;
       records = length (r .found);
       stop = r .stop;
       answer = ap (λ (y : Feeding). y .answer) q;
       becomes = becomes-one w (actFeed (serialOf (x .serial)) b) (w .orders) (pre ++ grown (take (r .taken) b) x ∷ [])
-        (ap (λ (y : Feeding). feedNumber (y .answer)) q) small
-        (ap (λ (y : Feeding). feeding w (serialOf (x .serial)) b (y .desk) (y .answer) .orders) q)
-        (ap (λ (y : Feeding). feeding w (serialOf (x .serial)) b (y .desk) (y .answer) .accounts) q ∙ last-changed w s pre x e (grown (take (r .taken) b)));
+          (ap (λ (y : Feeding). feedNumber (y .answer)) q) small
+          (ap (λ (y : Feeding). feeding w (serialOf (x .serial)) b (y .desk) (y .answer) .orders) q)
+          (ap (λ (y : Feeding). feeding w (serialOf (x .serial)) b (y .desk) (y .answer) .accounts) q ∙ last-changed w s pre x e (grown (take (r .taken) b)));
       stops = stops;
     }

@@ -5,7 +5,8 @@ use Prim.Native.Nat.{ℕ}
 use mathlib.Core.List.{List, [], _∷_}
 use lib.ListN.{length, set}
 use borrow.Author.Needs.{needs}
-use Rattle.desk.specs.Laws.Views.{Feeds, Replaces, feed-long, feed-no-ticket, feed-other-slots, feed-read, feed-stale, feeds, replace-done, replace-edition-end, replace-fault, replace-table, replaces}
+use Rattle.desk.specs.Laws.Good.{good, on-place}
+use Rattle.desk.specs.Laws.Views.{Feeds, Replaces, feed-long, feed-no-place, feed-no-ticket, feed-other-slots, feed-read, feed-stale, feeds, replace-done, replace-edition-end, replace-fault, replace-table, replaces}
 use Rattle.desk.specs.Reached.{Reached, byCall, callFeed, callReplace}
 use Rattle.desk.specs.Rooms.{roomOf}
 use Rattle.desk.specs.declared.Feeding.{Feeding}
@@ -30,6 +31,7 @@ inv-feeds w s piece b v = go _ (feeds (w .desk) s (w .table) piece) (byCall (v .
     go r (feed-stale h e) p = v
     go r (feed-other-slots h e n) p = let g = given w v s h in absurd (n (force w v s (g .0) (g .1) (g .2) h e .slots-are))
     go r (feed-long h e l m) p = v
+    go r (feed-no-place h e l m n) p = absurd (on-place (w .desk) s (w .table) (good (v .reached)) h e l n)
     go r (feed-read h e l m) p = let g = given w v s h in inv-read w v s (g .0) (g .1) (g .2) piece b h e m p
 
 pub inv-replaces : (w : World) (bytes run : List ℕ) → Below 256 bytes → Inv w → Inv (step w (actReplace bytes run))

@@ -1,4 +1,5 @@
 -- A taking keeps the stream of records: the oldest of those held goes behind those taken out.
+use Prim.Native.Nat.{_%_}
 use mathlib.Core.List.{List, [], _++_, _∷_, append-assoc, append-nil}
 use mathlib.Core.Path.{_∙_, _≡_, ap, refl, sym}
 use lib.ListN.{getD}
@@ -15,8 +16,8 @@ use Rattle.history.specs.Laws.Invariant.{Inv, inv-stream}
 pub stream-takes : (w : World) (r : Taking) → GoodDesk (w .desk) → Takes (w .desk) r → stream (taking w (r .desk) (r .answer)) ≡ stream w
 stream-takes w r g (take-nothing e) = ap {B = List Record} (λ (l : List Record). l ++ held (w .desk .records)) (append-nil (w .out))
 stream-takes w r g (take-oldest h) =
-    append-assoc (w .out) (getD (w .desk .records .ring) (w .desk .records .first) noRecord ∷ []) (held (popped (w .desk .records)))
-    ∙ ap {B = List Record} (λ (l : List Record). w .out ++ l) (sym (held-popped (w .desk .records) (g .first) h))
+    append-assoc (w .out) (getD (w .desk .records .ring) (w .desk .records .first % 256) noRecord ∷ []) (held (popped (w .desk .records)))
+    ∙ ap {B = List Record} (λ (l : List Record). w .out ++ l) (sym (held-popped (w .desk .records) h))
 
 pub inv-takes : (w : World) → Inv w → Inv (step w actTake)
 inv-takes w v = go _ (takes (w .desk)) (byCall (v .reached) callTake)

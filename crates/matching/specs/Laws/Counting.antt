@@ -66,15 +66,15 @@ sum-raise (suc n) x k f g h e = go (ℕ-discrete x n) (λ hx. sum-raise n x k f 
 
 -- ---- each word has one length
 
-abbrev pub Every : (Word → Type 0) → List Word → Type 0
-Every P [] = Unit {0}
-Every P (p ∷ ps) = P p × Every P ps
+abbrev pub EachWord : (Word → Type 0) → List Word → Type 0
+EachWord P [] = Unit {0}
+EachWord P (p ∷ ps) = P p × EachWord P ps
 
-pub every-of : (P : Word → Type 0) (ps : List Word) → ((v : Word) → among v ps ≡ true → P v) → Every P ps
+pub every-of : (P : Word → Type 0) (ps : List Word) → ((v : Word) → among v ps ≡ true → P v) → EachWord P ps
 every-of P [] h = tt
 every-of P (p ∷ ps) h = (h p (among-head p ps), every-of P ps (λ v e. h v (among-tail v p ps e)))
 
-pub by-depth : (D : ℕ) (ps : List Word) → Every (λ p. length p < D) ps → length ps ≡ sumTo D (λ d. tally (deep d) ps)
+pub by-depth : (D : ℕ) (ps : List Word) → EachWord (λ p. length p < D) ps → length ps ≡ sumTo D (λ d. tally (deep d) ps)
 unfolding tally deep
 by-depth D [] h = sym (sum-zero D (λ d. tally (deep d) []) (λ i. refl))
 by-depth D (p ∷ ps) h = omega (arith, by-depth D ps (h .1), sum-raise D (length p) 1 (λ d. tally (deep d) ps) (λ d. tally (deep d) (p ∷ ps)) (h .0) (λ d. refl))
@@ -174,13 +174,13 @@ after-distinct c ((x ∷ w) ∷ ps) d = go (decided (eqb x c)) (after-distinct c
     go (inl e) ih = rw (after-hit c x w ps e) (is-false (among w (after c ps)) (λ h. not-both (subst (λ (y : ℕ). among (y ∷ w) ps ≡ true) (sym (eqb-eq x c e)) (among-after c w ps h)) (d .0)), ih)
     go (inr e) ih = rw (after-miss c x w ps e) ih
 
-after-below : (r c : ℕ) (ps : List Word) → Every (Below r) ps → Every (Below r) (after c ps)
+after-below : (r c : ℕ) (ps : List Word) → EachWord (Below r) ps → EachWord (Below r) (after c ps)
 unfolding after
 after-below r c [] h = tt
 after-below r c ([] ∷ ps) h = after-below r c ps (h .1)
 after-below r c ((x ∷ w) ∷ ps) h = go (decided (eqb x c)) (after-below r c ps (h .1))
   where
-    go : (eqb x c ≡ true) ⊎ (eqb x c ≡ false) → Every (Below r) (after c ps) → Every (Below r) (after c ((x ∷ w) ∷ ps))
+    go : (eqb x c ≡ true) ⊎ (eqb x c ≡ false) → EachWord (Below r) (after c ps) → EachWord (Below r) (after c ((x ∷ w) ∷ ps))
     go (inl e) ih = rw (after-hit c x w ps e) (h .0 .1, ih)
     go (inr e) ih = rw (after-miss c x w ps e) ih
 
@@ -188,7 +188,7 @@ deep-suc : (d x : ℕ) (w : Word) → deep (suc d) (x ∷ w) ≡ deep d w
 unfolding deep
 deep-suc d x w = eqb·suc-suc (length w) d
 
-after-tally : (r d : ℕ) (ps : List Word) → Every (Below r) ps → tally (deep (suc d)) ps ≡ sumTo r (λ c. tally (deep d) (after c ps))
+after-tally : (r d : ℕ) (ps : List Word) → EachWord (Below r) ps → tally (deep (suc d)) ps ≡ sumTo r (λ c. tally (deep d) (after c ps))
 unfolding tally after
 after-tally r d [] h = sym (sum-zero r (λ c. tally (deep d) (after c [])) (λ c. refl))
 after-tally r d ([] ∷ ps) h = omega (arith, after-tally r d ps (h .1), deep-no (suc d) [] (λ e. omega arith))
@@ -216,7 +216,7 @@ empties [] d = omega arith
 empties ([] ∷ ps) d = omega (arith, no-empties ps (d .0), one-le (deep 0 []))
 empties ((x ∷ w) ∷ ps) d = omega (arith, empties ps (d .1), deep-no 0 (x ∷ w) (λ e. omega arith))
 
-pub tally-words : (d r : ℕ) (ps : List Word) → Distinct ps → Every (Below r) ps → tally (deep d) ps ≤ r ^ d
+pub tally-words : (d r : ℕ) (ps : List Word) → Distinct ps → EachWord (Below r) ps → tally (deep d) ps ≤ r ^ d
 tally-words zero r ps e h = le-trans (empties ps e) (le-of-eq (sym (pow-zero r)))
 tally-words (suc d) r ps e h =
     le-trans (le-of-eq (after-tally r d ps h))

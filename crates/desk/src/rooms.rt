@@ -1,0 +1,41 @@
+// Looking for a room: a free one, or that of a serial.
+use crate::Serial;
+use crate::Ticket;
+ghost use mathlib.Core.Path.{_≡_};
+ghost use Rattle.desk.specs.Rooms.{firstRoom};
+ghost use Rattle.desk.specs.Wanted.{isWanted};
+
+pub enum Wanted {
+    Free,
+    For(Serial),
+}
+
+pub fn is_wanted(t: Ticket, wanted: Wanted) -> bool
+    ensures { λ r. ⌜ r ≡ isWanted wanted t ⌝ }
+{
+    match wanted {
+        Wanted::Free => !t.held,
+        Wanted::For(serial) => {
+            let its = t.serial;
+            if t.held {
+                return its.0 == serial.0;
+            }
+            false
+        }
+    }
+}
+
+// The first room that is wanted; 16 where none is.
+pub fn first_room(tickets: [Ticket; 16], wanted: Wanted) -> usize
+    ensures { λ r. ⌜ r ≡ firstRoom (isWanted wanted) tickets ⌝ }
+{
+    let mut i = 0;
+    while i < 16 {
+        let t = tickets[i];
+        if is_wanted(t, wanted) {
+            return i;
+        }
+        i += 1;
+    }
+    i
+}
