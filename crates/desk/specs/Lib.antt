@@ -8,3 +8,4 @@ pub mod Feed
 pub mod Reached
 pub mod Numbers
 pub mod Laws
+pub mod Refusals

@@ -1,4 +1,5 @@
 -- What is to be believed, in the order of document 01; the laws of it stand under Laws.
+pub mod Refusal
 pub mod Words
 pub mod Machine
 pub mod Slicing
