@@ -136,10 +136,51 @@ after-a-replacement acts more b c k h old =
     let t = sound-run w more c s in
     (l .bytes (inr old), l .closed, older-is (run w more) (t .inv) k (le-trans h (g .accounts)) (omega (arith, old, l .edition, g .edition)))
 
--- NO TICKET, exactly: after any history a feed or a close of a serial is refused so exactly if no opening answered it or it was closed
-pub no-ticket : (acts : List Act) → AllBytes acts → (s : Serial)
-    → (closeOf (run start acts .desk) s .answer ≡ C.NoTicket) ↔ ((k : ℕ) → k < length (run start acts .accounts) → accountAt (run start acts) k .serial ≡ s .0 → accountAt (run start acts) k .closed ≡ true)
-no-ticket acts b s = (there, back)
+-- a closed ticket is NO TICKET for ever, after any more calls and over every table
+pub closed-for-ever : (acts more : List Act) → AllBytes acts → AllBytes more → (k : ℕ) → k < length (run start acts .accounts) → accountAt (run start acts) k .closed ≡ true
+    → (table : List ℕ) (piece : Word)
+    → (feedOf (run (run start acts) more .desk) (serialOf (suc k)) table piece ≡ record { desk = run (run start acts) more .desk; answer = F.NoTicket })
+    × (closeOf (run (run start acts) more .desk) (serialOf (suc k)) ≡ record { desk = run (run start acts) more .desk; answer = C.NoTicket })
+closed-for-ever acts more b c k h shut-now table piece =
+    let w = run start acts in
+    let s = sound acts b in
+    let v = run w more in
+    let g = goes-run w more c (s .inv) in
+    let t = sound-run w more c s .inv in
+    let hk = le-trans h (g .accounts) in
+    let e : serialOf (accountAt v k .serial) ≡ serialOf (suc k) = λ d. record { 0 = t .numbered k hk d } in
+    let z = g .each k h .closed shut-now in
+    (subst (λ (n : Serial). feedOf (v .desk) n table piece ≡ record { desk = v .desk; answer = F.NoTicket }) e (closed-feed-is v t k hk z table piece),
+    subst (λ (n : Serial). closeOf (v .desk) n ≡ record { desk = v .desk; answer = C.NoTicket }) e (closed-close-is v t k hk z))
+
+-- a serial that no opening answered, or whose ticket was closed
+abbrev pub Gone : World → Serial → Type 0
+Gone w s = (k : ℕ) → k < length (w .accounts) → accountAt w k .serial ≡ s .0 → accountAt w k .closed ≡ true
+
+-- such a serial has no room, and any other has one
+gone-iff : (w : World) → Inv w → (s : Serial) → (16 ≤ roomOf (w .desk .tickets) s) ↔ Gone w s
+gone-iff w v s = (there, back)
+  where
+    there : 16 ≤ roomOf (w .desk .tickets) s → Gone w s
+    there h k hk q = go (accountAt w k .closed) refl
+      where
+        go : (x : Bool) → accountAt w k .closed ≡ x → accountAt w k .closed ≡ true
+        go true c = c
+        go false c = absurd (omega (arith, h, subst (λ (n : Serial). roomOf (w .desk .tickets) n < 16) (λ d. record { 0 = q d }) (open-room w v k hk c .0)))
+
+    back : Gone w s → 16 ≤ roomOf (w .desk .tickets) s
+    back f = go (known-or-not w v (s .0))
+      where
+        go : ((k : ℕ) × (k < length (w .accounts)) × (s .0 ≡ suc k)) ⊎ Stranger (length (w .accounts)) (s .0) → 16 ≤ roomOf (w .desk .tickets) s
+        go (inl z) =
+            let q : accountAt w (z .0) .serial ≡ s .0 = v .numbered (z .0) (z .1) ∙ sym (z .2) in
+            subst (λ (n : Serial). 16 ≤ roomOf (w .desk .tickets) n) (λ d. record { 0 = q d }) (closed-room w v (z .0) (z .1) (f (z .0) (z .1) q))
+        go (inr z) = v .strangers s z
+
+-- NO TICKET, exactly: after any history a close of a serial, or a feed of it over any table, is refused so exactly if no opening answered the
+-- serial or its ticket was closed
+pub no-ticket-close : (acts : List Act) → AllBytes acts → (s : Serial) → (closeOf (run start acts .desk) s .answer ≡ C.NoTicket) ↔ Gone (run start acts) s
+no-ticket-close acts b s = (λ e. gone-iff w v s .0 (there _ (closes (w .desk) s) e), λ g. back _ (closes (w .desk) s) (gone-iff w v s .1 g))
   where
     w : World
     w = run start acts
@@ -147,25 +188,36 @@ no-ticket acts b s = (there, back)
     v : Inv w
     v = sound acts b .inv
 
-    there : closeOf (w .desk) s .answer ≡ C.NoTicket → (k : ℕ) → k < length (w .accounts) → accountAt w k .serial ≡ s .0 → accountAt w k .closed ≡ true
-    there e k h q = go (accountAt w k .closed) refl
-      where
-        go : (x : Bool) → accountAt w k .closed ≡ x → accountAt w k .closed ≡ true
-        go true c = c
-        go false c = absurd (let m : closeOf (w .desk) s .answer ≡ C.Closed = subst (λ (n : Serial). closeOf (w .desk) n .answer ≡ C.Closed) (λ d. record { 0 = q d }) (open-close-is w v k h c) in let z : _≡_ {A = ℕ} 0 1 = cc in omega arith)
+    there : (r : Closing) → Closes (w .desk) s r → r .answer ≡ C.NoTicket → 16 ≤ roomOf (w .desk .tickets) s
+    there r (close-no-ticket h) e = h
+    there r (close-done i p h) e = absurd (let z : _≡_ {A = ℕ} 0 1 = cc in omega arith)
 
-    back : ((k : ℕ) → k < length (w .accounts) → accountAt w k .serial ≡ s .0 → accountAt w k .closed ≡ true) → closeOf (w .desk) s .answer ≡ C.NoTicket
-    back f = go (known-or-not w v (s .0))
-      where
-        none : 16 ≤ roomOf (w .desk .tickets) s → closeOf (w .desk) s .answer ≡ C.NoTicket
-        none h = cases _ (closes (w .desk) s)
-          where
-            cases : (r : Closing) → Closes (w .desk) s r → r .answer ≡ C.NoTicket
-            cases r (close-no-ticket q) = refl
-            cases r (close-done i e q) = absurd (omega (arith, h, e, q))
+    back : (r : Closing) → Closes (w .desk) s r → 16 ≤ roomOf (w .desk .tickets) s → r .answer ≡ C.NoTicket
+    back r (close-no-ticket h) g = refl
+    back r (close-done i p h) g = absurd (omega (arith, g, p, h))
 
-        go : ((k : ℕ) × (k < length (w .accounts)) × (s .0 ≡ suc k)) ⊎ Stranger (length (w .accounts)) (s .0) → closeOf (w .desk) s .answer ≡ C.NoTicket
-        go (inl z) =
-            let q : accountAt w (z .0) .serial ≡ s .0 = v .numbered (z .0) (z .1) ∙ sym (z .2) in
-            none (subst (λ (n : Serial). 16 ≤ roomOf (w .desk .tickets) n) (λ d. record { 0 = q d }) (closed-room w v (z .0) (z .1) (f (z .0) (z .1) q)))
-        go (inr z) = none (v .strangers s z)
+pub no-ticket-feed : (acts : List Act) → AllBytes acts → (s : Serial) (table : List ℕ) (piece : Word)
+    → (feedOf (run start acts .desk) s table piece .answer ≡ F.NoTicket) ↔ Gone (run start acts) s
+no-ticket-feed acts b s table piece = (λ e. gone-iff w v s .0 (there _ (feeds (w .desk) s table piece) e), λ g. back _ (feeds (w .desk) s table piece) (gone-iff w v s .1 g))
+  where
+    w : World
+    w = run start acts
+
+    v : Inv w
+    v = sound acts b .inv
+
+    there : (r : Feeding) → Feeds (w .desk) (roomOf (w .desk .tickets) s) table piece r → r .answer ≡ F.NoTicket → 16 ≤ roomOf (w .desk .tickets) s
+    there r (feed-no-ticket h) e = h
+    there r (feed-stale h x) e = absurd (let z : _≡_ {A = ℕ} 0 1 = cc in omega arith)
+    there r (feed-other-slots h x l) e = absurd (let z : _≡_ {A = ℕ} 0 1 = cc in omega arith)
+    there r (feed-long h x l m) e = absurd (let z : _≡_ {A = ℕ} 0 1 = cc in omega arith)
+    there r (feed-no-place h x l m y) e = absurd (let z : _≡_ {A = ℕ} 0 1 = cc in omega arith)
+    there r (feed-read h x l m) e = absurd (let z : _≡_ {A = ℕ} 0 1 = cc in omega arith)
+
+    back : (r : Feeding) → Feeds (w .desk) (roomOf (w .desk .tickets) s) table piece r → 16 ≤ roomOf (w .desk .tickets) s → r .answer ≡ F.NoTicket
+    back r (feed-no-ticket h) g = refl
+    back r (feed-stale h x) g = absurd (omega (arith, g, h))
+    back r (feed-other-slots h x l) g = absurd (omega (arith, g, h))
+    back r (feed-long h x l m) g = absurd (omega (arith, g, h))
+    back r (feed-no-place h x l m y) g = absurd (omega (arith, g, h))
+    back r (feed-read h x l m) g = absurd (omega (arith, g, h))

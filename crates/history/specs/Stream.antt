@@ -49,19 +49,20 @@ pub record Adds (w v : World) (a : Act) : Type 0 where
   pub behind : stream v ≡ stream w ++ records
   pub of-call : AddedBy a records
 
-none-added : (w v : World) → stream v ≡ stream w → stream v ≡ stream w ++ []
-none-added w v e = e ∙ sym (append-nil (stream w))
+-- a call that adds none
+quiet : (w v : World) (a : Act) → stream v ≡ stream w → AddedBy a [] → Adds w v a
+quiet w v a e h = record { records = []; behind = e ∙ sym (append-nil (stream w)); of-call = h }
 
 adds-feeds : (w : World) → Inv w → (s : Serial) (piece : Word) → Below 256 piece → Adds w (step w (actFeed s piece)) (actFeed s piece)
 unfolding recordsFor
 adds-feeds w v s piece b = go _ (feeds (w .desk) s (w .table) piece)
   where
     go : (r : Feeding) → Feeds (w .desk) (roomOf (w .desk .tickets) s) (w .table) piece r → Adds w (feeding w s piece (r .desk) (r .answer)) (actFeed s piece)
-    go r (feed-no-ticket h) = record { records = []; behind = sym (append-nil (stream w)); of-call = refl }
-    go r (feed-stale h e) = record { records = []; behind = sym (append-nil (stream w)); of-call = refl }
-    go r (feed-other-slots h e n) = record { records = []; behind = sym (append-nil (stream w)); of-call = refl }
-    go r (feed-long h e l m) = record { records = []; behind = sym (append-nil (stream w)); of-call = refl }
-    go r (feed-no-place h e l m n) = record { records = []; behind = sym (append-nil (stream w)); of-call = refl }
+    go r (feed-no-ticket h) = quiet w _ _ refl refl
+    go r (feed-stale h e) = quiet w _ _ refl refl
+    go r (feed-other-slots h e n) = quiet w _ _ refl refl
+    go r (feed-long h e l m) = quiet w _ _ refl refl
+    go r (feed-no-place h e l m n) = quiet w _ _ refl refl
     go r (feed-read h e l m) =
         let g = given w v s h in
         let t = ticketIn (w .desk .tickets) (roomOf (w .desk .tickets) s) in
@@ -77,24 +78,24 @@ adds : (w : World) → Inv w → (a : Act) → OfBytes a → Adds w (step w a) a
 adds w v (actReplace set run) b = go _ (replaces (w .desk) set (length run))
   where
     go : (r : Replacing) → Replaces (w .desk) set (length run) r → Adds w (replacing w set run (r .desk) (r .answer)) (actReplace set run)
-    go r (replace-fault fault e) = record { records = []; behind = sym (append-nil (stream w)); of-call = refl }
-    go r (replace-table machine short e) = record { records = []; behind = sym (append-nil (stream w)); of-call = refl }
-    go r (replace-edition-end count e h) = record { records = []; behind = sym (append-nil (stream w)); of-call = refl }
-    go r (replace-done count e h) = record { records = []; behind = sym (append-nil (stream w)); of-call = refl }
+    go r (replace-fault fault e) = quiet w _ _ refl refl
+    go r (replace-table machine short e) = quiet w _ _ refl refl
+    go r (replace-edition-end count e h) = quiet w _ _ refl refl
+    go r (replace-done count e h) = quiet w _ _ refl refl
 adds w v actOpen b = go _ (opens (w .desk))
   where
     go : (r : Opening) → Opens (w .desk) r → Adds w (opening w (r .desk) (r .answer)) actOpen
-    go r (open-no-set x) = record { records = []; behind = sym (append-nil (stream w)); of-call = refl }
-    go r (open-serial-end x y) = record { records = []; behind = sym (append-nil (stream w)); of-call = refl }
-    go r (open-no-room x y z) = record { records = []; behind = sym (append-nil (stream w)); of-call = refl }
-    go r (open-done x y i e h) = record { records = []; behind = sym (append-nil (stream w)); of-call = refl }
+    go r (open-no-set x) = quiet w _ _ refl refl
+    go r (open-serial-end x y) = quiet w _ _ refl refl
+    go r (open-no-room x y z) = quiet w _ _ refl refl
+    go r (open-done x y i e h) = quiet w _ _ refl refl
 adds w v (actFeed s piece) b = adds-feeds w v s piece b
 adds w v (actClose s) b = go _ (closes (w .desk) s)
   where
     go : (r : Closing) → Closes (w .desk) s r → Adds w (closing w s (r .desk) (r .answer)) (actClose s)
-    go r (close-no-ticket h) = record { records = []; behind = sym (append-nil (stream w)); of-call = refl }
-    go r (close-done i e h) = record { records = []; behind = sym (append-nil (stream w)); of-call = refl }
-adds w v actTake b = record { records = []; behind = none-added w (step w actTake) (stream-takes w _ (good (v .reached)) (takes (w .desk))); of-call = refl }
+    go r (close-no-ticket h) = quiet w _ _ refl refl
+    go r (close-done i e h) = quiet w _ _ refl refl
+adds w v actTake b = quiet w (step w actTake) actTake (stream-takes w _ (good (v .reached)) (takes (w .desk))) refl
 
 -- each call of a history adds its records behind all those there were: taken out or held, none is lost, and none changes its place
 pub stream-grows : (acts : List Act) → AllBytes acts → (a : Act) → OfBytes a → Adds (run start acts) (step (run start acts) a) a
