@@ -22,7 +22,7 @@ readFor d t table piece = read 1 (slotsIn 1 8 (length table)) table (t .place) (
 
 -- the ticket after a reading
 abbrev pub readOn : Ticket → Outcome → Ticket
-readOn t r = record { held = true; serial = t .serial; edition = t .edition; taken = t .taken + r .taken; place = r .place }
+readOn t r = record { serial = t .serial; edition = t .edition; taken = t .taken + r .taken; place = r .place }
 
 -- the desk after a reading for the ticket in room i: the records have the ticket's serial and edition
 abbrev pub fedBy : Desk → ℕ → Ticket → Outcome → Feeding

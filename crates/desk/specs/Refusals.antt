@@ -15,12 +15,12 @@ use lib.Dec.{eqb, eqb-refl, ltb, ltb→lt, lt→ltb}
 use lib.ListN.{length, set}
 use Rattle.desk.specs.Calls.{closeOf, openOf, takeOf}
 use Rattle.desk.specs.Feed.{fedBy, feedOf, readFor, readOn}
-use Rattle.desk.specs.Laws.Rooms.{firstRoom-holds, firstRoom-le, for-held, full-iff}
+use Rattle.desk.specs.Laws.Rooms.{firstRoom-holds, firstRoom-le, full-iff}
 use Rattle.desk.specs.Laws.Views.{Closes, Feeds, Opens, Replaces, Takes, close-done, close-no-ticket, closes, feed-long, feed-no-place, feed-no-ticket, feed-other-slots, feed-read, feed-stale, feeds, open-done, open-no-room, open-no-set, open-serial-end, opens, replace-done, replace-edition-end, replace-fault, replace-table, replaces, take-nothing, take-oldest, takes}
 use Rattle.desk.specs.Numbers.{closeNumber, feedNumber, openNumber, replaceNumber, replaceValues, takeNumber}
 use Rattle.desk.specs.Replace.{replaceOf, replacedRun}
 use Rattle.desk.specs.Rooms.{freeRoom, isFor, isFree, roomOf, ticketIn, ticketsHeld}
-use Rattle.desk.specs.Shared.{held, pushAll, recordsOf}
+use Rattle.desk.specs.Shared.{pushAll, recordsOf}
 use Rattle.desk.specs.declared.Closing.{Closing}
 use Rattle.desk.specs.declared.Desk.{Desk}
 use Rattle.desk.specs.declared.Feeding.{Feeding}
@@ -172,7 +172,7 @@ feed-idle d s table piece records stop wide q = go _ (feeds d s table piece) q
     same r h z k =
         let m = firstRoom-holds (isFor s) (d .tickets) (le-trans h (le-of-eq (sym wide))) in
         let n : t .taken + r .taken ≡ t .taken = omega (arith, z) in
-        let same-ticket : readOn t r ≡ t = λ x. record { held = sym (for-held s t m .0) x; serial = t .serial; edition = t .edition; taken = n x; place = k .0 x } in
+        let same-ticket : readOn t r ≡ t = λ x. record { serial = t .serial; edition = t .edition; taken = n x; place = k .0 x } in
         ap₂ (λ (l : List Ticket) (os : List Occurrence). record { tickets = l; records = pushAll (d .records) (recordsOf (t .serial) (t .edition) os); edition = d .edition; serial = d .serial; slots = d .slots })
         (ap (set (d .tickets) i) same-ticket ∙ set-back (d .tickets) i) (k .1)
       where

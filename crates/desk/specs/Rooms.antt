@@ -1,11 +1,11 @@
 -- The desk's 16 rooms: which a new ticket takes, and which a serial has.
-use Prim.Native.Nat.{ℕ, suc, _+_}
-use mathlib.Core.Bool.{Bool, true, false, not, _&&_, cond}
+use Prim.Native.Nat.{_+_, suc, ℕ}
+use mathlib.Core.Bool.{Bool, _&&_, cond, not}
 use mathlib.Core.List.{List, [], _∷_}
 use lib.Dec.{eqb}
 use lib.ListN.{getD, replicate}
-use Rattle.desk.specs.declared.Serial.{Serial}
 use Rattle.desk.specs.declared.Edition.{Edition}
+use Rattle.desk.specs.declared.Serial.{Serial}
 use Rattle.desk.specs.declared.Tag.{Tag}
 use Rattle.desk.specs.declared.Ticket.{Ticket}
 
@@ -20,15 +20,15 @@ tagOf n = record { 0 = n }
 
 -- a free room
 abbrev pub freeTicket : Ticket
-freeTicket = record { held = false; serial = serialOf 0; edition = editionOf 0; taken = 0; place = replicate 8 0 }
+freeTicket = record { serial = serialOf 0; edition = editionOf 0; taken = 0; place = replicate 8 0 }
 
 -- a ticket just opened: at place 0 with no byte taken
 abbrev pub newTicket : Serial → Edition → Ticket
-newTicket s e = record { held = true; serial = s; edition = e; taken = 0; place = replicate 8 0 }
+newTicket s e = record { serial = s; edition = e; taken = 0; place = replicate 8 0 }
 
 -- what stands past the last room
 abbrev pub noTicket : Ticket
-noTicket = record { held = false; serial = serialOf 0; edition = editionOf 0; taken = 0; place = [] }
+noTicket = record { serial = serialOf 0; edition = editionOf 0; taken = 0; place = [] }
 
 abbrev pub ticketIn : List Ticket → ℕ → Ticket
 ticketIn rooms i = getD rooms i noTicket
@@ -38,11 +38,15 @@ unfoldable pub firstRoom : (Ticket → Bool) → List Ticket → ℕ
 firstRoom g [] = 0
 firstRoom g (t ∷ rooms) = cond (g t) 0 (suc (firstRoom g rooms))
 
+-- no opening gives serial 0, so it says that a room is free; any other, that the ticket with that serial, open or stale, holds it
 abbrev pub isFree : Ticket → Bool
-isFree t = not (t .held)
+isFree t = eqb (t .serial .0) 0
+
+abbrev pub isHeld : Ticket → Bool
+isHeld t = not (isFree t)
 
 abbrev pub isFor : Serial → Ticket → Bool
-isFor s t = t .held && eqb (t .serial .0) (s .0)
+isFor s t = isHeld t && eqb (t .serial .0) (s .0)
 
 -- the lowest free room, 16 where all are held
 abbrev pub freeRoom : List Ticket → ℕ
@@ -55,4 +59,4 @@ roomOf rooms s = firstRoom (isFor s) rooms
 -- how many tickets are open or stale
 unfoldable pub ticketsHeld : List Ticket → ℕ
 ticketsHeld [] = 0
-ticketsHeld (t ∷ rooms) = cond (t .held) 1 0 + ticketsHeld rooms
+ticketsHeld (t ∷ rooms) = cond (isHeld t) 1 0 + ticketsHeld rooms

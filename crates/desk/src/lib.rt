@@ -16,9 +16,8 @@ pub struct Edition(pub u32);
 
 pub struct Tag(pub u8);
 
-// A room for a ticket: free, or held by a ticket that is open or stale.
+// A room for a ticket: free where the serial is 0, which no opening gives; else held by a ticket that is open or stale.
 pub struct Ticket {
-    pub held: bool,
     pub serial: Serial,
     pub edition: Edition,
     pub taken: u32,
@@ -121,7 +120,6 @@ impl Desk {
         ensures { λ r. ⌜ r ≡ newDesk ⌝ }
     {
         let free = Ticket {
-            held: false,
             serial: Serial(0),
             edition: Edition(0),
             taken: 0,
@@ -175,7 +173,6 @@ impl Desk {
         let serial = Serial(last.0 + 1);
         let mut desk = self;
         desk.tickets[i] = Ticket {
-            held: true,
             serial,
             edition,
             taken: 0,
@@ -201,7 +198,6 @@ impl Desk {
         }
         let mut desk = self;
         desk.tickets[i] = Ticket {
-            held: false,
             serial: Serial(0),
             edition: Edition(0),
             taken: 0,

@@ -13,14 +13,14 @@ pub enum Wanted {
 pub fn is_wanted(t: Ticket, wanted: Wanted) -> bool
     ensures { λ r. ⌜ r ≡ isWanted wanted t ⌝ }
 {
+    let its = t.serial;
     match wanted {
-        Wanted::Free => !t.held,
+        Wanted::Free => its.0 == 0,
         Wanted::For(serial) => {
-            let its = t.serial;
-            if t.held {
-                return its.0 == serial.0;
+            if its.0 == 0 {
+                return false;
             }
-            false
+            its.0 == serial.0
         }
     }
 }

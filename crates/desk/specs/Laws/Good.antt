@@ -16,7 +16,7 @@ use Rattle.desk.specs.Laws.Rooms.{firstRoom-holds, for-held}
 use Rattle.desk.specs.Laws.Shared.{pushed, recordsOf-length}
 use Rattle.desk.specs.Laws.Views.{Closes, Feeds, Opens, Replaces, Takes, close-done, close-no-ticket, closes, feed-long, feed-no-place, feed-no-ticket, feed-other-slots, feed-read, feed-stale, feeds, open-done, open-no-room, open-no-set, open-serial-end, opens, replace-done, replace-edition-end, replace-fault, replace-table, replaces, take-nothing, take-oldest, takes}
 use Rattle.desk.specs.Reached.{Call, Reached, afterCall, byCall, callClose, callFeed, callOpen, callReplace, callTake, fromNew}
-use Rattle.desk.specs.Rooms.{freeTicket, isFor, newTicket, roomOf, serialOf, ticketIn}
+use Rattle.desk.specs.Rooms.{freeTicket, isFor, isHeld, newTicket, roomOf, serialOf, ticketIn}
 use Rattle.desk.specs.Shared.{recordsOf}
 use Rattle.desk.specs.declared.Closing.{Closing}
 use Rattle.desk.specs.declared.Desk.{Desk}
@@ -50,9 +50,9 @@ pub record GoodDesk (d : Desk) : Type 0 where
   pub first : d .records .first < 256
   pub count : d .records .count ≤ 256
   pub slots : 0 < d .edition .0 → 0 < d .slots
-  pub places : (i : ℕ) → ticketIn (d .tickets) i .held ≡ true → Placed (d .edition .0) (d .slots) (ticketIn (d .tickets) i)
+  pub places : (i : ℕ) → isHeld (ticketIn (d .tickets) i) ≡ true → Placed (d .edition .0) (d .slots) (ticketIn (d .tickets) i)
 
-none-held : (n i : ℕ) → ticketIn (replicate n freeTicket) i .held ≡ false
+none-held : (n i : ℕ) → isHeld (ticketIn (replicate n freeTicket) i) ≡ false
 none-held zero i = refl
 none-held (suc n) zero = refl
 none-held (suc n) (suc i) = none-held n i
@@ -68,8 +68,8 @@ good-new = record {
 }
 
 -- what holds of each ticket that is held, after one room was set
-pub set-places : (P : Ticket → Type 0) (rooms : List Ticket) (i : ℕ) (t : Ticket) → ((j : ℕ) → ticketIn rooms j .held ≡ true → P (ticketIn rooms j))
-    → (t .held ≡ true → P t) → (j : ℕ) → ticketIn (set rooms i t) j .held ≡ true → P (ticketIn (set rooms i t) j)
+pub set-places : (P : Ticket → Type 0) (rooms : List Ticket) (i : ℕ) (t : Ticket) → ((j : ℕ) → isHeld (ticketIn rooms j) ≡ true → P (ticketIn rooms j))
+    → (isHeld t ≡ true → P t) → (j : ℕ) → isHeld (ticketIn (set rooms i t) j) ≡ true → P (ticketIn (set rooms i t) j)
 set-places P [] i t f g j h = absurd (false≢true h)
 set-places P (r ∷ rooms) zero t f g zero h = g h
 set-places P (r ∷ rooms) zero t f g (suc j) h = f (suc j) h
@@ -138,7 +138,7 @@ good-replaces d bytes len r (replace-done count e l) g = record {
   places = λ i h. let p = g .places i h in record { of = omega (arith, p .of); below = λ q. absurd (omega (arith, p .of)); width = p .width };
 }
 
-pub good-fed : (d : Desk) (i : ℕ) (t : Ticket) (table : List ℕ) (piece : Word) → GoodDesk d → t .held ≡ true → Placed (d .edition .0) (d .slots) t
+pub good-fed : (d : Desk) (i : ℕ) (t : Ticket) (table : List ℕ) (piece : Word) → GoodDesk d → isHeld t ≡ true → Placed (d .edition .0) (d .slots) t
     → t .edition .0 ≡ d .edition .0 → slotsIn 1 8 (length table) ≡ d .slots → GoodDesk (fedBy d i t (readFor d t table piece) .desk)
 good-fed d i t table piece g h p e s =
     let r = readFor d t table piece in
@@ -163,7 +163,7 @@ good-fed d i t table piece g h p e s =
 pub room-held : (d : Desk) (s : Serial) → GoodDesk d → roomOf (d .tickets) s < 16 → isFor s (ticketIn (d .tickets) (roomOf (d .tickets) s)) ≡ true
 room-held d s g h = firstRoom-holds (isFor s) (d .tickets) (omega (arith, g .rooms))
 
-good-feeds : (d : Desk) (i : ℕ) (table : List ℕ) (piece : Word) (r : Feeding) → (i < 16 → ticketIn (d .tickets) i .held ≡ true)
+good-feeds : (d : Desk) (i : ℕ) (table : List ℕ) (piece : Word) (r : Feeding) → (i < 16 → isHeld (ticketIn (d .tickets) i) ≡ true)
     → Feeds d i table piece r → GoodDesk d → GoodDesk (r .desk)
 good-feeds d i table piece r f (feed-no-ticket a) g = g
 good-feeds d i table piece r f (feed-stale a b) g = g

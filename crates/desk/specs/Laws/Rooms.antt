@@ -1,6 +1,6 @@
 -- The laws of rooms: of the first room that a test holds of, and of setting one.
 use Prim.Native.Nat.{_+_, _<_, _≤_, suc, zero, ℕ}
-use mathlib.Core.Bool.{Bool, cond, false, false≢true, not, true, true≢false}
+use mathlib.Core.Bool.{Bool, cond, false, false≢true, not, true}
 use mathlib.Core.List.{List, [], _∷_}
 use mathlib.Core.Logic.{_↔_}
 use mathlib.Core.Path.{_≡_, ap, refl}
@@ -10,10 +10,11 @@ use native.Mathlib.Omega.{arith}
 use lib.Dec.{eqb, eqb-refl}
 use lib.ListN.{drop, length, set}
 use lib.Seq.{drop-cons, drop-length, getD-set-other, getD-set-same}
-use Rattle.desk.specs.Rooms.{firstRoom, freeRoom, isFor, isFree, noTicket, ticketIn, ticketsHeld}
+use Rattle.desk.specs.Rooms.{firstRoom, freeRoom, isFor, isFree, isHeld, newTicket, noTicket, serialOf, ticketIn, ticketsHeld}
+use Rattle.desk.specs.declared.Edition.{Edition}
 use Rattle.desk.specs.declared.Serial.{Serial}
 use Rattle.desk.specs.declared.Ticket.{Ticket}
-use Rattle.matching.specs.Laws.Bools.{and-both, and-l, and-r, is-true, not-both}
+use Rattle.matching.specs.Laws.Bools.{and-both, and-l, and-r, is-false, is-true, not-both}
 use Rattle.matching.specs.Laws.Vectors.{one-lt}
 use Rattle.matching.specs.Laws.Words.{eqb-eq}
 
@@ -130,28 +131,24 @@ set-other rooms i j t n = getD-set-other rooms i j t noTicket n
 -- ---- tickets
 
 -- a ticket that is for a serial is held and has it
-pub for-held : (s : Serial) (t : Ticket) → isFor s t ≡ true → (t .held ≡ true) × (t .serial .0 ≡ s .0)
-for-held s t e = (and-l (t .held) (eqb (t .serial .0) (s .0)) e, eqb-eq (t .serial .0) (s .0) (and-r (t .held) (eqb (t .serial .0) (s .0)) e))
+pub for-held : (s : Serial) (t : Ticket) → isFor s t ≡ true → (isHeld t ≡ true) × (t .serial .0 ≡ s .0)
+for-held s t e = (and-l (isHeld t) (eqb (t .serial .0) (s .0)) e, eqb-eq (t .serial .0) (s .0) (and-r (isHeld t) (eqb (t .serial .0) (s .0)) e))
 
-pub held-for : (s : Serial) (t : Ticket) → t .held ≡ true → t .serial .0 ≡ s .0 → isFor s t ≡ true
-held-for s t h e = and-both (t .held) (eqb (t .serial .0) (s .0)) h (is-true (eqb (t .serial .0) (s .0)) (rw e (eqb-refl (s .0))))
+pub held-for : (s : Serial) (t : Ticket) → isHeld t ≡ true → t .serial .0 ≡ s .0 → isFor s t ≡ true
+held-for s t h e = and-both (isHeld t) (eqb (t .serial .0) (s .0)) h (is-true (eqb (t .serial .0) (s .0)) (rw e (eqb-refl (s .0))))
 
-pub free-held : (t : Ticket) → isFree t ≡ true → t .held ≡ false
-free-held t e = go (t .held) refl e
-  where
-    go : (b : Bool) → t .held ≡ b → not b ≡ true → t .held ≡ false
-    go true p q = absurd (false≢true q)
-    go false p q = p
+pub free-held : (t : Ticket) → isFree t ≡ true → isHeld t ≡ false
+free-held t e = ap not e
 
-pub held-free : (t : Ticket) → isFree t ≡ false → t .held ≡ true
-held-free t e = go (t .held) refl e
-  where
-    go : (b : Bool) → t .held ≡ b → not b ≡ false → t .held ≡ true
-    go true p q = p
-    go false p q = absurd (true≢false q)
+pub held-free : (t : Ticket) → isFree t ≡ false → isHeld t ≡ true
+held-free t e = ap not e
+
+-- a ticket just opened holds its room
+pub new-held : (n : ℕ) (e : Edition) → isHeld (newTicket (serialOf (n + 1)) e) ≡ true
+new-held n e = ap not (is-false (eqb (n + 1) 0) (λ q. omega (arith, eqb-eq (n + 1) 0 q)))
 
 -- a ticket that is held has a room
-pub held-inside : (rooms : List Ticket) (i : ℕ) → ticketIn rooms i .held ≡ true → i < length rooms
+pub held-inside : (rooms : List Ticket) (i : ℕ) → isHeld (ticketIn rooms i) ≡ true → i < length rooms
 held-inside [] i h = absurd (false≢true h)
 held-inside (t ∷ rooms) zero h = omega arith
 held-inside (t ∷ rooms) (suc i) h = omega (arith, held-inside rooms i h)
@@ -161,22 +158,22 @@ held-inside (t ∷ rooms) (suc i) h = omega (arith, held-inside rooms i h)
 pub held-le : (rooms : List Ticket) → ticketsHeld rooms ≤ length rooms
 unfolding ticketsHeld
 held-le [] = omega arith
-held-le (t ∷ rooms) = omega (arith, held-le rooms, one-lt (t .held))
+held-le (t ∷ rooms) = omega (arith, held-le rooms, one-lt (isHeld t))
 
 -- no room is free exactly if every one is held
 pub full-iff : (rooms : List Ticket) → (freeRoom rooms ≡ length rooms) ↔ (ticketsHeld rooms ≡ length rooms)
 unfolding firstRoom ticketsHeld
 full-iff [] = (λ e. refl, λ e. refl)
-full-iff (t ∷ rooms) = go (t .held) (full-iff rooms)
+full-iff (t ∷ rooms) = go (isFree t) (full-iff rooms)
   where
     go : (b : Bool) → (freeRoom rooms ≡ length rooms) ↔ (ticketsHeld rooms ≡ length rooms)
-        → (cond (not b) 0 (suc (freeRoom rooms)) ≡ suc (length rooms)) ↔ (cond b 1 0 + ticketsHeld rooms ≡ suc (length rooms))
-    go true f = (λ e. omega (arith, f .0 (omega arith)), λ e. omega (arith, f .1 (omega arith)))
-    go false f = (λ e. absurd (omega arith), λ e. absurd (omega (arith, held-le rooms)))
+        → (cond b 0 (suc (freeRoom rooms)) ≡ suc (length rooms)) ↔ (cond (not b) 1 0 + ticketsHeld rooms ≡ suc (length rooms))
+    go false f = (λ e. omega (arith, f .0 (omega arith)), λ e. omega (arith, f .1 (omega arith)))
+    go true f = (λ e. absurd (omega arith), λ e. absurd (omega (arith, held-le rooms)))
 
 -- setting a room changes how many are held by what it changes there
 pub held-set : (rooms : List Ticket) (i : ℕ) (t : Ticket) → i < length rooms
-    → ticketsHeld (set rooms i t) + cond (ticketIn rooms i .held) 1 0 ≡ ticketsHeld rooms + cond (t .held) 1 0
+    → ticketsHeld (set rooms i t) + cond (isHeld (ticketIn rooms i)) 1 0 ≡ ticketsHeld rooms + cond (isHeld t) 1 0
 unfolding ticketsHeld
 held-set [] i t h = absurd (omega arith)
 held-set (r ∷ rooms) zero t h = omega arith

@@ -1,12 +1,11 @@
 -- What a feed that reads leaves.
 use Prim.Native.Nat.{_+_, _-_, _<_, _≤_, suc, zero, ℕ}
-use mathlib.Core.Bool.{Bool, _&&_, true}
+use mathlib.Core.Bool.{true}
 use mathlib.Core.List.{List, [], _++_, _∷_, append-assoc, append-nil}
 use mathlib.Core.Logic.{inl, inr}
 use mathlib.Core.Path.{_∙_, _≡_, ap, ap₂, refl, subst, sym}
 use native.Mathlib.Nat.{le-of-eq, le-trans, zero-add}
 use native.Mathlib.Omega.{arith}
-use lib.Dec.{eqb}
 use lib.ListN.{length, length-append, set, take}
 use lib.Seq.{length-take-le}
 use Rattle.desk.specs.Feed.{fedBy, readFor, readOn}
@@ -83,7 +82,7 @@ module _ (w : World) (v : Inv w) (s : Serial) (k : ℕ) (hk : k < length (w .acc
   for-s = mine w v s k hk ek hi same
 
   read-for : isFor s (readOn t r) ≡ true
-  read-for = held-for s (readOn t r) refl (for-held s t for-s .1)
+  read-for = for-s
 
   -- the records have the account's serial and edition
   labels : rs ≡ recordsOf (serialOf (suc k)) (editionOf (a .edition)) (r .found)
@@ -159,7 +158,7 @@ module _ (w : World) (v : Inv w) (s : Serial) (k : ℕ) (hk : k < length (w .acc
     kept = each (λ j x. Kept (w .edition) (w .tags) x) (λ j h n. v .kept j h) kept;
     seats = each (λ j x. Seat (set rooms i (readOn t r)) x)
         (λ j h n. seat-kept rooms (wide w v) i (readOn t r) hi (accountAt w j) (for-other s _ t for-s (apart j h n)) (for-other s _ (readOn t r) read-for (apart j h n)) (v .seats j h)) seat;
-    strangers = λ n h. le-trans (v .strangers n (subst (λ (c : ℕ). Stranger c (n .0)) count h)) (le-of-eq (sym (firstRoom-kept (isFor n) rooms i (readOn t r) (ap (λ (x : Bool). x && eqb (t .serial .0) (n .0)) (sym (for-held s t for-s .0))))));
+    strangers = λ n h. le-trans (v .strangers n (subst (λ (c : ℕ). Stranger c (n .0)) count h)) (le-of-eq (sym (firstRoom-kept (isFor n) rooms i (readOn t r) refl)));
     unique = unique-set rooms (wide w v) i (readOn t r) hi (v .unique) (λ n j ne x y. ne (v .unique n j i x (same-for n y)));
     records = each (λ j x. recordsFor (suc j) (stream after) ≡ recordsDue x) (λ j h n. elsewhere (suc j) (λ e. n (omega (arith, e))) ∙ v .records j h) here;
     nobody = λ n h. elsewhere n (stranger n h) ∙ v .nobody n (subst (λ (c : ℕ). Stranger c n) count h);

@@ -8,9 +8,9 @@ use native.Mathlib.Omega.{arith}
 use lib.ListN.{length, take}
 use lib.Seq.{take-append-le, take-append-seam}
 use Rattle.desk.specs.Calls.{openedIn}
-use Rattle.desk.specs.Laws.Rooms.{firstRoom-holds, free-held, full-iff, held-le, held-set}
+use Rattle.desk.specs.Laws.Rooms.{firstRoom-holds, free-held, full-iff, held-le, held-set, new-held}
 use Rattle.desk.specs.Laws.Views.{Opens, open-done, open-no-room, open-no-set, open-serial-end, opens}
-use Rattle.desk.specs.Rooms.{freeRoom, isFree, newTicket, serialOf, ticketIn, ticketsHeld}
+use Rattle.desk.specs.Rooms.{freeRoom, isFree, isHeld, newTicket, serialOf, ticketIn, ticketsHeld}
 use Rattle.desk.specs.declared.Opening.{Opening}
 use Rattle.history.specs.History.{Account, World, accountAt, actOpen, newAccount, noAccount, opening, step, withAccounts}
 use Rattle.history.specs.Laws.Invariant.{Inv, wide}
@@ -36,7 +36,7 @@ module _ (w : World) (v : Inv w) (g : Ledger w) (i : ℕ) (ei : i ≡ freeRoom (
   inside : i < length (w .desk .tickets)
   inside = omega (arith, wide w v)
 
-  free : ticketIn (w .desk .tickets) i .held ≡ false
+  free : isHeld (ticketIn (w .desk .tickets) i) ≡ false
   free = free-held (ticketIn (w .desk .tickets) i) (subst (λ (j : ℕ). isFree (ticketIn (w .desk .tickets) j) ≡ true) (sym ei) (firstRoom-holds isFree (w .desk .tickets) (omega (arith, wide w v, ei))))
 
   spare : lives (w .accounts) ≤ 15
@@ -57,10 +57,10 @@ module _ (w : World) (v : Inv w) (g : Ledger w) (i : ℕ) (ei : i ≡ freeRoom (
     account-tags = λ k h. tags-new k (decLe (suc k) (length (w .accounts))) h;
     rising = λ a b h l. rising-new a b h l (decLe (suc b) (length (w .accounts)));
     roomy = λ k h. roomy-new k h (decLe (suc k) (length (w .accounts)));
-    rooms = lives-append (w .accounts) (new ∷ []) ∙ omega (arith, g .rooms, held-set (w .desk .tickets) i (newTicket (serialOf (w .desk .serial .0 + 1)) (w .desk .edition)) inside, freed);
+    rooms = lives-append (w .accounts) (new ∷ []) ∙ omega (arith, g .rooms, held-set (w .desk .tickets) i (newTicket (serialOf (w .desk .serial .0 + 1)) (w .desk .edition)) inside, freed, ap {B = ℕ} (λ (x : Bool). cond x 1 0) (new-held (w .desk .serial .0) (w .desk .edition)));
   }
     where
-      freed : _≡_ {A = ℕ} (cond (ticketIn (w .desk .tickets) i .held) 1 0) 0
+      freed : _≡_ {A = ℕ} (cond (isHeld (ticketIn (w .desk .tickets) i)) 1 0) 0
       freed = ap (λ (b : Bool). cond b 1 0) free
 
       at-end : (k : ℕ) → (suc k ≤ length (w .accounts) → ⊥) → k < length (after .accounts) → k ≡ length (w .accounts)

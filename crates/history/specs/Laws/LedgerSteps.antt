@@ -14,7 +14,7 @@ use Rattle.desk.specs.Laws.Good.{good, on-place}
 use Rattle.desk.specs.Laws.Rooms.{for-held, held-set}
 use Rattle.desk.specs.Laws.Views.{Closes, Feeds, Replaces, Takes, close-done, close-no-ticket, closes, feed-long, feed-no-place, feed-no-ticket, feed-other-slots, feed-read, feed-stale, feeds, replace-done, replace-edition-end, replace-fault, replace-table, replaces, take-nothing, take-oldest, takes}
 use Rattle.desk.specs.Replace.{underNext}
-use Rattle.desk.specs.Rooms.{editionOf, freeTicket, roomOf, ticketIn, ticketsHeld}
+use Rattle.desk.specs.Rooms.{editionOf, freeTicket, isHeld, roomOf, ticketIn, ticketsHeld}
 use Rattle.desk.specs.Shared.{popped}
 use Rattle.desk.specs.declared.Closing.{Closing}
 use Rattle.desk.specs.declared.Desk.{Desk}
@@ -75,9 +75,9 @@ ledger-closes w s v g = go _ (closes (w .desk) s)
         → Ledger (withAccounts w (withTicket (w .desk) i freeTicket) (onSerial (s .0) shut (w .accounts)))
     shutting i e h k hk ek =
         let open-still = live-account w v s k hk ek (omega (arith, e)) in
-        let held-still : ticketIn (w .desk .tickets) i .held ≡ true = subst (λ (j : ℕ). ticketIn (w .desk .tickets) j .held ≡ true) (sym e) (for-held s (ticketIn (w .desk .tickets) (roomOf (w .desk .tickets) s)) (room-for (w .desk .tickets) (wide w v) s (omega (arith, e))) .0) in
+        let held-still : isHeld (ticketIn (w .desk .tickets) i) ≡ true = subst (λ (j : ℕ). isHeld (ticketIn (w .desk .tickets) j) ≡ true) (sym e) (for-held s (ticketIn (w .desk .tickets) (roomOf (w .desk .tickets) s)) (room-for (w .desk .tickets) (wide w v) s (omega (arith, e))) .0) in
         let a : _≡_ {A = ℕ} (cond (accountAt w k .closed) 0 1) 1 = ap (λ (b : Bool). cond b 0 1) open-still in
-        let c : _≡_ {A = ℕ} (cond (ticketIn (w .desk .tickets) i .held) 1 0) 1 = ap (λ (b : Bool). cond b 1 0) held-still in
+        let c : _≡_ {A = ℕ} (cond (isHeld (ticketIn (w .desk .tickets) i)) 1 0) 1 = ap (λ (b : Bool). cond b 1 0) held-still in
         subst (λ (l : List Account). Ledger (withAccounts w (withTicket (w .desk) i freeTicket) l)) (sym (changed-is w v s k hk ek shut))
         (ledger-set w g (withTicket (w .desk) i freeTicket) k (shut (accountAt w k)) hk refl refl (omega arith)
         (omega (arith, lives-set (w .accounts) k (shut (accountAt w k)) hk, held-set (w .desk .tickets) i freeTicket (omega (arith, wide w v)), g .rooms)))
@@ -95,7 +95,7 @@ ledger-feeds w s piece v g = go _ (feeds (w .desk) s (w .table) piece)
         let i = roomOf (w .desk .tickets) s in
         let t = ticketIn (w .desk .tickets) i in
         let d = fedBy (w .desk) i t r .desk in
-        let c : _≡_ {A = ℕ} (cond (t .held) 1 0) 1 = ap (λ (b : Bool). cond b 1 0) (for-held s t (room-for (w .desk .tickets) (wide w v) s h) .0) in
+        let c : _≡_ {A = ℕ} (cond (isHeld t) 1 0) 1 = ap (λ (b : Bool). cond b 1 0) (for-held s t (room-for (w .desk .tickets) (wide w v) s h) .0) in
         subst (λ (l : List Account). Ledger (withAccounts w d l)) (sym (changed-is w v s k hk ek (grown more)))
         (ledger-set w g d k (grown more (accountAt w k)) hk refl refl (omega arith)
         (omega (arith, lives-set (w .accounts) k (grown more (accountAt w k)) hk, held-set (w .desk .tickets) i (readOn t r) (omega (arith, wide w v)), g .rooms)))

@@ -8,10 +8,10 @@ use native.Mathlib.Nat.{le-of-eq, le-trans}
 use native.Mathlib.Omega.{arith}
 use lib.ListN.{length, set}
 use Rattle.desk.specs.Calls.{openedIn}
-use Rattle.desk.specs.Laws.Rooms.{firstRoom-holds, for-held, free-held, held-for}
+use Rattle.desk.specs.Laws.Rooms.{firstRoom-holds, for-held, free-held, held-for, new-held}
 use Rattle.desk.specs.Laws.Views.{Opens, open-done, open-no-room, open-no-set, open-serial-end, opens}
 use Rattle.desk.specs.Reached.{Reached, byCall, callOpen}
-use Rattle.desk.specs.Rooms.{freeRoom, isFor, isFree, newTicket, roomOf, serialOf, ticketIn}
+use Rattle.desk.specs.Rooms.{freeRoom, isFor, isFree, isHeld, newTicket, roomOf, serialOf, ticketIn}
 use Rattle.desk.specs.declared.Opening.{Opening}
 use Rattle.desk.specs.declared.Serial.{Serial}
 use Rattle.desk.specs.declared.Ticket.{Ticket}
@@ -52,14 +52,14 @@ module _ (w : World) (v : Inv w) (i : ℕ) (ei : i ≡ freeRoom (w .desk .ticket
   -- the room was free, and no ticket has the new serial
   free : (s : Serial) → isFor s (ticketIn rooms i) ≡ false
   free s =
-      let f : ticketIn rooms i .held ≡ false = free-held (ticketIn rooms i) (subst (λ (j : ℕ). isFree (ticketIn rooms j) ≡ true) (sym ei) (firstRoom-holds isFree rooms (omega (arith, wide w v)))) in
+      let f : isHeld (ticketIn rooms i) ≡ false = free-held (ticketIn rooms i) (subst (λ (j : ℕ). isFree (ticketIn rooms j) ≡ true) (sym ei) (firstRoom-holds isFree rooms (omega (arith, wide w v)))) in
       is-false (isFor s (ticketIn rooms i)) (λ h. not-both (for-held s (ticketIn rooms i) h .0) f)
 
   unseen : 16 ≤ roomOf rooms serial
   unseen = v .strangers serial (inr (omega (arith, number)))
 
   mine : isFor serial ticket ≡ true
-  mine = held-for serial ticket refl refl
+  mine = held-for serial ticket (new-held (w .desk .serial .0) (w .desk .edition)) refl
 
   others : (s : Serial) → (s .0 ≡ serial .0 → ⊥) → isFor s ticket ≡ false
   others s n = for-other serial s ticket mine (λ e. n (sym e))
