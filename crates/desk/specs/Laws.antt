@@ -3,3 +3,4 @@ pub mod Rooms
 pub mod Shared
 pub mod Views
 pub mod Good
+pub mod TakeMany

@@ -3,6 +3,7 @@ pub mod Rooms
 pub mod Wanted
 pub mod Shared
 pub mod Calls
+pub mod TakeMany
 pub mod Replace
 pub mod Feed
 pub mod Reached

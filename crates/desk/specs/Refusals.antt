@@ -120,11 +120,11 @@ take-refused d = go _ (takes d)
 pub feed-refusals : (d : Desk) (s : Serial) (table : List ℕ) (piece : Word)
     → feedNumber (feedOf d s table piece .answer)
     ≡ firstOf (
-      (12 if not (ltb (roomOf (d .tickets) s) 16))
-      ∷ (13 if not (eqb (ticketIn (d .tickets) (roomOf (d .tickets) s) .edition .0) (d .edition .0)))
-      ∷ (0 if not (eqb (slotsIn 1 8 (length table)) (d .slots)))
-      ∷ (14 if ltb 4294967295 (ticketIn (d .tickets) (roomOf (d .tickets) s) .taken + length piece))
-      ∷ []
+    (12 if not (ltb (roomOf (d .tickets) s) 16))
+    ∷ (13 if not (eqb (ticketIn (d .tickets) (roomOf (d .tickets) s) .edition .0) (d .edition .0)))
+    ∷ (0 if not (eqb (slotsIn 1 8 (length table)) (d .slots)))
+    ∷ (14 if ltb 4294967295 (ticketIn (d .tickets) (roomOf (d .tickets) s) .taken + length piece))
+    ∷ []
     )
 unfolding firstOf
 feed-refusals d s table piece = go _ (feeds d s table piece)

@@ -8,6 +8,7 @@ use tagset::SetFault;
 ghost use mathlib.Core.Path.{_≡_};
 ghost use lib.ListN.{length};
 ghost use Rattle.desk.specs.Calls.{newDesk, openOf, closeOf, takeOf};
+ghost use Rattle.desk.specs.TakeMany.{manyOf, takeManyOf, listTaken};
 
 // Three kinds of number that can't be passed for one another: an old tag number needs its edition.
 pub struct Serial(pub u32);
@@ -107,6 +108,12 @@ pub struct Closing {
 pub struct Taking {
     pub desk: Desk,
     pub answer: TakeAnswer,
+}
+
+// How many records were taken at once.
+pub struct TakingMany {
+    pub desk: Desk,
+    pub count: usize,
 }
 
 impl Desk {
@@ -229,5 +236,19 @@ impl Desk {
             desk,
             answer: TakeAnswer::Taken(oldest),
         }
+    }
+
+    // As many of the oldest records as the list has room for, four numbers each: serial, edition, end, tag.
+    pub fn take_many(self, list: &mut [u32]) -> TakingMany
+        ensures { λ r. ⌜ r ≡ takeManyOf self (length (now (list .entry))) ⌝ }
+        ensures { λ r. ⌜ now (list .exit) ≡ listTaken self (now (list .entry)) (manyOf self (length (now (list .entry)))) ⌝ }
+    {
+        let held = self.records;
+        let room = list.len() / 4;
+        let n = shared::least(held.count, room);
+        let records = shared::hand_out(held, list, n);
+        let mut desk = self;
+        desk.records = records;
+        TakingMany { desk, count: n }
     }
 }

@@ -149,9 +149,10 @@ closed-for-ever acts more b c k h shut-now table piece =
     let t = sound-run w more c s .inv in
     let hk = le-trans h (g .accounts) in
     let e : serialOf (accountAt v k .serial) ≡ serialOf (suc k) = λ d. record { 0 = t .numbered k hk d } in
-    let z = g .each k h .closed shut-now in
-    (subst (λ (n : Serial). feedOf (v .desk) n table piece ≡ record { desk = v .desk; answer = F.NoTicket }) e (closed-feed-is v t k hk z table piece),
-    subst (λ (n : Serial). closeOf (v .desk) n ≡ record { desk = v .desk; answer = C.NoTicket }) e (closed-close-is v t k hk z))
+    let z = g .each k h .closed shut-now in (
+      subst (λ (n : Serial). feedOf (v .desk) n table piece ≡ record { desk = v .desk; answer = F.NoTicket }) e (closed-feed-is v t k hk z table piece),
+      subst (λ (n : Serial). closeOf (v .desk) n ≡ record { desk = v .desk; answer = C.NoTicket }) e (closed-close-is v t k hk z),
+    )
 
 -- a serial that no opening answered, or whose ticket was closed
 abbrev pub Gone : World → Serial → Type 0

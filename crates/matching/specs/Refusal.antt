@@ -9,7 +9,6 @@ pub record Ground : Type 0 where
   pub holds : Bool
 
 infix 20 _if_
-
 abbrev pub _if_ : ℕ → Bool → Ground
 _if_ n b = record { number = n; holds = b }
 
