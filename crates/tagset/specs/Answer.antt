@@ -3,13 +3,15 @@ use Prim.Native.Nat.{ℕ, zero, suc, _+_, _-_}
 use mathlib.Core.List.{List, [], _∷_, _++_}
 use lib.ListN.{length, replicate, take, drop}
 use Rattle.matching.specs.Words.{Word}
-use Rattle.tagset.specs.Grammar.{SetOf, goodSet, badSet, setOf}
+use Rattle.tagset.specs.Grammar.{EntryOf, wholeTag, atFault, SetOf, goodSet, badSet, setOf}
 use Rattle.tagset.specs.declared.SetFault.{SetFault}
 use Rattle.tagset.specs.declared.SetFault.the-variants.{Cut, Many, Kind, Length, Empty, Repeat}
 use Rattle.tagset.specs.declared.Tags.{Tags}
 use Rattle.tagset.specs.declared.SetRead.{SetRead}
 use Rattle.tagset.specs.declared.Verdict.{Verdict}
 use Rattle.tagset.specs.declared.Verdict.the-variants.{Good, Bad}
+use Rattle.tagset.specs.declared.Entry.{Entry}
+use Rattle.tagset.specs.declared.Entry.the-variants.{Tag, Faulty}
 
 -- the number of a fault in the table of refusals
 abbrev pub faultNumber : SetFault → ℕ
@@ -29,11 +31,12 @@ faultValues (Length k) = k ∷ []
 faultValues Empty = 0 ∷ []
 faultValues (Repeat k) = k ∷ []
 
--- where the payloads of entries begin and end, the first entry beginning at `at`
+-- where the payloads of entries begin, the first entry beginning at `at`
 unfoldable pub begun : ℕ → List Word → List ℕ
 begun at [] = []
 begun at (t ∷ ts) = (at + 4) ∷ begun (at + 4 + length t) ts
 
+-- and where they end
 unfoldable pub ended : ℕ → List Word → List ℕ
 ended at [] = []
 ended at (t ∷ ts) = (at + 4 + length t) ∷ ended (at + 4 + length t) ts
@@ -46,6 +49,7 @@ padded n l = l ++ replicate (n - length l) 0
 unfoldable pub tagsLie : List Word → Tags
 tagsLie ts = record { count = length ts; from = padded 16 (begun 0 ts); to = padded 16 (ended 0 ts) }
 
+-- a set as it was read: its tags' places; or its fault, and no tags
 unfoldable pub setRead : SetOf → SetRead
 setRead (goodSet ts) = record { verdict = Good; tags = tagsLie ts }
 setRead (badSet fault) = record { verdict = Bad fault; tags = tagsLie [] }
@@ -55,3 +59,18 @@ unfoldable pub cutAt : List ℕ → List ℕ → List ℕ → List Word
 cutAt bytes [] tos = []
 cutAt bytes (a ∷ froms) [] = []
 cutAt bytes (a ∷ froms) (e ∷ tos) = take (e - a) (drop a bytes) ∷ cutAt bytes froms tos
+
+-- an entry that begins at `at`, as it is read
+abbrev pub placed : ℕ → EntryOf → Entry
+placed at (wholeTag t) = Tag (at + 4) (at + 4 + length t)
+placed at (atFault fault) = Faulty fault
+
+-- what an entry that is no tag makes of its set
+abbrev pub passedUp : Entry → SetRead
+passedUp (Faulty fault) = setRead (badSet fault)
+passedUp (Tag from to) = setRead (badSet Empty)
+
+-- a set's verdict alone
+abbrev pub verdictOf : SetOf → Verdict
+verdictOf (goodSet ts) = Good
+verdictOf (badSet fault) = Bad fault

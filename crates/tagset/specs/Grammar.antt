@@ -8,10 +8,11 @@ use Rattle.matching.specs.Words.{Word, among}
 use Rattle.tagset.specs.declared.SetFault.{SetFault}
 use Rattle.tagset.specs.declared.SetFault.the-variants.{Cut, Many, Kind, Length, Empty, Repeat}
 
--- what an entry at the front of some bytes says of its payload's length and of its kind
+-- the length of its payload, as an entry at the front of some bytes says
 abbrev pub lengthAt : List ℕ → ℕ
 lengthAt bytes = getD bytes 0 0 + 256 * getD bytes 1 0
 
+-- and its kind
 abbrev pub kindAt : List ℕ → ℕ
 kindAt bytes = getD bytes 2 0 + 256 * getD bytes 3 0
 
@@ -44,10 +45,12 @@ pub data SetOf : Type 0 where
   goodSet : List Word → SetOf
   badSet : SetFault → SetOf
 
+-- a tag before those of the entries behind it, unless one of these is at fault
 abbrev pub behind : Word → SetOf → SetOf
 behind t (goodSet ts) = goodSet (t ∷ ts)
 behind t (badSet f) = badSet f
 
+-- the first faulty entry decides
 abbrev pub onEntry : EntryOf → (Word → SetOf) → SetOf
 onEntry (wholeTag t) more = behind t (more t)
 onEntry (atFault f) more = badSet f
@@ -64,6 +67,7 @@ unfoldable pub distinct : List Word → ℕ → List Word → SetOf
 distinct before i [] = goodSet before
 distinct before i (t ∷ ts) = elim (among t before) [ true ↦ badSet (Repeat i) | false ↦ distinct (before ++ t ∷ []) (suc i) ts ]
 
+-- a good set is judged on, a bad one stays
 abbrev pub onTags : SetOf → (List Word → SetOf) → SetOf
 onTags (goodSet ts) f = f ts
 onTags (badSet fault) f = badSet fault

@@ -1,3 +1,5 @@
 -- What a tag set is, and what reading one answers.
 pub mod Grammar
 pub mod Answer
+pub mod Refusals
+pub mod Laws

@@ -1,0 +1,4 @@
+pub mod Entries
+pub mod Parts
+pub mod Reading
+pub mod Joined

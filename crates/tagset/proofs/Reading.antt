@@ -1,0 +1,102 @@
+-- The entries, as the loop has read them.
+use Prim.Native.Nat.{_+_, _-_, _<_, _≤_, suc, ℕ}
+use mathlib.Core.List.{List, [], _++_, _∷_, append-assoc}
+use mathlib.Core.Logic.{_≢_}
+use mathlib.Core.Path.{_∙_, _≡_, ap, refl, subst, sym}
+use native.Mathlib.Numerals.{add-one}
+use native.Mathlib.Omega.{arith}
+use lib.ListN.{drop, drop-of-length-le, length, length-append, length-drop, replicate, set}
+use lib.Seq.{drop-drop, set-at}
+use Rattle.matching.specs.Words.{Word}
+use Rattle.tagset.specs.Answer.{begun, ended, padded, passedUp, placed, setRead, tagsLie}
+use Rattle.tagset.specs.Grammar.{EntryOf, entriesFrom, entryOf, lengthAt}
+use Rattle.tagset.specs.Laws.Entries.{EntryCase, entry-case, fails, passed-all, passed-fails, passed-few, passes, payload-length}
+use Rattle.tagset.specs.Laws.Exact.{passed-count}
+use Rattle.tagset.specs.Laws.Places.{begun-length, begun-snoc, ended-length, ended-snoc, size-snoc, sizeOf}
+use Rattle.tagset.specs.Refusals.{Passed, Whole, atFront, oneMore, payload}
+use Rattle.tagset.specs.declared.Entry.{Entry}
+use Rattle.tagset.specs.declared.Entry.the-variants.{Faulty, Tag}
+use Rattle.tagset.specs.declared.SetFault.{SetFault}
+use Rattle.tagset.specs.declared.Verdict.the-variants.{Good}
+
+padded-set : (l : List ℕ) (v k : ℕ) → length l ≡ k → k < 16 → set (padded 16 l) k v ≡ padded 16 (l ++ v ∷ [])
+padded-set l v k e h =
+    let n : 16 - length l ≡ suc (15 - length l) = omega arith in
+    let m : 16 - length (l ++ v ∷ []) ≡ 15 - length l = omega (arith, length-append l (v ∷ [])) in
+    rw (n, m) (set-at l 0 (replicate (15 - length l) 0) v k e ∙ sym (append-assoc l (v ∷ []) (replicate (15 - length l) 0)))
+
+-- the first k entries passed, and end at `at`
+pub record Gone (bytes from to : List ℕ) (k at : ℕ) : Type 0 where
+  pub tags : List Word
+  pub passed : Passed bytes k tags (drop at bytes)
+  pub place : at ≡ sizeOf tags
+  pub within : at ≤ length bytes
+  pub froms : from ≡ padded 16 (begun 0 tags)
+  pub tos : to ≡ padded 16 (ended 0 tags)
+
+pub gone-start : (bytes : List ℕ) → Gone bytes (replicate 16 0) (replicate 16 0) 0 0
+unfolding sizeOf begun ended
+gone-start bytes = record { tags = []; passed = atFront; place = refl; within = omega arith; froms = refl; tos = refl }
+
+module _ {bytes from to : List ℕ} {k at : ℕ} (g : Gone bytes from to k at) where
+  pub gone-few : k ≤ 16
+  gone-few = passed-few (g .passed)
+
+  pub gone-all : length bytes ≤ at → record { verdict = Good; tags = record { count = k; from = from; to = to } } ≡ setRead (entriesFrom 17 0 bytes)
+  unfolding setRead tagsLie
+  gone-all h =
+      let p : Passed bytes k (g .tags) [] = subst (Passed bytes k (g .tags)) (drop-of-length-le bytes h) (g .passed) in
+      rw (passed-all p, passed-count p, g .froms, g .tos)
+
+  module _ (left : at < length bytes) (entry : Entry) (is : entry ≡ placed at (entryOf k (drop at bytes))) where
+    some : 0 < length (drop at bytes)
+    some = omega (arith, length-drop at bytes)
+
+    pub gone-fails : {fault : SetFault} → entry ≡ Faulty fault → passedUp entry ≡ setRead (entriesFrom 17 0 bytes)
+    gone-fails {fault} e = go (entryOf k (drop at bytes)) (entry-case k (drop at bytes)) is
+      where
+        go : (o : EntryOf) → EntryCase k (drop at bytes) o → entry ≡ placed at o → passedUp entry ≡ setRead (entriesFrom 17 0 bytes)
+        go o (passes w) i = let z : _≡_ {A = ℕ} 0 1 = cc in absurd (omega arith)
+        go o (fails f) i = rw (i, passed-fails (g .passed) some f)
+
+    -- one more entry passed
+    pub record More (begin end : ℕ) : Type 0 where
+      pub few : k < 16
+      pub on : at < end
+      pub gone : Gone bytes (set from k begin) (set to k end) (k + 1) end
+
+    pub gone-more : {begin end : ℕ} → entry ≡ Tag begin end → More begin end
+    gone-more {begin} {end} e = go (entryOf k (drop at bytes)) (entry-case k (drop at bytes)) is
+      where
+        whole : Whole k (drop at bytes) → begin ≡ at + 4 → end ≡ at + 4 + length (payload (drop at bytes)) → More begin end
+        whole w eb ee =
+            let ts = g .tags in
+            let t = payload (drop at bytes) in
+            let n : length t ≡ lengthAt (drop at bytes) = payload-length w in
+            let few : k < 16 = let r : k ≢ 16 = w .room in omega (arith, gone-few) in
+            let count : length ts ≡ k = passed-count (g .passed) in
+            record {
+              few = few;
+              on = omega arith;
+              gone = record {
+                tags = ts ++ t ∷ [];
+                passed = rw (add-one k) (subst (Passed bytes (suc k) (ts ++ t ∷ [])) (rest w ee) (oneMore (g .passed) w));
+                place = omega (arith, g .place, size-snoc ts t);
+                within = omega (arith, n, w .rest, length-drop at bytes, left);
+                froms =
+                    ap (λ (l : List ℕ). set l k begin) (g .froms) ∙ padded-set (begun 0 ts) begin k (begun-length 0 ts ∙ count) few
+                    ∙ ap (padded 16) (ap (λ (x : ℕ). begun 0 ts ++ x ∷ []) (eb ∙ ap (λ (x : ℕ). x + 4) (g .place)) ∙ sym (begun-snoc 0 ts t));
+                tos =
+                    ap (λ (l : List ℕ). set l k end) (g .tos) ∙ padded-set (ended 0 ts) end k (ended-length 0 ts ∙ count) few
+                    ∙ ap (padded 16) (ap (λ (x : ℕ). ended 0 ts ++ x ∷ []) (ee ∙ ap (λ (x : ℕ). x + 4 + length t) (g .place)) ∙ sym (ended-snoc 0 ts t));
+              };
+            }
+          where
+            rest : Whole k (drop at bytes) → end ≡ at + 4 + length (payload (drop at bytes)) → drop (4 + lengthAt (drop at bytes)) (drop at bytes) ≡ drop end bytes
+            rest w ee =
+                let m : at + (4 + lengthAt (drop at bytes)) ≡ end = omega (arith, payload-length w) in
+                drop-drop (4 + lengthAt (drop at bytes)) at bytes ∙ ap (λ (i : ℕ). drop i bytes) m
+
+        go : (o : EntryOf) → EntryCase k (drop at bytes) o → entry ≡ placed at o → More begin end
+        go o (passes w) i = whole w (cc) (cc)
+        go o (fails f) i = let z : _≡_ {A = ℕ} 0 1 = cc in absurd (omega arith)

@@ -1,0 +1,52 @@
+-- `tagset::tag_bytes` meets its contract.
+use Rattle.tagset.proofs.tag_bytes.Statement.{statement}
+use Rattle.tagset.proofs.tag_bytes.Tie as tie
+use mathlib.Core.Logic.{inl, inr}
+use mathlib.Core.Path.{_∙_, sym}
+use borrow.Author.Needs.{needs}
+use Rattle.tagset.specs.Laws.Places.{cutAt-at, cutAt-none}
+
+part-requires : tie.Need-part-requires
+part-requires c κs = search needs
+
+returns : tie.Need-returns
+returns c = c .part .ensures ∙ sym (cutAt-none (c .before .before .before .before .before .args .set .now) (c .before .before .before .before .before .args .from .now) (c .before .before .before .before .before .args .to .now) (c .before .before .before .before .before .args .t) (inl (c .before .if1 .taken)))
+
+part-requires-2 : tie.Need-part-requires-2
+part-requires-2 c κs = search needs
+
+returns-2 : tie.Need-returns-2
+returns-2 c = c .part2 .ensures ∙ sym (cutAt-none (c .before .before .before .before .before .before .args .set .now) (c .before .before .before .before .before .before .args .from .now) (c .before .before .before .before .before .before .args .to .now) (c .before .before .before .before .before .before .args .t) (inr (c .before .if2 .taken)))
+
+mul-a : tie.Need-mul-a
+mul-a c = search needs
+
+shared-slice-read-a : tie.Need-shared-slice-read-a
+shared-slice-read-a c = search needs
+
+mul-e : tie.Need-mul-e
+mul-e c = search needs
+
+shared-slice-read-e : tie.Need-shared-slice-read-e
+shared-slice-read-e c = search needs
+
+part-requires-3 : tie.Need-part-requires-3
+part-requires-3 c κs = search needs
+
+returns-3 : tie.Need-returns-3
+returns-3 c = c .part3 .ensures ∙ sym (cutAt-at (c .before .before .before .before .before .before .before .before .args .set .now) (c .before .before .before .before .before .before .before .before .args .from .now) (c .before .before .before .before .before .before .before .before .args .to .now) (c .before .before .before .before .before .before .before .before .args .t) (c .before .before .before .before .if1 .left) (c .before .before .before .if2 .left))
+
+pub tag-bytes-spec : {M : Type 1} → statement M
+tag-bytes-spec =
+    tie.close
+    (tie.spec
+    part-requires
+    returns
+    part-requires-2
+    returns-2
+    mul-a
+    shared-slice-read-a
+    mul-e
+    shared-slice-read-e
+    part-requires-3
+    returns-3)

@@ -1,0 +1,82 @@
+-- A set is refused, and accepted, exactly when the document says so.
+use Prim.Native.Nat.{_<_, ℕ}
+use mathlib.Core.List.{List, [], _∷_}
+use mathlib.Core.Logic.{_↔_}
+use mathlib.Core.Path.{_≡_, refl, subst, sym}
+use native.Mathlib.Decide.{ℕ-discrete}
+use native.Mathlib.Omega.{arith}
+use lib.ListN.{length, length-append}
+use Rattle.matching.specs.Words.{Word}
+use Rattle.tagset.specs.Grammar.{SetOf, badSet, distinct, entriesFrom, goodSet, onTags, setOf}
+use Rattle.tagset.specs.Laws.Distinct.{DistinctCase, distinct-case, distinct-first, distinct-none, noneRepeats, oneRepeats}
+use Rattle.tagset.specs.Laws.Entries.{EntriesCase, allPassed, entries-case, oneFails, passed-all, passed-fails}
+use Rattle.tagset.specs.Refusals.{Accepted, Passed, Refused, atFront, entryFails, noBytes, oneMore, payload, tagRepeats}
+use Rattle.tagset.specs.declared.SetFault.{SetFault}
+use Rattle.tagset.specs.declared.SetFault.the-variants.{Empty}
+
+-- ---- what the document says, the definition does
+
+pub some-bytes : (bytes : List ℕ) → 0 < length bytes → setOf bytes ≡ onTags (entriesFrom 17 0 bytes) (distinct [] 0)
+unfolding setOf
+some-bytes [] h = absurd (omega arith)
+some-bytes (b ∷ bytes) h = refl
+
+left-some : {bytes : List ℕ} {k : ℕ} {ts : List Word} {left : List ℕ} → Passed bytes k ts left → 0 < length left → 0 < length bytes
+left-some atFront h = h
+left-some (oneMore {k} {ts} {left} p w) h = left-some p (omega (arith, w .four))
+
+pub no-bytes : (bytes : List ℕ) → length bytes ≡ 0 → setOf bytes ≡ badSet Empty
+unfolding setOf
+no-bytes [] h = refl
+no-bytes (b ∷ bytes) h = absurd (omega arith)
+
+refused-so : (bytes : List ℕ) (fault : SetFault) → Refused bytes fault → setOf bytes ≡ badSet fault
+refused-so bytes fault (noBytes h) = no-bytes bytes h
+refused-so bytes fault (entryFails p h f) = rw (some-bytes bytes (left-some p h), passed-fails p h f)
+refused-so bytes fault (tagRepeats {n} {ts} {k} h p r) = rw (some-bytes bytes h, passed-all p, distinct-first ts k r)
+
+accepted-so : (bytes : List ℕ) (ts : List Word) → Accepted bytes ts → setOf bytes ≡ goodSet ts
+accepted-so bytes ts a = rw (some-bytes bytes (a .some), passed-all (a .passed), distinct-none ts (a .distinct))
+
+-- ---- and what the definition does, the document says
+
+pub data SetCase (bytes : List ℕ) : SetOf → Type 0 where
+  isGood : {ts : List Word} → Accepted bytes ts → SetCase bytes (goodSet ts)
+  isBad : {fault : SetFault} → Refused bytes fault → SetCase bytes (badSet fault)
+
+pub passed-count : {bytes : List ℕ} {k : ℕ} {ts : List Word} {left : List ℕ} → Passed bytes k ts left → length ts ≡ k
+passed-count atFront = refl
+passed-count (oneMore {k} {ts} {left} p w) = omega (arith, passed-count p, length-append ts (payload left ∷ []))
+
+on-entries : (bytes : List ℕ) → 0 < length bytes → (s : SetOf) → EntriesCase bytes s → SetCase bytes (onTags s (distinct [] 0))
+on-entries bytes h s (oneFails p l f) = isBad (entryFails p l f)
+on-entries bytes h s (allPassed {k} {ts} p) = go (distinct [] 0 ts) (distinct-case ts)
+  where
+    go : (d : SetOf) → DistinctCase ts d → SetCase bytes d
+    go d (noneRepeats n) = isGood (record { some = h; passed = subst (λ (i : ℕ). Passed bytes i ts []) (sym (passed-count p)) p; distinct = n })
+    go d (oneRepeats f) = isBad (tagRepeats h p f)
+
+pub set-case : (bytes : List ℕ) → SetCase bytes (setOf bytes)
+set-case bytes = go (ℕ-discrete (length bytes) 0)
+  where
+    go : Dec (length bytes ≡ 0) → SetCase bytes (setOf bytes)
+    go (yes z) = rw (no-bytes bytes z) (isBad (noBytes z))
+    go (no n) =
+        let h : 0 < length bytes = omega arith in
+        rw (some-bytes bytes h) (on-entries bytes h (entriesFrom 17 0 bytes) (entries-case bytes))
+
+refused-only : (bytes : List ℕ) (fault : SetFault) → (s : SetOf) → SetCase bytes s → s ≡ badSet fault → Refused bytes fault
+refused-only bytes fault s (isGood a) e = let z : _≡_ {A = ℕ} 0 1 = cc in absurd (omega arith)
+refused-only bytes fault s (isBad r) e = subst (Refused bytes) (cc) r
+
+accepted-only : (bytes : List ℕ) (ts : List Word) → (s : SetOf) → SetCase bytes s → s ≡ goodSet ts → Accepted bytes ts
+accepted-only bytes ts s (isGood a) e = subst (Accepted bytes) (cc) a
+accepted-only bytes ts s (isBad r) e = let z : _≡_ {A = ℕ} 0 1 = cc in absurd (omega arith)
+
+-- EACH FAULT IS GIVEN EXACTLY IF ITS CONDITION HOLDS AND NONE EARLIER DOES
+pub refused-iff : (bytes : List ℕ) (fault : SetFault) → (setOf bytes ≡ badSet fault) ↔ Refused bytes fault
+refused-iff bytes fault = (refused-only bytes fault (setOf bytes) (set-case bytes), refused-so bytes fault)
+
+-- a set is accepted with these tags exactly if none does
+pub accepted-iff : (bytes : List ℕ) (ts : List Word) → (setOf bytes ≡ goodSet ts) ↔ Accepted bytes ts
+accepted-iff bytes ts = (accepted-only bytes ts (setOf bytes) (set-case bytes), accepted-so bytes ts)
