@@ -1,3 +1,7 @@
--- What building answers and leaves.
+-- What building answers and leaves; below that, what the parts of the builder say to each other.
 pub mod Building
 pub mod Laws
+pub mod Letters
+pub mod Fronts
+pub mod Rows
+pub mod Shape

@@ -1,60 +1,40 @@
 -- A whole set, as the code joins its entries and the test of equal tags.
-use Prim.Native.Nat.{_≤_, ℕ}
+use Prim.Native.Nat.{ℕ}
 use mathlib.Core.List.{List, []}
 use mathlib.Core.Path.{_∙_, _≡_, ap, subst, sym}
 use native.Mathlib.Omega.{arith}
 use lib.ListN.{length, take}
-use lib.Seq.{length-take-le}
 use Rattle.matching.specs.Words.{Word}
 use Rattle.tagset.specs.Answer.{cutAt, setRead, verdictOf}
 use Rattle.tagset.specs.Grammar.{SetOf, badSet, distinct, entriesFrom, goodSet, onTags, setOf}
 use Rattle.tagset.specs.Laws.Distinct.{DistinctCase, distinct-case, noneRepeats, oneRepeats}
 use Rattle.tagset.specs.Laws.Entries.{EntriesCase, allPassed, entries-case, oneFails, passed-all}
 use Rattle.tagset.specs.Laws.Exact.{no-bytes, some-bytes}
-use Rattle.tagset.specs.Laws.Places.{from-fits, from-taken, passed-read, to-fits, to-taken}
-use Rattle.tagset.specs.Refusals.{Passed}
+use Rattle.tagset.specs.Laws.Lent.{Lent, lent-tags}
+use Rattle.tagset.specs.Laws.Places.{passed-read}
 use Rattle.tagset.specs.declared.SetFault.{SetFault}
 use Rattle.tagset.specs.declared.SetFault.the-variants.{Empty, Repeat}
 use Rattle.tagset.specs.declared.SetRead.{SetRead}
 use Rattle.tagset.specs.declared.Verdict.{Verdict}
 use Rattle.tagset.specs.declared.Verdict.the-variants.{Bad, Good}
 
--- the places of the tags where every entry passed
+-- the tags where every entry passed
 pub record Lain (bytes : List ℕ) (r : SetRead) : Type 0 where
   pub tags : List Word
   pub reads : entriesFrom 17 0 bytes ≡ goodSet tags
-  pub lies : cutAt bytes (take (r .tags .count) (r .tags .from)) (take (r .tags .count) (r .tags .to)) ≡ tags
-  pub fitsFrom : r .tags .count ≤ length (r .tags .from)
-  pub fitsTo : r .tags .count ≤ length (r .tags .to)
-
-good-lain : (bytes : List ℕ) (ts : List Word) (k : ℕ) → Passed bytes k ts [] → Lain bytes (setRead (goodSet ts))
-unfolding setRead
-good-lain bytes ts k p =
-    record {
-      tags = ts;
-      reads = passed-all p;
-      lies = rw (from-taken ts, to-taken ts) (passed-read p .lies);
-      fitsFrom = from-fits ts;
-      fitsTo = to-fits ts;
-    }
+  pub lent : Lent bytes tags r
 
 pub lain : (bytes : List ℕ) (r : SetRead) → r ≡ setRead (entriesFrom 17 0 bytes) → r .verdict ≡ Good → Lain bytes r
 unfolding setRead
 lain bytes r is good = go (entriesFrom 17 0 bytes) (entries-case bytes) is
   where
     go : (s : SetOf) → EntriesCase bytes s → r ≡ setRead s → Lain bytes r
-    go s (allPassed {k} {ts} p) e = subst (Lain bytes) (sym e) (good-lain bytes ts k p)
+    go s (allPassed {k} {ts} p) e =
+        record { tags = ts; reads = passed-all p; lent = subst (Lent bytes ts) (sym e) (lent-tags bytes ts (passed-read p .lies)) }
     go s (oneFails p h f) e = let z : _≡_ {A = ℕ} 0 1 = cc in absurd (omega arith)
 
 pub joined-empty : (bytes : List ℕ) → length bytes ≡ 0 → setRead (badSet Empty) ≡ setRead (setOf bytes)
 joined-empty bytes h = ap setRead (sym (no-bytes bytes h))
-
--- as many places are lent as there are tags
-pub lent-from : {bytes : List ℕ} {r : SetRead} → Lain bytes r → r .tags .count ≡ length (take (r .tags .count) (r .tags .from))
-lent-from {bytes} {r} l = sym (length-take-le (r .tags .count) (r .tags .from) (l .fitsFrom))
-
-pub lent-to : {bytes : List ℕ} {r : SetRead} → Lain bytes r → r .tags .count ≡ length (take (r .tags .count) (r .tags .to))
-lent-to {bytes} {r} l = sym (length-take-le (r .tags .count) (r .tags .to) (l .fitsTo))
 
 module _ (bytes : List ℕ) (r : SetRead) (is : r ≡ setRead (entriesFrom 17 0 bytes)) where
   module _ (some : length bytes ≡ 0 → ⊥) where
@@ -75,7 +55,7 @@ module _ (bytes : List ℕ) (r : SetRead) (is : r ≡ setRead (entriesFrom 17 0 
       l = lain bytes r is good
 
       test-tags : v ≡ verdictOf (distinct [] 0 (l .tags))
-      test-tags = test ∙ ap (λ (ts : List Word). verdictOf (distinct [] 0 ts)) (l .lies)
+      test-tags = test ∙ ap (λ (ts : List Word). verdictOf (distinct [] 0 ts)) (l .lent .lies)
 
       set-tags : setOf bytes ≡ distinct [] 0 (l .tags)
       set-tags = whole ∙ ap (λ (s : SetOf). onTags s (distinct [] 0)) (l .reads)

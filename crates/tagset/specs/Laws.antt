@@ -3,3 +3,4 @@ pub mod Entries
 pub mod Distinct
 pub mod Exact
 pub mod Places
+pub mod Lent

@@ -43,14 +43,14 @@ slot-used : (n : ℕ) (ts ps : List Word) (q : ℕ) → q < length ps → slot n
 unfolding slot
 slot-used n ts ps q h = rw (is-true (ltb q (length ps)) (lt→ltb q (length ps) h), slot) refl
 
-slot-unused : (n : ℕ) (ts ps : List Word) (q : ℕ) → length ps ≤ q → slot n ts ps q ≡ replicate (slotSize n) 0
+pub slot-unused : (n : ℕ) (ts ps : List Word) (q : ℕ) → length ps ≤ q → slot n ts ps q ≡ replicate (slotSize n) 0
 unfolding slot
 slot-unused n ts ps q h = rw (is-false (ltb q (length ps)) (λ e. omega (arith, ltb→lt q (length ps) (to-T (ltb q (length ps)) e))), slot) refl
 
 nexts-length : (n q : ℕ) (ps : List Word) → length (laid (λ c. next ps q c ∷ []) 0 (2 ^ n)) ≡ 2 ^ n
 nexts-length n q ps = laid-length (λ c. next ps q c ∷ []) 1 (λ i. refl) 0 (2 ^ n) ∙ omega arith
 
-slot-length : (n : ℕ) (ts ps : List Word) (q : ℕ) → length (slot n ts ps q) ≡ slotSize n
+pub slot-length : (n : ℕ) (ts ps : List Word) (q : ℕ) → length (slot n ts ps q) ≡ slotSize n
 unfolding slot
 slot-length n ts ps q = go (decided (ltb q (length ps)))
   where
@@ -58,7 +58,7 @@ slot-length n ts ps q = go (decided (ltb q (length ps)))
     go (inl e) = rw (e, slot) (length-append (laid (λ c. next ps q c ∷ []) 0 (2 ^ n)) (vector ts (getD ps q []) ∷ []) ∙ omega (arith, nexts-length n q ps))
     go (inr e) = rw (e, slot) (length-replicate (slotSize n) 0)
 
-slot-next : (n : ℕ) (ts ps : List Word) (q c : ℕ) → q < length ps → c < 2 ^ n → getD (slot n ts ps q) c 0 ≡ next ps q c
+pub slot-next : (n : ℕ) (ts ps : List Word) (q c : ℕ) → q < length ps → c < 2 ^ n → getD (slot n ts ps q) c 0 ≡ next ps q c
 slot-next n ts ps q c hq hc =
     ap (λ (l : List ℕ). getD l c 0) (slot-used n ts ps q hq)
     ∙ List·getD-append (laid (λ c. next ps q c ∷ []) 0 (2 ^ n)) (vector ts (getD ps q []) ∷ []) 0 c (omega (arith, nexts-length n q ps))
@@ -66,14 +66,14 @@ slot-next n ts ps q c hq hc =
     ∙ laid-at (λ c. next ps q c ∷ []) 1 (λ i. refl) (2 ^ n) 0 c 0 hc (omega arith)
     ∙ ap (next ps q) (zero-add c)
 
-slot-vector : (n : ℕ) (ts ps : List Word) (q : ℕ) → q < length ps → getD (slot n ts ps q) (2 ^ n) 0 ≡ vector ts (getD ps q [])
+pub slot-vector : (n : ℕ) (ts ps : List Word) (q : ℕ) → q < length ps → getD (slot n ts ps q) (2 ^ n) 0 ≡ vector ts (getD ps q [])
 slot-vector n ts ps q hq =
     ap (λ (l : List ℕ). getD l (2 ^ n) 0) (slot-used n ts ps q hq)
     ∙ getD-at (laid (λ c. next ps q c ∷ []) 0 (2 ^ n)) (vector ts (getD ps q [])) [] 0 (2 ^ n) (nexts-length n q ps)
 
 -- ---- a machine, and the table
 
-slots-length : (n s : ℕ) (ts : List Word) (m : ℕ) → length (slots n s ts m) ≡ s * (slotSize n)
+pub slots-length : (n s : ℕ) (ts : List Word) (m : ℕ) → length (slots n s ts m) ≡ s * (slotSize n)
 unfolding slots
 slots-length n s ts m = laid-length (slot n (tagsFor n ts m) (prefixes (tagsFor n ts m))) (slotSize n) (slot-length n (tagsFor n ts m) (prefixes (tagsFor n ts m))) 0 s
 
@@ -112,11 +112,11 @@ built-holds n k s ts rest room =
 -- ---- the machine that is short of slots
 
 module _ (n s : ℕ) (ts : List Word) where
-  roomFrom-short : (m k : ℕ) → s < states (tagsFor n ts m) → roomFrom n s ts m (suc k) ≡ shortOfSlots m (states (tagsFor n ts m))
+  pub roomFrom-short : (m k : ℕ) → s < states (tagsFor n ts m) → roomFrom n s ts m (suc k) ≡ shortOfSlots m (states (tagsFor n ts m))
   unfolding roomFrom
   roomFrom-short m k h = rw (is-true (ltb s (states (tagsFor n ts m))) (lt→ltb s (states (tagsFor n ts m)) h), roomFrom) refl
 
-  roomFrom-next : (m k : ℕ) → states (tagsFor n ts m) ≤ s → roomFrom n s ts m (suc k) ≡ roomFrom n s ts (suc m) k
+  pub roomFrom-next : (m k : ℕ) → states (tagsFor n ts m) ≤ s → roomFrom n s ts m (suc k) ≡ roomFrom n s ts (suc m) k
   unfolding roomFrom
   roomFrom-next m k h =
       rw (is-false (ltb s (states (tagsFor n ts m))) (λ e. omega (arith, ltb→lt s (states (tagsFor n ts m)) (to-T (ltb s (states (tagsFor n ts m))) e))), roomFrom) refl

@@ -3,7 +3,8 @@ use Rattle.tagset.proofs.read_set.Statement.{statement}
 use Rattle.tagset.proofs.read_set.Tie as tie
 use mathlib.Core.Path.{_∙_, sym}
 use borrow.Author.Needs.{needs}
-use Rattle.tagset.proofs.Joined.{joined-empty, joined-fault, joined-good, joined-repeat, lain, lent-from, lent-to}
+use Rattle.tagset.proofs.Joined.{joined-empty, joined-fault, joined-good, joined-repeat, lain}
+use Rattle.tagset.specs.Laws.Lent.{lent-from, lent-to}
 
 refused-requires : tie.Need-refused-requires
 refused-requires c κs = search needs
@@ -24,21 +25,21 @@ returns-2 : tie.Need-returns-2
 returns-2 c = joined-fault (c .before .before .before .before .before .args .set .now) (c .before .before .read-entries .result) (c .before .before .read-entries .ensures) (c .before .before .before .if1 .left) (c .enum-told2 .given .1)
 
 array-share-prefix-from : tie.Need-array-share-prefix-from
-array-share-prefix-from c = lain (c .before .before .before .before .before .before .before .before .args .set .now) (c .before .before .before .before .before .read-entries .result) (c .before .before .before .before .before .read-entries .ensures) (c .before .before .before .enum-told .given .1) .fitsFrom
+array-share-prefix-from c = lain (c .before .before .before .before .before .before .before .before .args .set .now) (c .before .before .before .before .before .read-entries .result) (c .before .before .before .before .before .read-entries .ensures) (c .before .before .before .enum-told .given .1) .lent .fitsFrom
 
 slice-aggregate-distinct-tags : tie.Need-slice-aggregate-distinct-tags
-slice-aggregate-distinct-tags c = lent-from (lain (c .before .before .before .before .before .before .before .before .before .args .set .now) (c .before .before .before .before .before .before .read-entries .result) (c .before .before .before .before .before .before .read-entries .ensures) (c .before .before .before .before .enum-told .given .1))
+slice-aggregate-distinct-tags c = lent-from (lain (c .before .before .before .before .before .before .before .before .before .args .set .now) (c .before .before .before .before .before .before .read-entries .result) (c .before .before .before .before .before .before .read-entries .ensures) (c .before .before .before .before .enum-told .given .1) .lent)
 
 array-share-prefix-to : tie.Need-array-share-prefix-to
-array-share-prefix-to c = lain (c .before .before .before .before .before .before .before .before .before .args .set .now) (c .before .before .before .before .before .before .read-entries .result) (c .before .before .before .before .before .before .read-entries .ensures) (c .before .before .before .before .enum-told .given .1) .fitsTo
+array-share-prefix-to c = lain (c .before .before .before .before .before .before .before .before .before .args .set .now) (c .before .before .before .before .before .before .read-entries .result) (c .before .before .before .before .before .before .read-entries .ensures) (c .before .before .before .before .enum-told .given .1) .lent .fitsTo
 
 slice-aggregate-distinct-tags-2 : tie.Need-slice-aggregate-distinct-tags-2
-slice-aggregate-distinct-tags-2 c = lent-to (lain (c .before .before .before .before .before .before .before .before .before .before .args .set .now) (c .before .before .before .before .before .before .before .read-entries .result) (c .before .before .before .before .before .before .before .read-entries .ensures) (c .before .before .before .before .before .enum-told .given .1))
+slice-aggregate-distinct-tags-2 c = lent-to (lain (c .before .before .before .before .before .before .before .before .before .before .args .set .now) (c .before .before .before .before .before .before .before .read-entries .result) (c .before .before .before .before .before .before .before .read-entries .ensures) (c .before .before .before .before .before .enum-told .given .1) .lent)
 
 distinct-tags-requires : tie.Need-distinct-tags-requires
 distinct-tags-requires c κs =
     let l = lain (c .before .before .before .before .before .before .before .before .before .before .args .set .now) (c .before .before .before .before .before .before .before .read-entries .result) (c .before .before .before .before .before .before .before .read-entries .ensures) (c .before .before .before .before .before .enum-told .given .1) in
-    sym (lent-from l) ∙ lent-to l
+    sym (lent-from (l .lent)) ∙ lent-to (l .lent)
 
 enum-known-verdict : tie.Need-enum-known-verdict
 enum-known-verdict c = search needs

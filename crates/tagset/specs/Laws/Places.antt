@@ -4,10 +4,10 @@ use mathlib.Core.List.{List, [], _++_, _∷_}
 use mathlib.Core.Logic.{_⊎_, inl, inr}
 use mathlib.Core.Path.{_∙_, _≡_, ap, refl, sym}
 use native.Mathlib.Omega.{arith}
-use lib.ListN.{drop, getD, length, length-append, length-drop, replicate, take}
-use lib.Seq.{drop-drop, take-at}
+use lib.ListN.{drop, getD, length, length-drop, take}
+use lib.Seq.{drop-drop}
 use Rattle.matching.specs.Words.{AllBelow, AllShort, Below, Lawful, Word}
-use Rattle.tagset.specs.Answer.{begun, cutAt, ended, padded, tagsLie}
+use Rattle.tagset.specs.Answer.{begun, cutAt, ended}
 use Rattle.tagset.specs.Grammar.{goodSet, lengthAt, setOf}
 use Rattle.tagset.specs.Laws.Entries.{passed-few, payload-length}
 use Rattle.tagset.specs.Laws.Exact.{accepted-iff}
@@ -96,7 +96,7 @@ sized-snoc : (ts : List Word) (t : Word) → AllSized ts → Sized t → AllSize
 sized-snoc [] t a h = (h, tt)
 sized-snoc (u ∷ ts) t a h = (a .0, sized-snoc ts t (a .1) h)
 
-sized-short : (ts : List Word) → AllSized ts → AllShort 32 ts
+pub sized-short : (ts : List Word) → AllSized ts → AllShort 32 ts
 sized-short [] a = tt
 sized-short (t ∷ ts) a = (a .0 .1, sized-short ts (a .1))
 
@@ -199,28 +199,3 @@ of-accepted {bytes} {ts} a =
 
 pub tags-of : (bytes : List ℕ) (ts : List Word) → setOf bytes ≡ goodSet ts → TagsOf bytes ts
 tags-of bytes ts good = of-accepted (accepted-iff bytes ts .0 good)
-
--- the places, as the reading holds them
-pub from-taken : (ts : List Word) → take (tagsLie ts .count) (tagsLie ts .from) ≡ begun 0 ts
-unfolding tagsLie
-from-taken ts = take-at (begun 0 ts) (replicate (16 - length (begun 0 ts)) 0) (length ts) (begun-length 0 ts)
-
-pub to-taken : (ts : List Word) → take (tagsLie ts .count) (tagsLie ts .to) ≡ ended 0 ts
-unfolding tagsLie
-to-taken ts = take-at (ended 0 ts) (replicate (16 - length (ended 0 ts)) 0) (length ts) (ended-length 0 ts)
-
--- there are as many places as that
-padded-fits : (l : List ℕ) → length l ≤ length (padded 16 l)
-padded-fits l = omega (arith, length-append l (replicate (16 - length l) 0))
-
-pub from-fits : (ts : List Word) → tagsLie ts .count ≤ length (tagsLie ts .from)
-unfolding tagsLie
-from-fits ts = omega (arith, padded-fits (begun 0 ts), begun-length 0 ts)
-
-pub to-fits : (ts : List Word) → tagsLie ts .count ≤ length (tagsLie ts .to)
-unfolding tagsLie
-to-fits ts = omega (arith, padded-fits (ended 0 ts), ended-length 0 ts)
-
-pub tags-cut : {bytes : List ℕ} {ts : List Word} → TagsOf bytes ts
-    → cutAt bytes (take (tagsLie ts .count) (tagsLie ts .from)) (take (tagsLie ts .count) (tagsLie ts .to)) ≡ ts
-tags-cut {bytes} {ts} o = rw (from-taken ts, to-taken ts) (o .lies)
