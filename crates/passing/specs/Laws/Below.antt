@@ -22,7 +22,7 @@ peel xs k m long less =
 pub peel-end : (xs : List ℕ) (k m : ℕ) → k ≤ length xs → k ≤ m → drop m (take k xs) ≡ []
 peel-end xs k m long more = drop-of-length-le (take k xs) {i = m} (simp length-take (omega arith))
 
-below-at : (s : ℕ) (qs : List ℕ) → allBelow s qs ≡ true → (i : ℕ) → i < length qs → getD qs i 0 < s
+pub below-at : (s : ℕ) (qs : List ℕ) → allBelow s qs ≡ true → (i : ℕ) → i < length qs → getD qs i 0 < s
 unfolding allBelow
 below-at s [] e i l = omega arith
 below-at s (q ∷ qs) e zero l = ltb-true q s (and-l (ltb q s) (allBelow s qs) e)

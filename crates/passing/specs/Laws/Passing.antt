@@ -18,7 +18,7 @@ use Rattle.matching.specs.Reading.{Outcome, allBelow, flagged, nexts, onesOf, r
 use Rattle.matching.specs.Slicing.{anded}
 use Rattle.passing.specs.Quiet.{Passes, ahead}
 
-ahead-none : (r : Outcome) → ahead 0 [] r ≡ r
+pub ahead-none : (r : Outcome) → ahead 0 [] r ≡ r
 unfolding ahead
 ahead-none r = rw zero-add
 
@@ -40,7 +40,7 @@ nexts-long n s table m [] c = refl
 nexts-long n s table m (q ∷ qs) c = ap suc (nexts-long n s table (suc m) qs c)
 
 -- no tag is flagged where the vectors have no bit in common
-ones-none : (i width : ℕ) → onesOf i width 0 ≡ []
+pub ones-none : (i width : ℕ) → onesOf i width 0 ≡ []
 unfolding onesOf
 ones-none i zero = refl
 ones-none i (suc width) = onesOf-none i width 0 refl ∙ ones-none (suc i) width

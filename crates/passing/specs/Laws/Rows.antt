@@ -2,7 +2,7 @@
 use Prim.Native.Nat.{_*_, _+_, _/_, _<_, _^_, _≤_, ℕ}
 use mathlib.Core.List.{List}
 use mathlib.Core.Path.{_≡_}
-use native.Mathlib.Nat.{add-mul, le-refl, le-trans, mul-le-mul, mul-le-mul-right, one-mul, pow-le-pow-right}
+use native.Mathlib.Nat.{add-mul, div-mul-le-self, le-refl, le-trans, mul-assoc, mul-comm, mul-le-mul, mul-le-mul-right, one-mul, pow-le-pow-right}
 use native.Mathlib.Omega.{arith}
 use lib.Dec.{lit<}
 use lib.ListN.{getD, length}
@@ -61,3 +61,9 @@ module _ (len n k l : ℕ) (e : l ≡ 2 ^ n) where
 
   pub slots-most : 513 ≤ len / (k * (l + 1)) → 513 ≡ slotsIn n k len
   slots-most h = rw (← e) (omega arith)
+
+-- the slots that a table has lie in it
+pub slots-room : (n k len s : ℕ) → s ≡ slotsIn n k len → k * s * slotSize n ≤ len
+slots-room n k len s e =
+    let d : s ≤ len / (k * (2 ^ n + 1)) = omega arith in
+    le-trans (rw (mul-comm k s, mul-assoc) (mul-le-mul-right (k * (2 ^ n + 1)) d)) (div-mul-le-self len (k * (2 ^ n + 1)))

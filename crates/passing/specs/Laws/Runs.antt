@@ -20,7 +20,7 @@ use Rattle.passing.specs.Steps.{Ready, Step}
 
 -- ---- eight machines of one bit
 
-full : (q : List ℕ) → length q ≡ 8 → take 8 q ≡ q
+pub full : (q : List ℕ) → length q ≡ 8 → take 8 q ≡ q
 full q e = take-all 8 q (omega (arith, e))
 
 module _ (s : ℕ) (table starts start : List ℕ) (step : Step 1 s table starts start) (piece : List ℕ) (from : ℕ) where
