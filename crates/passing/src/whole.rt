@@ -76,7 +76,7 @@ fn guess(table: &[u16], s: usize, piece: &[u8], to: usize) -> usize
 }
 
 // Two runs of h bytes at once, so that neither waits for the other's numbers. The second counts only where the first ends in the
-// state that the second was begun at; where a byte is not quiet, neither does.
+// state that the second was begun at; where a byte of either is not quiet, only what the first passed counts.
 fn pair(table: &[u16], s: usize, start: usize, piece: &[u8], from: usize, h: usize) -> Came
     requires { ⌜ (s * 257 ≤ length (now table)) × ((start < s) × (from + h + h ≤ length (now piece))) ⌝ }
     ensures { λ r. ⌜ Passes 8 s (now (table .entry)) (now (piece .entry)) (start ∷ []) from (r .state ∷ []) (r .at) ⌝ }
@@ -90,22 +90,13 @@ fn pair(table: &[u16], s: usize, start: usize, piece: &[u8], from: usize, h: usi
         let x = next_of(table, a, piece[i]);
         let y = next_of(table, b, piece[i + h]);
         if s <= x {
-            return Came {
-                at: from,
-                state: start,
-            };
+            return Came { at: i, state: a };
         }
         if s <= y {
-            return Came {
-                at: from,
-                state: start,
-            };
+            return Came { at: i, state: a };
         }
         if vector_of(table, x) | vector_of(table, y) != 0 {
-            return Came {
-                at: from,
-                state: start,
-            };
+            return Came { at: i, state: a };
         }
         a = x;
         b = y;
@@ -144,7 +135,7 @@ fn pass_pairs(table: &[u16], s: usize, start: usize, piece: &[u8], from: usize) 
     let mut h = run_length(piece.len() - i);
     while 0 < h {
         let p = pair(table, s, q, piece, i, h);
-        if p.at == i {
+        if p.at < i + h {
             return p;
         }
         q = p.state;

@@ -2,5 +2,4 @@
 pub mod Records
 pub mod Walks
 pub mod Answers
-
--- Outside
+pub mod Outside

@@ -1,11 +1,10 @@
 use Rattle.passing.proofs.whole.pair.Statement.{statement}
 use Rattle.passing.proofs.whole.pair.Tie as tie
 use Prim.Native.Nat.{_+_, _-_}
-use mathlib.Core.List.{[]}
 use native.Mathlib.Omega.{arith}
 use borrow.Author.Needs.{needs}
 use Rattle.passing.specs.Laws.Below.{one-below}
-use Rattle.passing.specs.Laws.Runs.{Paired, paired-met, paired-more, paired-parted, paired-start, whole-start}
+use Rattle.passing.specs.Laws.Runs.{Paired, paired-met, paired-more, paired-parted, paired-start}
 
 abbrev Inv-loop : tie.InvT-loop
 Inv-loop table s start piece from h mid begun a₀ b₀ i₀ a b i = Paired s table piece a₀ from h begun a b i
@@ -42,10 +41,10 @@ next-of-requires-2 c κs =
     omega arith
 
 returns : tie.Need-returns Inv-loop μ-loop
-returns c = whole-start _ _ _ [] _ _ (c .before .before .before .before .before .before .before .before .before .before .pre .1 .0) (omega arith)
+returns c = c .before .before .before .before .before .before .loop .inv .first
 
 returns-2 : tie.Need-returns-2 Inv-loop μ-loop
-returns-2 c = whole-start _ _ _ [] _ _ (c .before .before .before .before .before .before .before .before .before .before .before .pre .1 .0) (omega arith)
+returns-2 c = c .before .before .before .before .before .before .before .loop .inv .first
 
 vector-of-requires : tie.Need-vector-of-requires Inv-loop μ-loop
 vector-of-requires c κs = search needs
@@ -54,7 +53,7 @@ vector-of-requires-2 : tie.Need-vector-of-requires-2 Inv-loop μ-loop
 vector-of-requires-2 c κs = search needs
 
 returns-3 : tie.Need-returns-3 Inv-loop μ-loop
-returns-3 c = whole-start _ _ _ [] _ _ (c .before .before .before .before .before .before .before .before .before .before .before .before .before .before .pre .1 .0) (omega arith)
+returns-3 c = c .before .before .before .before .before .before .before .before .before .before .loop .inv .first
 
 add-i : tie.Need-add-i Inv-loop μ-loop
 add-i c = search needs
