@@ -1,2 +1,5 @@
--- What a read outside the desk answers and leaves.
+-- What a read outside the desk answers and leaves; what its parts do; the laws.
 pub mod Outside
+pub mod Records
+pub mod Walks
+pub mod Laws

@@ -1,0 +1,153 @@
+use Rattle.reading.proofs.walks.on_split.Statement.{statement}
+use Rattle.reading.proofs.walks.on_split.Tie as tie
+use Prim.Native.Nat.{_+_, _-_}
+use mathlib.Core.Path.{_∙_, _≡_, sym}
+use native.Mathlib.Omega.{arith}
+use lib.ListN.{length}
+use borrow.Author.Needs.{needs}
+use borrow.Author.Tests.{not-false, not-true}
+use Rattle.matching.specs.Reading.{onesOf}
+use Rattle.passing.specs.Laws.Starts.{one-even}
+use Rattle.reading.specs.Laws.Records.{emitted-long}
+use Rattle.reading.specs.Laws.Walks.{going-long, going-pass, split-able, split-all, split-begin, split-damaged, split-full, split-took}
+use Rattle.reading.specs.Walks.{Going}
+
+abbrev Inv-loop : tie.InvT-loop
+Inv-loop table s count piece list₀ starts place₀ w₀ i₀ list place w i = Going 1 s table count piece list₀ place₀ list place w i
+
+abbrev μ-loop : tie.MeasureT-loop
+μ-loop table s count piece list₀ starts place₀ w₀ i₀ list place w i = length piece - i
+
+starts-of-requires : tie.Need-starts-of-requires Inv-loop μ-loop
+starts-of-requires c κs = (one-even, c .before .before .before .pre .1 .0)
+
+loop-holds : tie.Need-loop-holds Inv-loop μ-loop
+loop-holds c = split-begin _ _ _ _ _ _ (c .before .before .before .before .pre .0)
+
+shared-slice-read-next-numbers : tie.Need-shared-slice-read-next-numbers Inv-loop μ-loop
+shared-slice-read-next-numbers c = search needs
+
+next-numbers-requires : tie.Need-next-numbers-requires Inv-loop μ-loop
+next-numbers-requires c κs = split-able _ _ _ _ _ _ (c .before .before .before .before .before .before .before .before .pre .0) _ _ _ _ (c .before .before .before .loop .inv) _ (c .before .before .before .before .starts-of .ensures)
+
+all-below-requires : tie.Need-all-below-requires Inv-loop μ-loop
+all-below-requires c κs = search needs
+
+same-length : tie.Need-same-length Inv-loop μ-loop
+same-length c = going-long _ _ _ _ _ _ _ _ _ _ _ (c .before .before .before .before .before .before .loop .inv)
+
+returns : tie.Need-returns Inv-loop μ-loop
+returns c =
+    let a = c .before .before .before .before .before .before .before .before .before .before .before .args in
+    let l = c .before .before .before .before .before .before .loop in
+    split-damaged (a .s) (a .table .now) (a .count) (a .piece .now) (a .list .now) (a .start) (c .before .before .before .before .before .before .before .before .before .before .before .pre .0) (l .list) (l .place) (l .w) (l .i) (l .inv) (c .before .before .before .before .before .loop-test .taken)
+    (c .before .before .next-numbers .result) (omega arith) (c .before .before .next-numbers .ensures) (sym (c .before .all-below .ensures) ∙ not-true _ (c .if1 .taken))
+
+vectors-requires : tie.Need-vectors-requires Inv-loop μ-loop
+vectors-requires c κs =
+    let r = c .before .before .before .before .before .before .before .before .before .before .before .pre .0 in
+    (omega arith, (omega arith, record { room = r .room; few = r .few; long = omega arith; below = sym (c .before .all-below .ensures) ∙ not-false _ (c .if1 .left) }))
+
+cast-put-all : tie.Need-cast-put-all Inv-loop μ-loop
+cast-put-all c = search needs
+
+add-put-all : tie.Need-add-put-all Inv-loop μ-loop
+add-put-all c = search needs
+
+add-put-all-2 : tie.Need-add-put-all-2 Inv-loop μ-loop
+add-put-all-2 c = search needs
+
+put-all-requires : tie.Need-put-all-requires Inv-loop μ-loop
+put-all-requires c κs =
+    let l : length (c .before .before .before .before .before .before .before .before .loop .list) ≡ length (c .before .before .before .before .before .before .before .before .before .before .before .before .before .args .list .now) = going-long _ _ _ _ _ _ _ _ _ _ _ (c .before .before .before .before .before .before .before .before .loop .inv) in
+    omega (arith, c .before .before .before .before .before .before .before .before .loop .inv .fits)
+
+enum-known-x : tie.Need-enum-known-x Inv-loop μ-loop
+enum-known-x c = search needs
+
+enum-told : tie.Need-enum-told Inv-loop μ-loop
+enum-told c = search needs
+
+same-length-2 : tie.Need-same-length-2 Inv-loop μ-loop
+same-length-2 c =
+    let l = c .before .before .before .before .before .before .before .before .before .before .before .before .before .loop in
+    emitted-long (l .list) (l .w) (c .before .before .before .before .before .before .before .before .before .before .before .before .before .before .before .before .before .before .args .count + l .i + 1) (onesOf 0 16 (c .before .before .before .before .before .before .vectors .result)) _ (c .before .before .before .before .put-all .ensures .1) ∙ going-long _ _ _ _ _ _ _ _ _ _ _ (l .inv)
+
+returns-2 : tie.Need-returns-2 Inv-loop μ-loop
+returns-2 c =
+    let a = c .before .before .before .before .before .before .before .before .before .before .before .before .before .before .before .before .before .before .args in
+    let l = c .before .before .before .before .before .before .before .before .before .before .before .before .before .loop in
+    split-full (a .s) (a .table .now) (a .count) (a .piece .now) (a .list .now) (a .start) (c .before .before .before .before .before .before .before .before .before .before .before .before .before .before .before .before .before .before .pre .0) (l .list) (l .place) (l .w) (l .i) (l .inv) (c .before .before .before .before .before .before .before .before .before .before .before .before .loop-test .taken)
+    (c .before .before .before .before .before .before .before .before .before .next-numbers .result) (omega arith) (c .before .before .before .before .before .before .before .before .before .next-numbers .ensures) (sym (c .before .before .before .before .before .before .before .before .all-below .ensures) ∙ not-false _ (c .before .before .before .before .before .before .before .if1 .left)) _ (c .before .before .before .before .before .before .vectors .ensures)
+    (sym (c .enum-told .given .1) ∙ c .before .before .before .before .put-all .ensures .0) _ (c .before .before .before .before .put-all .ensures .1)
+
+-- the byte is taken, and its records written
+took : (c : tie.After-known-told Inv-loop μ-loop)
+    → Going 1 (c .before .before .before .before .before .before .before .before .before .before .before .before .before .before .before .before .before .before .before .args .s) (c .before .before .before .before .before .before .before .before .before .before .before .before .before .before .before .before .before .before .before .args .table .now) (c .before .before .before .before .before .before .before .before .before .before .before .before .before .before .before .before .before .before .before .args .count) (c .before .before .before .before .before .before .before .before .before .before .before .before .before .before .before .before .before .before .before .args .piece .now) (c .before .before .before .before .before .before .before .before .before .before .before .before .before .before .before .before .before .before .before .args .list .now) (c .before .before .before .before .before .before .before .before .before .before .before .before .before .before .before .before .before .before .before .args .start)
+    (c .before .before .before .before .before .put-all .last .0) (c .before .before .before .before .before .before .before .before .before .before .next-numbers .result) (c .before .x .given .0 .0) (c .before .before .before .before .before .before .before .before .before .before .before .before .before .before .loop .i + 1)
+took c =
+    let a = c .before .before .before .before .before .before .before .before .before .before .before .before .before .before .before .before .before .before .before .args in
+    let l = c .before .before .before .before .before .before .before .before .before .before .before .before .before .before .loop in
+    split-took (a .s) (a .table .now) (a .count) (a .piece .now) (a .list .now) (a .start) (c .before .before .before .before .before .before .before .before .before .before .before .before .before .before .before .before .before .before .before .pre .0) (l .list) (l .place) (l .w) (l .i) (l .inv) (c .before .before .before .before .before .before .before .before .before .before .before .before .before .loop-test .taken)
+    (c .before .before .before .before .before .before .before .before .before .before .next-numbers .result) (omega arith) (c .before .before .before .before .before .before .before .before .before .before .next-numbers .ensures) (sym (c .before .before .before .before .before .before .before .before .before .all-below .ensures) ∙ not-false _ (c .before .before .before .before .before .before .before .before .if1 .left)) (c .before .before .before .before .before .before .before .vectors .result) (c .before .before .before .before .before .before .before .vectors .ensures)
+    _ (sym (c .before .x .given .1) ∙ c .before .before .before .before .before .put-all .ensures .0) _ (c .before .before .before .before .before .put-all .ensures .1)
+
+add-i : tie.Need-add-i Inv-loop μ-loop
+add-i c = search needs
+
+pass-split-requires : tie.Need-pass-split-requires Inv-loop μ-loop
+pass-split-requires c κs =
+    let g = took (c .before .before) in
+    (split-able _ _ _ _ _ _ (c .before .before .before .before .before .before .before .before .before .before .before .before .before .before .before .before .before .before .before .before .before .pre .0) _ _ _ _ g _ (c .before .before .before .before .before .before .before .before .before .before .before .before .before .before .before .before .before .starts-of .ensures), g .most)
+
+loop-less : tie.Need-loop-less Inv-loop μ-loop
+loop-less c = omega (arith, c .before .pass-split .ensures .low)
+
+loop-again : tie.Need-loop-again Inv-loop μ-loop
+loop-again c = going-pass _ _ _ _ _ _ _ _ _ _ _ (took (c .before .before .before .before)) _ _ (c .before .pass-split .ensures)
+
+loop-less-2 : tie.Need-loop-less-2 Inv-loop μ-loop
+loop-less-2 c = search needs
+
+loop-again-2 : tie.Need-loop-again-2 Inv-loop μ-loop
+loop-again-2 c = took (c .before)
+
+same-length-3 : tie.Need-same-length-3 Inv-loop μ-loop
+same-length-3 c = going-long _ _ _ _ _ _ _ _ _ _ _ (c .before .loop .inv)
+
+returns-3 : tie.Need-returns-3 Inv-loop μ-loop
+returns-3 c =
+    let a = c .before .before .before .before .before .before .args in
+    let l = c .before .loop in
+    split-all (a .s) (a .table .now) (a .count) (a .piece .now) (a .list .now) _ (c .before .before .before .before .before .before .pre .0) (l .list) (l .place) (l .w) (l .i) (l .inv) (c .loop-test .left)
+
+pub on-split-spec : {M : Type 1} → statement M
+on-split-spec =
+    tie.close
+    (tie.spec
+    Inv-loop
+    μ-loop
+    starts-of-requires
+    loop-holds
+    shared-slice-read-next-numbers
+    next-numbers-requires
+    all-below-requires
+    same-length
+    returns
+    vectors-requires
+    cast-put-all
+    add-put-all
+    add-put-all-2
+    put-all-requires
+    enum-known-x
+    enum-told
+    same-length-2
+    returns-2
+    add-i
+    pass-split-requires
+    loop-less
+    loop-again
+    loop-less-2
+    loop-again-2
+    same-length-3
+    returns-3)

@@ -1,0 +1,143 @@
+use Rattle.reading.proofs.walks.on_whole.Statement.{statement}
+use Rattle.reading.proofs.walks.on_whole.Tie as tie
+use Prim.Native.Nat.{_+_, _-_}
+use mathlib.Core.List.{[], _∷_}
+use mathlib.Core.Path.{_∙_, _≡_, sym}
+use native.Mathlib.Omega.{arith}
+use lib.ListN.{length}
+use borrow.Author.Needs.{needs}
+use Rattle.matching.specs.Reading.{onesOf}
+use Rattle.passing.specs.Laws.Below.{one-below}
+use Rattle.reading.specs.Laws.Records.{emitted-long}
+use Rattle.reading.specs.Laws.Walks.{going-long, going-pass, whole-all, whole-begin, whole-damaged, whole-full, whole-took}
+use Rattle.reading.specs.Walks.{Going}
+
+abbrev Inv-loop : tie.InvT-loop
+Inv-loop table s start count piece list₀ q₀ w₀ i₀ list q w i = Going 8 s table count piece list₀ (start ∷ []) list (q ∷ []) w i
+
+abbrev μ-loop : tie.MeasureT-loop
+μ-loop table s start count piece list₀ q₀ w₀ i₀ list q w i = length piece - i
+
+loop-holds : tie.Need-loop-holds Inv-loop μ-loop
+loop-holds c = whole-begin _ _ _ _ _ _ (c .before .before .before .pre .1 .0)
+
+shared-slice-read-next-of : tie.Need-shared-slice-read-next-of Inv-loop μ-loop
+shared-slice-read-next-of c = search needs
+
+next-of-requires : tie.Need-next-of-requires Inv-loop μ-loop
+next-of-requires c κs =
+    let h = one-below _ _ (c .before .before .loop .inv .below) in
+    omega arith
+
+same-length : tie.Need-same-length Inv-loop μ-loop
+same-length c = going-long _ _ _ _ _ _ _ _ _ _ _ (c .before .before .before .before .loop .inv)
+
+returns : tie.Need-returns Inv-loop μ-loop
+returns c =
+    let a = c .before .before .before .before .before .before .before .before .args in
+    let l = c .before .before .before .before .loop in
+    whole-damaged (a .s) (a .table .now) (a .count) (a .piece .now) (a .list .now) (a .start) (l .list) (l .q) (l .w) (l .i) (l .inv) (c .before .before .before .loop-test .taken) (c .before .next-of .result) (c .before .next-of .ensures _) (c .if1 .taken)
+
+vector-of-requires : tie.Need-vector-of-requires Inv-loop μ-loop
+vector-of-requires c κs = omega arith
+
+cast-put-all : tie.Need-cast-put-all Inv-loop μ-loop
+cast-put-all c = search needs
+
+add-put-all : tie.Need-add-put-all Inv-loop μ-loop
+add-put-all c = search needs
+
+add-put-all-2 : tie.Need-add-put-all-2 Inv-loop μ-loop
+add-put-all-2 c = search needs
+
+put-all-requires : tie.Need-put-all-requires Inv-loop μ-loop
+put-all-requires c κs =
+    let l : length (c .before .before .before .before .before .before .loop .list) ≡ length (c .before .before .before .before .before .before .before .before .before .before .args .list .now) = going-long _ _ _ _ _ _ _ _ _ _ _ (c .before .before .before .before .before .before .loop .inv) in
+    omega (arith, c .before .before .before .before .before .before .loop .inv .fits)
+
+enum-known-x : tie.Need-enum-known-x Inv-loop μ-loop
+enum-known-x c = search needs
+
+enum-told : tie.Need-enum-told Inv-loop μ-loop
+enum-told c = search needs
+
+same-length-2 : tie.Need-same-length-2 Inv-loop μ-loop
+same-length-2 c =
+    let l = c .before .before .before .before .before .before .before .before .before .before .before .loop in
+    emitted-long (l .list) (l .w) (c .before .before .before .before .before .before .before .before .before .before .before .before .before .before .before .args .count + l .i + 1) (onesOf 0 16 (c .before .before .before .before .before .before .vector-of .result)) _ (c .before .before .before .before .put-all .ensures .1) ∙ going-long _ _ _ _ _ _ _ _ _ _ _ (l .inv)
+
+returns-2 : tie.Need-returns-2 Inv-loop μ-loop
+returns-2 c =
+    let a = c .before .before .before .before .before .before .before .before .before .before .before .before .before .before .before .args in
+    let l = c .before .before .before .before .before .before .before .before .before .before .before .loop in
+    whole-full (a .s) (a .table .now) (a .count) (a .piece .now) (a .list .now) (a .start) (l .list) (l .q) (l .w) (l .i) (l .inv) (c .before .before .before .before .before .before .before .before .before .before .loop-test .taken) (c .before .before .before .before .before .before .before .before .next-of .result) (c .before .before .before .before .before .before .before .before .next-of .ensures _) (c .before .before .before .before .before .before .before .if1 .left)
+    (c .before .before .before .before .before .before .vector-of .result) (c .before .before .before .before .before .before .vector-of .ensures _) (sym (c .enum-told .given .1) ∙ c .before .before .before .before .put-all .ensures .0) _ (c .before .before .before .before .put-all .ensures .1)
+
+-- the byte is taken, and its records written
+took : (c : tie.After-known-told Inv-loop μ-loop)
+    → Going 8 (c .before .before .before .before .before .before .before .before .before .before .before .before .before .before .before .before .args .s) (c .before .before .before .before .before .before .before .before .before .before .before .before .before .before .before .before .args .table .now) (c .before .before .before .before .before .before .before .before .before .before .before .before .before .before .before .before .args .count) (c .before .before .before .before .before .before .before .before .before .before .before .before .before .before .before .before .args .piece .now) (c .before .before .before .before .before .before .before .before .before .before .before .before .before .before .before .before .args .list .now) (c .before .before .before .before .before .before .before .before .before .before .before .before .before .before .before .before .args .start ∷ [])
+    (c .before .before .before .before .before .put-all .last .0) (c .before .before .before .before .before .before .before .before .before .next-of .result ∷ []) (c .before .x .given .0 .0) (c .before .before .before .before .before .before .before .before .before .before .before .before .loop .i + 1)
+took c =
+    let a = c .before .before .before .before .before .before .before .before .before .before .before .before .before .before .before .before .args in
+    let l = c .before .before .before .before .before .before .before .before .before .before .before .before .loop in
+    whole-took (a .s) (a .table .now) (a .count) (a .piece .now) (a .list .now) (a .start) (l .list) (l .q) (l .w) (l .i) (l .inv) (c .before .before .before .before .before .before .before .before .before .before .before .loop-test .taken)
+    (c .before .before .before .before .before .before .before .before .before .next-of .result) (c .before .before .before .before .before .before .before .before .before .next-of .ensures _) (c .before .before .before .before .before .before .before .before .if1 .left) (c .before .before .before .before .before .before .before .vector-of .result) (c .before .before .before .before .before .before .before .vector-of .ensures _)
+    _ (sym (c .before .x .given .1) ∙ c .before .before .before .before .before .put-all .ensures .0) _ (c .before .before .before .before .before .put-all .ensures .1)
+
+add-i : tie.Need-add-i Inv-loop μ-loop
+add-i c = search needs
+
+pass-whole-requires : tie.Need-pass-whole-requires Inv-loop μ-loop
+pass-whole-requires c κs =
+    let g = took (c .before) in
+    (c .before .before .before .before .before .before .before .before .before .before .before .before .before .before .before .before .before .pre .0, (one-below _ _ (g .below), g .most))
+
+loop-less : tie.Need-loop-less Inv-loop μ-loop
+loop-less c = omega (arith, c .pass-whole .ensures .low)
+
+loop-again : tie.Need-loop-again Inv-loop μ-loop
+loop-again c = going-pass _ _ _ _ _ _ _ _ _ _ _ (took (c .before .before)) _ _ (c .pass-whole .ensures)
+
+loop-less-2 : tie.Need-loop-less-2 Inv-loop μ-loop
+loop-less-2 c = search needs
+
+loop-again-2 : tie.Need-loop-again-2 Inv-loop μ-loop
+loop-again-2 c = took (c .before)
+
+same-length-3 : tie.Need-same-length-3 Inv-loop μ-loop
+same-length-3 c = going-long _ _ _ _ _ _ _ _ _ _ _ (c .before .loop .inv)
+
+returns-3 : tie.Need-returns-3 Inv-loop μ-loop
+returns-3 c =
+    let a = c .before .before .before .before .before .args in
+    let l = c .before .loop in
+    whole-all (a .s) (a .table .now) (a .count) (a .piece .now) (a .list .now) (a .start) (l .list) (l .q) (l .w) (l .i) (l .inv) (c .loop-test .left)
+
+pub on-whole-spec : {M : Type 1} → statement M
+on-whole-spec =
+    tie.close
+    (tie.spec
+    Inv-loop
+    μ-loop
+    loop-holds
+    shared-slice-read-next-of
+    next-of-requires
+    same-length
+    returns
+    vector-of-requires
+    cast-put-all
+    add-put-all
+    add-put-all-2
+    put-all-requires
+    enum-known-x
+    enum-told
+    same-length-2
+    returns-2
+    add-i
+    pass-whole-requires
+    loop-less
+    loop-again
+    loop-less-2
+    loop-again-2
+    same-length-3
+    returns-3)

@@ -1,0 +1,255 @@
+-- What a read outside the desk promises, over ANY table, place, count, piece and list.
+use Prim.Native.Nat.{_*_, _+_, _-_, _/_, _<_, _≤_, suc, zero, zero-le, ℕ}
+use mathlib.Core.Bool.{false, true}
+use mathlib.Core.List.{List, [], _++_, _∷_}
+use mathlib.Core.Logic.{_↔_, _⊎_, inl, inr}
+use mathlib.Core.Path.{_∙_, _≡_, ap, refl, sym}
+use native.Mathlib.Omega.{arith}
+use lib.Dec.{ltb}
+use lib.ListN.{drop, getD, length}
+use lib.Seq.{getD-append-add, getD-drop}
+use borrow.Author.Tests.{ltb-false, ltb-true}
+use Rattle.matching.specs.Laws.AnyTable.{read-kept}
+use Rattle.matching.specs.Laws.Bools.{decided, not-both}
+use Rattle.matching.specs.Occurrence.{Occurrence, flat}
+use Rattle.matching.specs.Reading.{allBelow, read}
+use Rattle.matching.specs.Table.{slotsIn}
+use Rattle.matching.specs.Words.{Word}
+use Rattle.matching.specs.declared.Stop.{Stop}
+use Rattle.matching.specs.declared.Stop.the-variants.{All}
+use Rattle.passing.specs.Laws.Below.{below-at}
+use Rattle.reading.specs.Laws.Answers.{list-long, read-goes, read-long, read-place}
+use Rattle.reading.specs.Laws.Records.{flat-length}
+use Rattle.reading.specs.Outside.{ReadOf, listBy, readOf, readTo, refusedRead, splitBy, wholeBy}
+use Rattle.reading.specs.declared.Ending.{Ending}
+use Rattle.reading.specs.declared.Ending.the-variants.{Refused, Stopped}
+use Rattle.reading.specs.declared.ReadRefusal.{ReadRefusal}
+use Rattle.reading.specs.declared.ReadRefusal.the-variants.{Long, Place}
+
+-- ---- when it is refused
+
+abbrev pub States : ℕ → List ℕ → Type 0
+States s place = (i : ℕ) → i < length place → getD place i 0 < s
+
+-- the three ways, each with its condition
+pub data Judged (n k : ℕ) (table place : List ℕ) (count : ℕ) (piece : Word) (len : ℕ) : ReadOf → Type 0 where
+  not-a-state : (i : ℕ) → i < length place → slotsIn n k (length table) ≤ getD place i 0 → Judged n k table place count piece len (refusedRead Place)
+  too-many-bytes : States (slotsIn n k (length table)) place → 4294967295 < count + length piece → Judged n k table place count piece len (refusedRead Long)
+  is-read : States (slotsIn n k (length table)) place → count + length piece ≤ 4294967295
+      → Judged n k table place count piece len (readTo (read n (slotsIn n k (length table)) table place count (len / 2) piece))
+
+not-below : (s : ℕ) (qs : List ℕ) → allBelow s qs ≡ false → (i : ℕ) × ((i < length qs) × (s ≤ getD qs i 0))
+unfolding allBelow
+not-below s [] e = absurd (not-both refl e)
+not-below s (q ∷ qs) e = go (decided (ltb q s)) (not-below s qs)
+  where
+    on : (i : ℕ) × ((i < length qs) × (s ≤ getD qs i 0)) → (i : ℕ) × ((i < length (q ∷ qs)) × (s ≤ getD (q ∷ qs) i 0))
+    on w = (suc (w .0), (omega (arith, w .1 .0), w .1 .1))
+
+    go : (ltb q s ≡ true) ⊎ (ltb q s ≡ false) → (allBelow s qs ≡ false → (i : ℕ) × ((i < length qs) × (s ≤ getD qs i 0)))
+        → (i : ℕ) × ((i < length (q ∷ qs)) × (s ≤ getD (q ∷ qs) i 0))
+    go (inl h) ih = on (ih (rw h at e))
+    go (inr h) ih = (0, (omega arith, ltb-false q s h))
+
+module _ (n k : ℕ) (table place : List ℕ) (count : ℕ) (piece : Word) (len : ℕ) where
+  abbrev slots : ℕ
+  slots = slotsIn n k (length table)
+
+  abbrev answer : ReadOf
+  answer = readOf n k table place count piece len
+
+  pub judged : Judged n k table place count piece len answer
+  judged = go (decided (allBelow slots place)) (decided (ltb 4294967295 (count + length piece)))
+    where
+      go : (allBelow slots place ≡ true) ⊎ (allBelow slots place ≡ false) → (ltb 4294967295 (count + length piece) ≡ true) ⊎ (ltb 4294967295 (count + length piece) ≡ false)
+          → Judged n k table place count piece len answer
+      go (inr b) h =
+          let w = not-below slots place b in
+          rw (read-place n k table place count piece len slots refl b) (not-a-state (w .0) (w .1 .0) (w .1 .1))
+      go (inl b) (inl h) =
+          rw (read-long n k table place count piece len slots refl b h) (too-many-bytes (below-at slots place b) (ltb-true 4294967295 (count + length piece) h))
+      go (inl b) (inr h) =
+          rw (read-goes n k table place count piece len slots refl b h) (is-read (below-at slots place b) (ltb-false 4294967295 (count + length piece) h))
+
+  -- PLACE exactly if a state is not below s
+  pub place-iff : (answer ≡ refusedRead Place) ↔ ((i : ℕ) × ((i < length place) × (slots ≤ getD place i 0)))
+  place-iff = (there answer judged, back answer judged)
+    where
+      there : (r : ReadOf) → Judged n k table place count piece len r → r ≡ refusedRead Place → (i : ℕ) × ((i < length place) × (slots ≤ getD place i 0))
+      there r (not-a-state i l h) e = (i, (l, h))
+      there r (too-many-bytes f h) e = let z : _≡_ {A = ℕ} 0 1 = cc in absurd (omega arith)
+      there r (is-read f h) e = let z : _≡_ {A = ℕ} 0 1 = cc in absurd (omega arith)
+
+      back : (r : ReadOf) → Judged n k table place count piece len r → (i : ℕ) × ((i < length place) × (slots ≤ getD place i 0)) → r ≡ refusedRead Place
+      back r (not-a-state i l h) w = refl
+      back r (too-many-bytes f h) w = absurd (omega (arith, f (w .0) (w .1 .0), w .1 .1))
+      back r (is-read f h) w = absurd (omega (arith, f (w .0) (w .1 .0), w .1 .1))
+
+  -- LONG exactly if each state is below s, and the bytes taken and the piece pass 4,294,967,295
+  pub long-iff : (answer ≡ refusedRead Long) ↔ (States slots place × (4294967295 < count + length piece))
+  long-iff = (there answer judged, back answer judged)
+    where
+      there : (r : ReadOf) → Judged n k table place count piece len r → r ≡ refusedRead Long → States slots place × (4294967295 < count + length piece)
+      there r (not-a-state i l h) e = let z : _≡_ {A = ℕ} 0 1 = cc in absurd (omega arith)
+      there r (too-many-bytes f h) e = (f, h)
+      there r (is-read f h) e = let z : _≡_ {A = ℕ} 0 1 = cc in absurd (omega arith)
+
+      back : (r : ReadOf) → Judged n k table place count piece len r → States slots place × (4294967295 < count + length piece) → r ≡ refusedRead Long
+      back r (not-a-state i l h) w = absurd (omega (arith, w .0 i l, h))
+      back r (too-many-bytes f h) w = refl
+      back r (is-read f h) w = absurd (omega (arith, w .1, h))
+
+  -- and otherwise it is read
+  pub read-iff : (answer ≡ readTo (read n slots table place count (len / 2) piece)) ↔ (States slots place × (count + length piece ≤ 4294967295))
+  read-iff = (there answer judged, back answer judged)
+    where
+      there : (r : ReadOf) → Judged n k table place count piece len r → r ≡ readTo (read n slots table place count (len / 2) piece) → States slots place × (count + length piece ≤ 4294967295)
+      there r (not-a-state i l h) e = let z : _≡_ {A = ℕ} 0 1 = cc in absurd (omega arith)
+      there r (too-many-bytes f h) e = let z : _≡_ {A = ℕ} 0 1 = cc in absurd (omega arith)
+      there r (is-read f h) e = (f, h)
+
+      back : (r : ReadOf) → Judged n k table place count piece len r → States slots place × (count + length piece ≤ 4294967295) → r ≡ readTo (read n slots table place count (len / 2) piece)
+      back r (not-a-state i l h) w = absurd (omega (arith, w .0 i l, h))
+      back r (too-many-bytes f h) w = absurd (omega (arith, w .1, h))
+      back r (is-read f h) w = refl
+
+-- the answers name the refusal
+pub split-refused : (place : List ℕ) (r : ReadOf) (why : ReadRefusal) → (splitBy place r .ending ≡ Refused why) ↔ (r ≡ refusedRead why)
+split-refused place (refusedRead w) why = (λ e. cc, λ e. cc)
+split-refused place (readTo o) why = (λ e. let z : _≡_ {A = ℕ} 0 1 = cc in absurd (omega arith), λ e. let z : _≡_ {A = ℕ} 0 1 = cc in absurd (omega arith))
+
+pub whole-refused : (place : ℕ) (r : ReadOf) (why : ReadRefusal) → (wholeBy place r .ending ≡ Refused why) ↔ (r ≡ refusedRead why)
+whole-refused place (refusedRead w) why = (λ e. cc, λ e. cc)
+whole-refused place (readTo o) why = (λ e. let z : _≡_ {A = ℕ} 0 1 = cc in absurd (omega arith), λ e. let z : _≡_ {A = ℕ} 0 1 = cc in absurd (omega arith))
+
+-- so for each call, in its own answer
+module _ (table place : List ℕ) (count : ℕ) (piece : Word) (len : ℕ) where
+  abbrev splitEnding : Ending
+  splitEnding = splitBy place (readOf 1 8 table place count piece len) .ending
+
+  pub split-place-iff : (splitEnding ≡ Refused Place) ↔ ((i : ℕ) × ((i < length place) × (slotsIn 1 8 (length table) ≤ getD place i 0)))
+  split-place-iff =
+      (λ e. place-iff 1 8 table place count piece len .0 (split-refused place _ Place .0 e), λ w. split-refused place _ Place .1 (place-iff 1 8 table place count piece len .1 w))
+
+  pub split-long-iff : (splitEnding ≡ Refused Long) ↔ (States (slotsIn 1 8 (length table)) place × (4294967295 < count + length piece))
+  split-long-iff =
+      (λ e. long-iff 1 8 table place count piece len .0 (split-refused place _ Long .0 e), λ w. split-refused place _ Long .1 (long-iff 1 8 table place count piece len .1 w))
+
+module _ (table : List ℕ) (place count : ℕ) (piece : Word) (len : ℕ) where
+  abbrev wholeEnding : Ending
+  wholeEnding = wholeBy place (readOf 8 1 table (place ∷ []) count piece len) .ending
+
+  pub whole-place-iff : (wholeEnding ≡ Refused Place) ↔ (slotsIn 8 1 (length table) ≤ place)
+  whole-place-iff = (
+    λ e. only (place-iff 8 1 table (place ∷ []) count piece len .0 (whole-refused place _ Place .0 e)),
+    λ h. whole-refused place _ Place .1 (place-iff 8 1 table (place ∷ []) count piece len .1 (0, (omega arith, h))),
+  )
+    where
+      only : (i : ℕ) × ((i < length (place ∷ [])) × (slotsIn 8 1 (length table) ≤ getD (place ∷ []) i 0)) → slotsIn 8 1 (length table) ≤ place
+      only (zero, w) = w .1
+      only (suc i, w) = absurd (omega (arith, w .0))
+
+  pub whole-long-iff : (wholeEnding ≡ Refused Long) ↔ ((place < slotsIn 8 1 (length table)) × (4294967295 < count + length piece))
+  whole-long-iff = (
+    λ e.
+        let w = long-iff 8 1 table (place ∷ []) count piece len .0 (whole-refused place _ Long .0 e) in
+        (w .0 0 (omega arith), w .1),
+    λ w. whole-refused place _ Long .1 (long-iff 8 1 table (place ∷ []) count piece len .1 (all (w .0), w .1)),
+  )
+    where
+      all : place < slotsIn 8 1 (length table) → States (slotsIn 8 1 (length table)) (place ∷ [])
+      all h zero l = h
+      all h (suc i) l = absurd (omega (arith, l))
+
+-- ---- what it keeps
+
+-- an answer, whatever the slicing
+abbrev pub takenBy : ReadOf → ℕ
+takenBy (refusedRead why) = 0
+takenBy (readTo r) = r .taken
+
+abbrev pub placeBy : List ℕ → ReadOf → List ℕ
+placeBy place (refusedRead why) = place
+placeBy place (readTo r) = r .place
+
+abbrev pub recordsBy : ReadOf → ℕ
+recordsBy (refusedRead why) = 0
+recordsBy (readTo r) = length (r .found)
+
+abbrev pub endingBy : ReadOf → Ending
+endingBy (refusedRead why) = Refused why
+endingBy (readTo r) = Stopped (r .stop)
+
+pub split-is : (place : List ℕ) (r : ReadOf) → splitBy place r ≡ record { taken = takenBy r; place = placeBy place r; records = recordsBy r; ending = endingBy r }
+split-is place (refusedRead why) = refl
+split-is place (readTo r) = refl
+
+pub whole-is : (place : ℕ) (r : ReadOf) → wholeBy place r ≡ record { taken = takenBy r; place = getD (placeBy (place ∷ []) r) 0 0; records = recordsBy r; ending = endingBy r }
+whole-is place (refusedRead why) = refl
+whole-is place (readTo r) = refl
+
+-- what every read has done to its list and place
+pub record ReadKept (place : List ℕ) (piece : Word) (list : List ℕ) (r : ReadOf) : Type 0 where
+  pub part : takenBy r ≤ length piece
+  pub fits : recordsBy r ≤ length list / 2
+  pub wide : length (placeBy place r) ≡ length place
+  pub long : length (listBy list r) ≡ length list
+  pub unused : (i : ℕ) → 2 * recordsBy r ≤ i → getD (listBy list r) i 0 ≡ getD list i 0
+  pub idle : takenBy r ≡ 0 → (placeBy place r ≡ place) × (listBy list r ≡ list)
+  pub whole : (endingBy r ≡ Stopped All) → takenBy r ≡ length piece
+
+pub kept-refused : (place : List ℕ) (piece : Word) (list : List ℕ) (why : ReadRefusal) → ReadKept place piece list (refusedRead why)
+kept-refused place piece list why = record {
+  part = zero-le;
+  fits = zero-le;
+  wide = refl;
+  long = refl;
+  unused = λ i h. refl;
+  idle = λ e. (refl, refl);
+  whole = λ e. let z : _≡_ {A = ℕ} 0 1 = cc in absurd (omega arith);
+}
+
+behind : (xs l : List ℕ) (i : ℕ) → length xs ≤ i → length xs ≤ length l → getD (xs ++ drop (length xs) l) i 0 ≡ getD l i 0
+behind xs l i h fits =
+    let z : i ≡ length xs + (i - length xs) = omega arith in
+    ap (λ (j : ℕ). getD (xs ++ drop (length xs) l) j 0) z
+    ∙ getD-append-add xs (drop (length xs) l) (i - length xs) 0 ∙ getD-drop (length xs) l (i - length xs) 0 ∙ ap (λ (j : ℕ). getD l j 0) (sym z)
+
+pub kept-read : (n s : ℕ) (table place : List ℕ) (count : ℕ) (piece : Word) (list : List ℕ)
+    → ReadKept place piece list (readTo (read n s table place count (length list / 2) piece))
+unfolding flat
+kept-read n s table place count piece list =
+    let o = read n s table place count (length list / 2) piece in
+    let k = read-kept n s table place count (length list / 2) piece in
+    let room : length (flat (o .found)) ≤ length list = omega (arith, flat-length (o .found), k .fits) in
+    record {
+      part = k .part;
+      fits = k .fits;
+      wide = k .long;
+      long = list-long n s table place count piece list _ refl;
+      unused = λ i h. behind (flat (o .found)) list i (omega (arith, flat-length (o .found))) room;
+      idle = λ e. (k .idle e .0, none (o .found) list (k .idle e .1));
+      whole = λ e. k .whole .0 (stopped-is (o .stop) All e);
+    }
+  where
+    none : (os : List Occurrence) (l : List ℕ) → os ≡ [] → flat os ++ drop (length (flat os)) l ≡ l
+    none [] l e = refl
+    none (x ∷ os) l e = let z : _≡_ {A = ℕ} 0 1 = cc in absurd (omega arith)
+
+    stopped-is : (a b : Stop) → Stopped a ≡ Stopped b → a ≡ b
+    stopped-is a b e = cc
+
+pub read-keeps : (n k : ℕ) (table place : List ℕ) (count : ℕ) (piece : Word) (list : List ℕ) → ReadKept place piece list (readOf n k table place count piece (length list))
+read-keeps n k table place count piece list = go _ (judged n k table place count piece (length list))
+  where
+    go : (r : ReadOf) → Judged n k table place count piece (length list) r → ReadKept place piece list r
+    go r (not-a-state i l h) = kept-refused place piece list Place
+    go r (too-many-bytes f h) = kept-refused place piece list Long
+    go r (is-read f h) = kept-read n (slotsIn n k (length table)) table place count piece list
+
+-- an odd last number is never used
+pub odd-kept : (n k : ℕ) (table place : List ℕ) (count : ℕ) (piece : Word) (list : List ℕ) (i : ℕ) → 2 * (length list / 2) ≤ i
+    → getD (listBy list (readOf n k table place count piece (length list))) i 0 ≡ getD list i 0
+odd-kept n k table place count piece list i h =
+    let g = read-keeps n k table place count piece list in
+    g .unused i (omega (arith, g .fits))

@@ -1,0 +1,259 @@
+-- The loop over a piece: what a byte does to what is left, and how it ends.
+use Prim.Native.Nat.{_*_, _+_, _-_, _/_, _<_, _≤_, suc, zero-le, ℕ}
+use mathlib.Core.Bool.{Bool, false, true}
+use mathlib.Core.List.{List, [], _++_, _∷_, append-assoc, append-nil}
+use mathlib.Core.Path.{_∙_, _≡_, ap, refl, sym}
+use native.Mathlib.Nat.{add-zero, sub-zero}
+use native.Mathlib.Numerals.{add-one}
+use native.Mathlib.Omega.{arith}
+use lib.Dec.{leb}
+use lib.ListN.{drop, drop-of-length-le, getD, length, length-append, length-drop, take}
+use lib.Seq.{drop-append-add, drop-cons, drop-drop, sets, sets-eq, take-append-seam}
+use borrow.Author.Tests.{le-ltb, leb-true}
+use Rattle.matching.specs.Laws.Occurrences.{occurAt-length}
+use Rattle.matching.specs.Laws.Readings.{read-damaged, read-full, read-tookByte}
+use Rattle.matching.specs.Machine.{next, vector}
+use Rattle.matching.specs.Occurrence.{Occurrence, flat, occurAt}
+use Rattle.matching.specs.Reading.{Outcome, allBelow, flagged, halted, nexts, onesOf, read, vectorsAt}
+use Rattle.matching.specs.Slicing.{anded}
+use Rattle.matching.specs.Words.{same}
+use Rattle.matching.specs.declared.Stop.{Stop}
+use Rattle.matching.specs.declared.Stop.the-variants.{All, Damaged, Full}
+use Rattle.passing.specs.Laws.Below.{below-one}
+use Rattle.passing.specs.Laws.Passing.{ahead-ahead, ahead-byte, ahead-none, nexts-long}
+use Rattle.passing.specs.Laws.Runs.{full}
+use Rattle.passing.specs.Laws.Starts.{one-even}
+use Rattle.passing.specs.Quiet.{Passes, ahead}
+use Rattle.passing.specs.Steps.{Ready, Starts, Step}
+use Rattle.reading.specs.Laws.Records.{flat-append, flat-length}
+use Rattle.reading.specs.Records.{emitBy, emitOf, emitted, fitsIn}
+use Rattle.reading.specs.Walks.{Going, listOf, wentOf, wentOneOf}
+use Rattle.reading.specs.declared.records.Emit.the-variants.{NoRoom, Written}
+
+-- ---- the list
+
+-- numbers written behind the first
+sets-after : (a b l : List ℕ) → length a + length b ≤ length l → sets (a ++ drop (length a) l) (length a) b ≡ (a ++ b) ++ drop (length (a ++ b)) l
+sets-after a b l h =
+    let m = a ++ drop (length a) l in
+    let fits : length a + length b ≤ length m = simp (length-append, length-drop) (omega arith) in
+    sets-eq b m (length a) fits
+    ∙ rw (take-append-seam a (drop (length a) l), drop-append-add a (drop (length a) l) (length b), drop-drop (length b) (length a) l, length-append, append-assoc)
+
+records-after : (l l₀ : List ℕ) (done new : List Occurrence) (w : ℕ) → length done ≡ w → l ≡ flat done ++ drop (length (flat done)) l₀ → 2 * (w + length new) ≤ length l₀
+    → sets l (2 * w) (flat new) ≡ flat (done ++ new) ++ drop (length (flat (done ++ new))) l₀
+records-after l l₀ done new w e el fits =
+    let at : 2 * w ≡ length (flat done) = omega (arith, flat-length done) in
+    rw (at, el, flat-append done new) (sets-after (flat done) (flat new) l₀ (omega (arith, flat-length done, flat-length new)))
+
+-- ---- what put_all answered
+
+written-of : (b : Bool) (x y : ℕ) → Written x ≡ emitBy b y → (b ≡ true) × (x ≡ y)
+written-of true x y e = (refl, cc)
+written-of false x y e = let z : _≡_ {A = ℕ} 0 1 = cc in absurd (omega arith)
+
+none-of : (b : Bool) (y : ℕ) → NoRoom ≡ emitBy b y → b ≡ false
+none-of true y e = let z : _≡_ {A = ℕ} 0 1 = cc in absurd (omega arith)
+none-of false y e = refl
+
+-- ---- how a reading ended, as the code has it
+
+pub record Ended (r : Outcome) (l₀ l place : List ℕ) (why : Stop) (w i : ℕ) : Type 0 where
+  pub taken : r .taken ≡ i
+  pub place-is : r .place ≡ place
+  pub stop : r .stop ≡ why
+  pub records : length (r .found) ≡ w
+  pub list : l ≡ listOf l₀ r
+
+-- ---- the loop
+
+module _ (n s : ℕ) (table : List ℕ) (count : ℕ) (piece l₀ start : List ℕ) where
+  abbrev whole : Outcome
+  whole = read n s table start count (length l₀ / 2) piece
+
+  pub going-start : allBelow s start ≡ true → Going n s table count piece l₀ start l₀ start 0 0
+  unfolding flat
+  going-start b = record {
+    most = zero-le;
+    long = refl;
+    below = b;
+    done = [];
+    written = refl;
+    fits = zero-le;
+    list = refl;
+    is = rw (sub-zero, add-zero) (sym (ahead-none whole));
+  }
+
+  module _ (l place : List ℕ) (w i : ℕ) (g : Going n s table count piece l₀ start l place w i) where
+    abbrev left : Outcome
+    left = read n s table place (count + i) (length l₀ / 2 - w) (drop i piece)
+
+    pub going-long : length l ≡ length l₀
+    going-long = rw (g .list) (simp (length-append, length-drop) (omega (arith, flat-length (g .done), g .written, g .fits)))
+
+    -- over quiet bytes
+    pub going-pass : (q : List ℕ) (j : ℕ) → Passes n s table piece place i q j → Going n s table count piece l₀ start l q w j
+    going-pass q j p =
+        let z : i + (j - i) ≡ j = omega (arith, p .low) in
+        record {
+          most = p .most;
+          long = p .long ∙ g .long;
+          below = p .below;
+          done = g .done;
+          written = g .written;
+          fits = g .fits;
+          list = g .list;
+          is = g .is ∙ ap (ahead i (g .done)) (p .same count (length l₀ / 2 - w)) ∙ ahead-ahead i (j - i) (g .done) [] _ ∙ rw (z, append-nil);
+        }
+
+    ended : (why : Stop) → left ≡ halted place why → Ended whole l₀ l place why w i
+    unfolding ahead halted
+    ended why e =
+        let all : whole ≡ ahead i (g .done) (halted place why) = g .is ∙ ap (ahead i (g .done)) e in
+        let found : whole .found ≡ g .done = ap (λ (r : Outcome). r .found) all ∙ append-nil (g .done) in
+        record {
+          taken = ap (λ (r : Outcome). r .taken) all ∙ add-zero i;
+          place-is = ap (λ (r : Outcome). r .place) all;
+          stop = ap (λ (r : Outcome). r .stop) all;
+          records = ap length found ∙ g .written;
+          list = g .list ∙ rw found;
+        }
+
+    pub going-all : length piece ≤ i → Ended whole l₀ l place All w i
+    unfolding read
+    going-all more = ended All (rw (drop-of-length-le piece {i = i} more))
+
+    -- one byte: its next numbers, and the AND of their vectors
+    module _ (less : i < length piece) (next : List ℕ) (moves : next ≡ nexts n s table 0 place (getD piece i 0)) where
+      abbrev c : ℕ
+      c = getD piece i 0
+
+      abbrev rest : List ℕ
+      rest = drop (i + 1) piece
+
+      front : drop i piece ≡ c ∷ rest
+      front = rw (drop-cons piece i 0 less, add-one i)
+
+      pub going-damaged : allBelow s next ≡ false → Ended whole l₀ l place Damaged w i
+      going-damaged b =
+          ended Damaged (rw front (read-damaged n s table place (count + i) (length l₀ / 2 - w) c rest (rw moves at b)))
+
+      module _ (below : allBelow s next ≡ true) (hits : ℕ) (vector : hits ≡ anded 65535 (vectorsAt n s table 0 next)) where
+        abbrev tags : List ℕ
+        tags = onesOf 0 16 hits
+
+        flags : flagged n s table (nexts n s table 0 place c) ≡ tags
+        unfolding flagged
+        flags = rw (vector, moves)
+
+        pub going-full : NoRoom ≡ emitOf l w tags → (l′ : List ℕ) → l′ ≡ emitted l w (count + i + 1) tags → Ended whole l₀ l′ place Full w i
+        going-full none l′ el =
+            let b : fitsIn l w tags ≡ false = none-of _ _ none in
+            let same : l′ ≡ l = el ∙ rw b in
+            let full : leb (length (flagged n s table (nexts n s table 0 place c))) (length l₀ / 2 - w) ≡ false = rw (flags, ← going-long) b in
+            rw same (ended Full (rw front (read-full n s table place (count + i) (length l₀ / 2 - w) c rest (rw moves at below) full)))
+
+        pub going-took : (x : ℕ) → Written x ≡ emitOf l w tags → (l′ : List ℕ) → l′ ≡ emitted l w (count + i + 1) tags
+            → Going n s table count piece l₀ start l′ next x (i + 1)
+        going-took x some l′ el =
+            let f = written-of _ _ _ some in
+            let fits : leb (length (flagged n s table (nexts n s table 0 place c))) (length l₀ / 2 - w) ≡ true = rw (flags, ← going-long) (f .0) in
+            let room : length tags ≤ length l₀ / 2 - w = leb-true (length tags) (length l₀ / 2 - w) (rw (← flags) fits) in
+            let e : count + i + 1 ≡ suc (count + i) = omega arith in
+            let on : count + (i + 1) ≡ suc (count + i) = omega arith in
+            let less-room : length l₀ / 2 - x ≡ length l₀ / 2 - w - length tags = omega (arith, f .1) in
+            let byte : left ≡ ahead 1 (occurAt (suc (count + i)) tags) (read n s table next (suc (count + i)) (length l₀ / 2 - w - length tags) rest) =
+            rw (front, read-tookByte n s table place (count + i) (length l₀ / 2 - w) c rest (rw moves at below) fits, flags, ahead-byte, moves) in
+            record {
+              most = omega arith;
+              long = ap length moves ∙ nexts-long n s table 0 place c ∙ g .long;
+              below = below;
+              done = g .done ++ occurAt (suc (count + i)) tags;
+              written = length-append (g .done) (occurAt (suc (count + i)) tags) ∙ rw (g .written, occurAt-length, f .1);
+              fits = omega (arith, f .1, g .fits);
+              list = el ∙ rw (f .0, e) (records-after l l₀ (g .done) (occurAt (suc (count + i)) tags) w (g .written) (g .list) (omega (arith, occurAt-length (suc (count + i)) tags, g .fits)));
+              is = g .is ∙ ap (ahead i (g .done)) byte ∙ ahead-ahead i 1 (g .done) (occurAt (suc (count + i)) tags) _ ∙ rw (on, less-room);
+            }
+
+-- ---- the same for eight machines, as the parts of a step give their numbers
+
+module _ (s : ℕ) (table : List ℕ) (count : ℕ) (piece l₀ start : List ℕ) where
+  -- the code's answer and list are those of the reading
+  abbrev SplitRight : List ℕ → List ℕ → Stop → ℕ → ℕ → Type 0
+  SplitRight l place why w i =
+      (record { taken = i; place = place; records = w; stop = why } ≡ wentOf (read 1 s table start count (length l₀ / 2) piece))
+      × (l ≡ listOf l₀ (read 1 s table start count (length l₀ / 2) piece))
+
+  right : (l place : List ℕ) (why : Stop) (w i : ℕ) → Ended (read 1 s table start count (length l₀ / 2) piece) l₀ l place why w i → SplitRight l place why w i
+  right l place why w i e = (rw (e .taken, e .place-is, e .stop, e .records), e .list)
+
+  module _ (ready : Ready 1 8 s table start) where
+    pub split-begin : Going 1 s table count piece l₀ start l₀ start 0 0
+    split-begin = going-start 1 s table count piece l₀ start (rw (full start (ready .long)) at (ready .below))
+
+    module _ (l place : List ℕ) (w i : ℕ) (g : Going 1 s table count piece l₀ start l place w i) where
+      eight : length place ≡ 8
+      eight = g .long ∙ ready .long
+
+      pub split-able : (starts : List ℕ) → Starts 1 s starts → Step 1 s table starts place
+      split-able starts b = record {
+        even = one-even;
+        begins = b;
+        ready = record { room = ready .room; few = ready .few; long = eight; below = rw (full place eight) (g .below) };
+      }
+
+      pub split-all : length piece ≤ i → SplitRight l place All w i
+      split-all more = right l place All w i (going-all 1 s table count piece l₀ start l place w i g more)
+
+      module _ (less : i < length piece) (next : List ℕ) (long : length next ≡ 8) (moves : take 8 next ≡ nexts 1 s table 0 (take 8 place) (getD piece i 0)) where
+        moved : next ≡ nexts 1 s table 0 place (getD piece i 0)
+        moved = rw (full next long, full place eight) at moves
+
+        pub split-damaged : allBelow s (take 8 next) ≡ false → SplitRight l place Damaged w i
+        split-damaged b = right l place Damaged w i (going-damaged 1 s table count piece l₀ start l place w i g less next moved (rw (full next long) at b))
+
+        module _ (below : allBelow s (take 8 next) ≡ true) (hits : ℕ) (vector : hits ≡ anded 65535 (vectorsAt 1 s table 0 (take 8 next))) where
+          pub split-full : NoRoom ≡ emitOf l w (onesOf 0 16 hits) → (l′ : List ℕ) → l′ ≡ emitted l w (count + i + 1) (onesOf 0 16 hits) → SplitRight l′ place Full w i
+          split-full none l′ el =
+              right l′ place Full w i
+              (going-full 1 s table count piece l₀ start l place w i g less next moved (rw (full next long) at below) hits (rw (full next long) at vector) none l′ el)
+
+          pub split-took : (x : ℕ) → Written x ≡ emitOf l w (onesOf 0 16 hits) → (l′ : List ℕ) → l′ ≡ emitted l w (count + i + 1) (onesOf 0 16 hits)
+              → Going 1 s table count piece l₀ start l′ next x (i + 1)
+          split-took x some l′ el =
+              going-took 1 s table count piece l₀ start l place w i g less next moved (rw (full next long) at below) hits (rw (full next long) at vector) x some l′ el
+
+-- ---- and for the whole-byte machine
+
+module _ (s : ℕ) (table : List ℕ) (count : ℕ) (piece l₀ : List ℕ) (start : ℕ) where
+  abbrev WholeRight : List ℕ → ℕ → Stop → ℕ → ℕ → Type 0
+  WholeRight l q why w i =
+      (record { taken = i; state = q; records = w; stop = why } ≡ wentOneOf (read 8 s table (start ∷ []) count (length l₀ / 2) piece))
+      × (l ≡ listOf l₀ (read 8 s table (start ∷ []) count (length l₀ / 2) piece))
+
+  right-one : (l : List ℕ) (q : ℕ) (why : Stop) (w i : ℕ) → Ended (read 8 s table (start ∷ []) count (length l₀ / 2) piece) l₀ l (q ∷ []) why w i → WholeRight l q why w i
+  right-one l q why w i e = (rw (e .taken, e .place-is, e .stop, e .records), e .list)
+
+  pub whole-begin : start < s → Going 8 s table count piece l₀ (start ∷ []) l₀ (start ∷ []) 0 0
+  whole-begin h = going-start 8 s table count piece l₀ (start ∷ []) (below-one s start h)
+
+  module _ (l : List ℕ) (q w i : ℕ) (g : Going 8 s table count piece l₀ (start ∷ []) l (q ∷ []) w i) where
+    pub whole-all : length piece ≤ i → WholeRight l q All w i
+    whole-all more = right-one l q All w i (going-all 8 s table count piece l₀ (start ∷ []) l (q ∷ []) w i g more)
+
+    module _ (less : i < length piece) (n : ℕ) (moves : n ∷ [] ≡ nexts 8 s table 0 (q ∷ []) (getD piece i 0)) where
+      pub whole-damaged : s ≤ n → WholeRight l q Damaged w i
+      unfolding allBelow
+      whole-damaged h =
+          right-one l q Damaged w i (going-damaged 8 s table count piece l₀ (start ∷ []) l (q ∷ []) w i g less (n ∷ []) moves (rw (le-ltb n s h)))
+
+      module _ (below : n < s) (hits : ℕ) (vector : anded 65535 (vectorsAt 8 s table 0 (n ∷ [])) ≡ hits) where
+        pub whole-full : NoRoom ≡ emitOf l w (onesOf 0 16 hits) → (l′ : List ℕ) → l′ ≡ emitted l w (count + i + 1) (onesOf 0 16 hits) → WholeRight l′ q Full w i
+        whole-full none l′ el =
+            right-one l′ q Full w i
+            (going-full 8 s table count piece l₀ (start ∷ []) l (q ∷ []) w i g less (n ∷ []) moves (below-one s n below) hits (sym vector) none l′ el)
+
+        pub whole-took : (x : ℕ) → Written x ≡ emitOf l w (onesOf 0 16 hits) → (l′ : List ℕ) → l′ ≡ emitted l w (count + i + 1) (onesOf 0 16 hits)
+            → Going 8 s table count piece l₀ (start ∷ []) l′ (n ∷ []) x (i + 1)
+        whole-took x some l′ el =
+            going-took 8 s table count piece l₀ (start ∷ []) l (q ∷ []) w i g less (n ∷ []) moves (below-one s n below) hits (sym vector) x some l′ el
