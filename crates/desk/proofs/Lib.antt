@@ -1,2 +1,4 @@
 pub mod Appending
 pub mod HandingOut
+pub mod ByAnswer
+pub mod Scanning

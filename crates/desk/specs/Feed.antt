@@ -48,6 +48,10 @@ feedBy d i t table piece true true true true below = record { desk = d; answer =
 feedBy d i t table piece true true true false false = record { desk = d; answer = F.Fed 0 0 Damaged }
 feedBy d i t table piece true true true false true = fedBy d i t (readFor d t table piece)
 
+-- for the ticket in room i, once nothing refuses it
+abbrev pub readIn : Desk → ℕ → Ticket → List ℕ → Word → Feeding
+readIn d i t table piece = feedBy d i t table piece true true true false (allBelow (slotsIn 1 8 (length table)) (t .place))
+
 -- with the room that the serial has
 abbrev pub feedIn : Desk → ℕ → List ℕ → Word → Feeding
 feedIn d i table piece =

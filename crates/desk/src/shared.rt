@@ -11,6 +11,13 @@ ghost use lib.Seq.{sets};
 ghost use Rattle.desk.specs.Shared.{pushAll, recordsOf, paired};
 ghost use Rattle.desk.specs.TakeMany.{oldest, without, recordNumbers};
 
+// The records for which a list that holds so many has room.
+pub fn room_left(count: usize) -> usize
+    ensures { λ r. ⌜ r ≡ 256 - count ⌝ }
+{
+    if count < 256 { 256 - count } else { 0 }
+}
+
 // The first n ends and tags of a run, as records of a ticket.
 pub fn append(records: Records, serial: Serial, edition: Edition, list: &[u32], n: usize) -> Records
     requires { ⌜ (n ≤ 256 - records .count) × (2 * n ≤ length (now list)) ⌝ }

@@ -7,24 +7,19 @@ use Rattle.desk.proofs.Desk.close.Reads as reads
 use Rattle.desk.proofs.Desk.close.Lts as lts
 use Rattle.desk.proofs.rooms.first_room.Reads as first-room-reads
 
--- src/lib.rt:181:13
 first-room-requires : tie.Need-first-room-requires
 first-room-requires c κs = search needs
 
--- src/lib.rt:183:13
 returns : tie.Need-returns
 unfolding closeOf
 returns c = simp (← c .before .first-room .ensures, le-ltb _ _ (c .if1 .taken))
 
--- src/lib.rt:186:9
 mul-t13 : tie.Need-mul-t13
 mul-t13 c = search needs
 
--- src/lib.rt:186:9
 element-set-from-desk : tie.Need-element-set-from-desk
 element-set-from-desk c = search needs
 
--- src/lib.rt:177:5
 returns-2 : tie.Need-returns-2
 unfolding closeOf
 returns-2 c = simp (← c .before .first-room .ensures, lt-ltb _ _ (c .if1 .left))

@@ -7,38 +7,30 @@ use Rattle.desk.proofs.Desk.open.Reads as reads
 use Rattle.desk.proofs.Desk.open.Lts as lts
 use Rattle.desk.proofs.rooms.first_room.Reads as first-room-reads
 
--- src/lib.rt:154:13
 returns : tie.Need-returns
 unfolding openOf
 returns c = simp (eq-eqb _ _ (c .if1 .taken))
 
--- src/lib.rt:157:13
 returns-2 : tie.Need-returns-2
 unfolding openOf
 returns-2 c = simp (ne-eqb _ _ (c .before .before .if1 .left), eq-eqb _ _ (c .if2 .taken))
 
--- src/lib.rt:160:13
 first-room-requires : tie.Need-first-room-requires
 first-room-requires c κs = search needs
 
--- src/lib.rt:162:13
 returns-3 : tie.Need-returns-3
 unfolding openOf
 returns-3 c = simp (ne-eqb _ _ (c .before .before .before .before .before .if1 .left), ne-eqb _ _ (c .before .before .before .if2 .left), ← c .before .first-room .ensures, le-ltb _ _ (c .if3 .taken))
 
--- src/lib.rt:164:29
 add-t13 : tie.Need-add-t13
 add-t13 c = search needs
 
--- src/lib.rt:166:9
 mul-t16 : tie.Need-mul-t16
 mul-t16 c = search needs
 
--- src/lib.rt:166:9
 element-set-from-desk : tie.Need-element-set-from-desk
 element-set-from-desk c = search needs
 
--- src/lib.rt:148:5
 returns-4 : tie.Need-returns-4
 unfolding openOf
 returns-4 c = simp (ne-eqb _ _ (c .before .before .before .before .before .before .if1 .left), ne-eqb _ _ (c .before .before .before .before .if2 .left), ← c .before .before .first-room .ensures, lt-ltb _ _ (c .before .if3 .left))

@@ -9,7 +9,6 @@ use Rattle.desk.proofs.Desk.take.Tie as tie
 use Rattle.desk.proofs.Desk.take.Reads as reads
 use Rattle.desk.proofs.Desk.take.Lts as lts
 
--- src/lib.rt:201:13
 -- the place after the first, round the ring
 turned : (n : ℕ) → (n % 256 + 1) % 256 ≡ (n + 1) % 256
 turned n = omega arith
@@ -18,23 +17,18 @@ returns : tie.Need-returns
 unfolding takeOf
 returns c = simp (eq-eqb _ _ (c .if1 .taken))
 
--- src/lib.rt:204:22
 mul-oldest : tie.Need-mul-oldest
 mul-oldest c = search needs
 
--- src/lib.rt:204:22
 element-copy-out-oldest : tie.Need-element-copy-out-oldest
 element-copy-out-oldest c = search needs
 
--- src/lib.rt:205:26
 add-records : tie.Need-add-records
 add-records c = search needs
 
--- src/lib.rt:206:25
 sub-records : tie.Need-sub-records
 sub-records c = search needs
 
--- src/lib.rt:196:5
 returns-2 : tie.Need-returns-2
 unfolding takeOf
 returns-2 c = simp (ne-eqb _ _ (c .before .if1 .left), turned (c .before .before .before .args .self .records .first))

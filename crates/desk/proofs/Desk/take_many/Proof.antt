@@ -7,19 +7,15 @@ use Rattle.desk.proofs.Desk.take_many.Lts as lts
 use Rattle.desk.proofs.shared.hand_out.Reads as hand-out-reads
 use Rattle.desk.proofs.shared.least.Reads as least-reads
 
--- src/lib.rt:248:13
 least-requires : tie.Need-least-requires
 least-requires c κs = search needs
 
--- src/lib.rt:249:13
 hand-out-requires : tie.Need-hand-out-requires
 hand-out-requires c κs = search needs
 
--- src/lib.rt:242:5
 same-length : tie.Need-same-length
 same-length c = search needs
 
--- src/lib.rt:242:5
 returns : tie.Need-returns
 returns c = taken-many (c .before .before .before .before .before .before .before .args .self) (c .before .before .before .before .before .before .before .args .list .now) _ _ _ (c .before .before .before .before .least .ensures) (c .before .before .hand-out .ensures .0) (c .before .before .hand-out .ensures .1)
 

@@ -17,23 +17,18 @@ Inv-loop wanted tickets i₀ i = (i ≤ 16) × Sought (isWanted wanted) tickets 
 abbrev μ-loop : tie.MeasureT-loop
 μ-loop wanted tickets i₀ i = 16 - i
 
--- src/rooms.rt:34:5
 loop-holds : tie.Need-loop-holds Inv-loop μ-loop
 loop-holds c = (omega arith, sought-start (isWanted (c .args .wanted)) (c .args .t1))
 
--- src/rooms.rt:35:17
 mul-t : tie.Need-mul-t Inv-loop μ-loop
 mul-t c = search needs
 
--- src/rooms.rt:35:17
 array-copy-out-t : tie.Need-array-copy-out-t Inv-loop μ-loop
 array-copy-out-t c = search needs
 
--- src/rooms.rt:36:12
 is-wanted-requires : tie.Need-is-wanted-requires Inv-loop μ-loop
 is-wanted-requires c κs = search needs
 
--- src/rooms.rt:37:13
 returns : tie.Need-returns Inv-loop μ-loop
 returns c =
     let a = c .before .before .before .before .before in
@@ -41,15 +36,12 @@ returns c =
     sought-here (isWanted (a .args .wanted)) (a .args .t1) (c .before .before .before .before .loop .i) (c .before .before .before .before .loop .inv .1) (omega arith)
     (sym (c .before .is-wanted .ensures) ∙ c .if1 .taken)
 
--- src/rooms.rt:39:9
 add-i : tie.Need-add-i Inv-loop μ-loop
 add-i c = search needs
 
--- src/rooms.rt:34:5
 loop-less : tie.Need-loop-less Inv-loop μ-loop
 loop-less c = search needs
 
--- src/rooms.rt:34:5
 loop-again : tie.Need-loop-again Inv-loop μ-loop
 loop-again c =
     let a = c .before .before .before .before .before in
@@ -59,7 +51,6 @@ loop-again c =
           (sym (c .before .is-wanted .ensures) ∙ c .if1 .left),
     )
 
--- src/rooms.rt:30:1
 returns-2 : tie.Need-returns-2 Inv-loop μ-loop
 returns-2 c =
     let a = c .before .before in

@@ -15,71 +15,54 @@ Inv-loop serial edition list n q₀ j₀ q j = Appending serial edition list n q
 abbrev μ-loop : tie.MeasureT-loop
 μ-loop serial edition list n q₀ j₀ q j = n - j
 
--- src/shared.rt:26:5
 loop-holds : tie.Need-loop-holds Inv-loop μ-loop
 loop-holds c = appending-start _ _ _ _ _
 
--- src/shared.rt:27:19
 add-at : tie.Need-add-at Inv-loop μ-loop
 add-at c = search needs
 
--- src/shared.rt:28:24
 mul-end : tie.Need-mul-end Inv-loop μ-loop
 mul-end c = search needs
 
--- src/shared.rt:28:19
 mul-end-2 : tie.Need-mul-end-2 Inv-loop μ-loop
 mul-end-2 c = search needs
 
--- src/shared.rt:28:19
 shared-slice-read-end : tie.Need-shared-slice-read-end Inv-loop μ-loop
 shared-slice-read-end c = search needs
 
--- src/shared.rt:29:25
 mul-tag : tie.Need-mul-tag Inv-loop μ-loop
 mul-tag c = search needs
 
--- src/shared.rt:29:25
 add-tag : tie.Need-add-tag Inv-loop μ-loop
 add-tag c = search needs
 
--- src/shared.rt:29:20
 mul-tag-2 : tie.Need-mul-tag-2 Inv-loop μ-loop
 mul-tag-2 c = search needs
 
--- src/shared.rt:29:20
 shared-slice-read-tag : tie.Need-shared-slice-read-tag Inv-loop μ-loop
 shared-slice-read-tag c = search needs
 
--- src/shared.rt:29:19
 cast-tag : tie.Need-cast-tag Inv-loop μ-loop
 cast-tag c = search needs
 
--- src/shared.rt:30:9
 mul-t14 : tie.Need-mul-t14 Inv-loop μ-loop
 mul-t14 c = search needs
 
--- src/shared.rt:30:9
 element-set-from-q : tie.Need-element-set-from-q Inv-loop μ-loop
 element-set-from-q c = search needs
 
--- src/shared.rt:36:19
 add-q : tie.Need-add-q Inv-loop μ-loop
 add-q c = search needs
 
--- src/shared.rt:37:9
 add-j : tie.Need-add-j Inv-loop μ-loop
 add-j c = search needs
 
--- src/shared.rt:26:5
 loop-less : tie.Need-loop-less Inv-loop μ-loop
 loop-less c = search needs
 
--- src/shared.rt:26:5
 loop-again : tie.Need-loop-again Inv-loop μ-loop
 loop-again c = appending-more _ _ _ _ _ _ _ (omega arith) (c .before .before .before .loop .inv)
 
--- src/shared.rt:14:1
 returns : tie.Need-returns Inv-loop μ-loop
 returns c = appending-end _ _ _ _ _ _ _ (omega arith) (c .before .loop .inv)
 

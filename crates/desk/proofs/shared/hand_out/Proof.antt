@@ -17,98 +17,75 @@ Inv-loop list₀ n q₀ j₀ list q j = HandingOut q₀ n list₀ q list j
 abbrev μ-loop : tie.MeasureT-loop
 μ-loop list₀ n q₀ j₀ list q j = n - j
 
--- src/shared.rt:50:5
 loop-holds : tie.Need-loop-holds Inv-loop μ-loop
 loop-holds c = handing-start _ _ _
 
--- src/shared.rt:52:17
 mul-r : tie.Need-mul-r Inv-loop μ-loop
 mul-r c = search needs
 
--- src/shared.rt:52:17
 element-copy-out-r : tie.Need-element-copy-out-r Inv-loop μ-loop
 element-copy-out-r c = search needs
 
--- src/shared.rt:56:17
 mul-i : tie.Need-mul-i Inv-loop μ-loop
 mul-i c = search needs
 
--- src/shared.rt:57:9
 mul-list : tie.Need-mul-list Inv-loop μ-loop
 mul-list c = search needs
 
--- src/shared.rt:57:9
 slice-write-list : tie.Need-slice-write-list Inv-loop μ-loop
 slice-write-list c = search needs
 
--- src/shared.rt:58:14
 add-list : tie.Need-add-list Inv-loop μ-loop
 add-list c = search needs
 
--- src/shared.rt:58:9
 mul-list-2 : tie.Need-mul-list-2 Inv-loop μ-loop
 mul-list-2 c = search needs
 
--- src/shared.rt:58:9
 slice-write-list-2 : tie.Need-slice-write-list-2 Inv-loop μ-loop
 slice-write-list-2 c = simp length-set (omega arith)
 
--- src/shared.rt:59:14
 add-list-2 : tie.Need-add-list-2 Inv-loop μ-loop
 add-list-2 c = search needs
 
--- src/shared.rt:59:9
 mul-list-3 : tie.Need-mul-list-3 Inv-loop μ-loop
 mul-list-3 c = search needs
 
--- src/shared.rt:59:9
 slice-write-list-3 : tie.Need-slice-write-list-3 Inv-loop μ-loop
 slice-write-list-3 c = simp length-set (omega arith)
 
--- src/shared.rt:60:23
 wide-requires : tie.Need-wide-requires Inv-loop μ-loop
 wide-requires c κs = search needs
 
--- src/shared.rt:60:14
 add-list-3 : tie.Need-add-list-3 Inv-loop μ-loop
 add-list-3 c = search needs
 
--- src/shared.rt:60:9
 mul-list-4 : tie.Need-mul-list-4 Inv-loop μ-loop
 mul-list-4 c = search needs
 
--- src/shared.rt:60:9
 slice-write-list-4 : tie.Need-slice-write-list-4 Inv-loop μ-loop
 slice-write-list-4 c = simp length-set (omega arith)
 
--- src/shared.rt:61:20
 add-q : tie.Need-add-q Inv-loop μ-loop
 add-q c = search needs
 
--- src/shared.rt:62:19
 sub-q : tie.Need-sub-q Inv-loop μ-loop
 sub-q c = search needs
 
--- src/shared.rt:63:9
 add-j : tie.Need-add-j Inv-loop μ-loop
 add-j c = search needs
 
--- src/shared.rt:50:5
 loop-less : tie.Need-loop-less Inv-loop μ-loop
 loop-less c = search needs
 
--- src/shared.rt:50:5
 loop-again : tie.Need-loop-again Inv-loop μ-loop
 loop-again c =
     let l = c .before .before .before .before .before .before .loop in
     let a = c .before .before .before .before .before .before .before .before .args in
     rw (c .wide .ensures) (handing-more (a .records) (a .n) (a .list .now) (l .q) (l .list) (l .j) (omega arith) (omega (arith, l .inv .count, c .before .before .before .before .before .before .before .before .pre)) (l .inv))
 
--- src/shared.rt:44:1
 same-length : tie.Need-same-length Inv-loop μ-loop
 same-length c = search needs
 
--- src/shared.rt:44:1
 returns : tie.Need-returns Inv-loop μ-loop
 returns c =
     let l = c .before .loop in

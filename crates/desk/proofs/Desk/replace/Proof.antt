@@ -1,0 +1,32 @@
+use mathlib.Core.Path.{refl}
+use Rattle.desk.proofs.ByAnswer.{replaced-is}
+use borrow.Author.Needs.{needs}
+use Rattle.desk.proofs.Desk.replace.Statement.{statement}
+use Rattle.desk.proofs.Desk.replace.Tie as tie
+use Rattle.desk.proofs.Desk.replace.Reads as reads
+use Rattle.desk.proofs.Desk.replace.Lts as lts
+use Rattle.desk.proofs.Desk.replaced.Reads as replaced-reads
+use Rattle.passing.proofs.places.slots.Reads as slots-reads
+use Rattle.tables.proofs.build_split_if.Reads as build-split-if-reads
+
+slots-requires : tie.Need-slots-requires
+slots-requires c κs = search needs
+
+build-split-if-requires : tie.Need-build-split-if-requires
+build-split-if-requires c κs = search needs
+
+replaced-requires : tie.Need-replaced-requires
+replaced-requires c κs = search needs
+
+same-length : tie.Need-same-length
+same-length c = search needs
+
+returns : tie.Need-returns
+returns c =
+    let a = c .before .before .before .before .before .before .before .before .before .before .args in
+    replaced-is (a .self) (a .set .now) (a .table .now) _ _ _ _ _ (c .before .before .before .before .before .before .slots .ensures) (c .before .before .before .build-split-if .ensures .0) refl (c .before .before .before .build-split-if .ensures .1) (c .replaced .ensures)
+
+pub replace-spec : {M : Type 1} → statement M
+replace-spec =
+    tie.close
+    (tie.spec slots-requires build-split-if-requires replaced-requires same-length returns)
