@@ -135,12 +135,7 @@ impl Desk {
     pub fn new() -> Self
         ensures { λ r. ⌜ r ≡ newDesk ⌝ }
     {
-        let free = Ticket {
-            serial: Serial(0),
-            edition: Edition(0),
-            taken: 0,
-            place: [0u16; 8],
-        };
+        let free = rooms::new_ticket(Serial(0), Edition(0));
         let none = Record {
             serial: Serial(0),
             edition: Edition(0),
@@ -239,12 +234,7 @@ impl Desk {
         }
         let serial = Serial(last.0 + 1);
         let mut desk = self;
-        desk.tickets[i] = Ticket {
-            serial,
-            edition,
-            taken: 0,
-            place: [0u16; 8],
-        };
+        desk.tickets[i] = rooms::new_ticket(serial, edition);
         desk.serial = serial;
         Opening {
             desk,
@@ -342,13 +332,9 @@ impl Desk {
                 answer: CloseAnswer::NoTicket,
             };
         }
+        let freed = rooms::new_ticket(Serial(0), Edition(0));
         let mut desk = self;
-        desk.tickets[i] = Ticket {
-            serial: Serial(0),
-            edition: Edition(0),
-            taken: 0,
-            place: [0u16; 8],
-        };
+        desk.tickets[i] = freed;
         Closing {
             desk,
             answer: CloseAnswer::Closed,

@@ -1,9 +1,22 @@
 // Looking for a room: a free one, or that of a serial.
+use crate::Edition;
 use crate::Serial;
 use crate::Ticket;
 ghost use mathlib.Core.Path.{_≡_};
-ghost use Rattle.desk.specs.Rooms.{firstRoom};
+ghost use Rattle.desk.specs.Rooms.{firstRoom, newTicket};
 ghost use Rattle.desk.specs.Wanted.{isWanted};
+
+// A ticket at place 0 with no byte taken; with serial 0, a free room.
+pub fn new_ticket(serial: Serial, edition: Edition) -> Ticket
+    ensures { λ r. ⌜ r ≡ newTicket serial edition ⌝ }
+{
+    Ticket {
+        serial,
+        edition,
+        taken: 0,
+        place: [0u16; 8],
+    }
+}
 
 pub enum Wanted {
     Free,

@@ -6,6 +6,7 @@ use Rattle.desk.proofs.Desk.close.Tie as tie
 use Rattle.desk.proofs.Desk.close.Reads as reads
 use Rattle.desk.proofs.Desk.close.Lts as lts
 use Rattle.desk.proofs.rooms.first_room.Reads as first-room-reads
+use Rattle.desk.proofs.rooms.new_ticket.Reads as new-ticket-reads
 
 first-room-requires : tie.Need-first-room-requires
 first-room-requires c κs = search needs
@@ -14,16 +15,26 @@ returns : tie.Need-returns
 unfolding closeOf
 returns c = simp (← c .before .first-room .ensures, le-ltb _ _ (c .if1 .taken))
 
-mul-t13 : tie.Need-mul-t13
-mul-t13 c = search needs
+new-ticket-requires : tie.Need-new-ticket-requires
+new-ticket-requires c κs = search needs
 
-element-set-from-desk : tie.Need-element-set-from-desk
-element-set-from-desk c = search needs
+mul-freed : tie.Need-mul-freed
+mul-freed c = search needs
+
+element-set-from-freed : tie.Need-element-set-from-freed
+element-set-from-freed c = search needs
 
 returns-2 : tie.Need-returns-2
 unfolding closeOf
-returns-2 c = simp (← c .before .first-room .ensures, lt-ltb _ _ (c .if1 .left))
+returns-2 c = simp (← c .before .before .first-room .ensures, lt-ltb _ _ (c .before .if1 .left), c .new-ticket .ensures)
 
 pub close-spec : {M : Type 1} → statement M
 close-spec =
-    tie.close (tie.spec first-room-requires returns mul-t13 element-set-from-desk returns-2)
+    tie.close
+    (tie.spec
+    first-room-requires
+    returns
+    new-ticket-requires
+    mul-freed
+    element-set-from-freed
+    returns-2)

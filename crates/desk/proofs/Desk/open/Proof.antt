@@ -6,6 +6,7 @@ use Rattle.desk.proofs.Desk.open.Tie as tie
 use Rattle.desk.proofs.Desk.open.Reads as reads
 use Rattle.desk.proofs.Desk.open.Lts as lts
 use Rattle.desk.proofs.rooms.first_room.Reads as first-room-reads
+use Rattle.desk.proofs.rooms.new_ticket.Reads as new-ticket-reads
 
 returns : tie.Need-returns
 unfolding openOf
@@ -25,15 +26,18 @@ returns-3 c = simp (ne-eqb _ _ (c .before .before .before .before .before .if1 .
 add-t13 : tie.Need-add-t13
 add-t13 c = search needs
 
-mul-t16 : tie.Need-mul-t16
-mul-t16 c = search needs
+new-ticket-requires : tie.Need-new-ticket-requires
+new-ticket-requires c κs = search needs
+
+mul-t15 : tie.Need-mul-t15
+mul-t15 c = search needs
 
 element-set-from-desk : tie.Need-element-set-from-desk
 element-set-from-desk c = search needs
 
 returns-4 : tie.Need-returns-4
 unfolding openOf
-returns-4 c = simp (ne-eqb _ _ (c .before .before .before .before .before .before .if1 .left), ne-eqb _ _ (c .before .before .before .before .if2 .left), ← c .before .before .first-room .ensures, lt-ltb _ _ (c .before .if3 .left))
+returns-4 c = simp (ne-eqb _ _ (c .before .before .before .before .before .before .before .if1 .left), ne-eqb _ _ (c .before .before .before .before .before .if2 .left), ← c .before .before .before .first-room .ensures, lt-ltb _ _ (c .before .before .if3 .left), c .new-ticket .ensures)
 
 pub open-spec : {M : Type 1} → statement M
 open-spec =
@@ -44,6 +48,7 @@ open-spec =
     first-room-requires
     returns-3
     add-t13
-    mul-t16
+    new-ticket-requires
+    mul-t15
     element-set-from-desk
     returns-4)
