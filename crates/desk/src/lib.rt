@@ -20,13 +20,17 @@ ghost use Rattle.desk.specs.Feed.{feedOf, readIn};
 ghost use Rattle.desk.specs.TakeMany.{manyOf, takeManyOf, listTaken};
 
 // Three kinds of number that can't be passed for one another: an old tag number needs its edition.
+#[repr(C)]
 pub struct Serial(pub u32);
 
+#[repr(C)]
 pub struct Edition(pub u32);
 
+#[repr(C)]
 pub struct Tag(pub u8);
 
 // A room for a ticket: free where the serial is 0, which no opening gives; else held by a ticket that is open or stale.
+#[repr(C)]
 pub struct Ticket {
     pub serial: Serial,
     pub edition: Edition,
@@ -34,6 +38,7 @@ pub struct Ticket {
     pub place: [u16; 8],
 }
 
+#[repr(C)]
 pub struct Record {
     pub serial: Serial,
     pub edition: Edition,
@@ -42,6 +47,7 @@ pub struct Record {
 }
 
 // The shared list: count records from first on, round a ring of 256.
+#[repr(C)]
 pub struct Records {
     pub ring: [Record; 256],
     pub first: usize,
@@ -49,6 +55,7 @@ pub struct Records {
 }
 
 // slots is the slot count of the last accepted replacement's table.
+#[repr(C)]
 pub struct Desk {
     pub tickets: [Ticket; 16],
     pub records: Records,

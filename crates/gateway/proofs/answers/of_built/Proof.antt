@@ -1,0 +1,57 @@
+use borrow.Author.Needs.{needs}
+use Rattle.gateway.proofs.answers.of_built.Statement.{statement}
+use Rattle.gateway.proofs.answers.of_built.Tie as tie
+use Rattle.gateway.proofs.answers.of_built.Reads as reads
+use Rattle.gateway.proofs.answers.of_built.Lts as lts
+use Rattle.gateway.proofs.answers.of_fault.Reads as of-fault-reads
+use Rattle.gateway.proofs.answers.with.Reads as with-reads
+
+-- src/answers.rt:62:21
+enum-known-built : tie.Need-enum-known-built
+enum-known-built c = search needs
+
+-- src/answers.rt:62:31
+with-requires : tie.Need-with-requires
+with-requires c κs = search needs
+
+-- src/answers.rt:63:22
+enum-known-built-2 : tie.Need-enum-known-built-2
+enum-known-built-2 c = search needs
+
+-- src/answers.rt:63:32
+of-fault-requires : tie.Need-of-fault-requires
+of-fault-requires c κs = search needs
+
+-- src/answers.rt:64:22
+enum-known-built-3 : tie.Need-enum-known-built-3
+enum-known-built-3 c = search needs
+
+-- src/answers.rt:64:41
+with-requires-2 : tie.Need-with-requires-2
+with-requires-2 c κs = search needs
+
+-- src/answers.rt:58:1
+returns : tie.Need-returns
+returns c = ?
+
+-- src/answers.rt:58:1
+returns-2 : tie.Need-returns-2
+returns-2 c = ?
+
+-- src/answers.rt:58:1
+returns-3 : tie.Need-returns-3
+returns-3 c = ?
+
+pub of-built-spec : {M : Type 1} → statement M
+of-built-spec =
+    tie.close
+    (tie.spec
+    enum-known-built
+    with-requires
+    enum-known-built-2
+    of-fault-requires
+    enum-known-built-3
+    with-requires-2
+    returns
+    returns-2
+    returns-3)

@@ -1,0 +1,34 @@
+use borrow.Author.Needs.{needs}
+use Rattle.gateway.proofs.answers.of_close.Statement.{statement}
+use Rattle.gateway.proofs.answers.of_close.Tie as tie
+use Rattle.gateway.proofs.answers.of_close.Reads as reads
+use Rattle.gateway.proofs.answers.of_close.Lts as lts
+use Rattle.gateway.proofs.answers.with.Reads as with-reads
+
+-- src/answers.rt:117:32
+enum-told : tie.Need-enum-told
+enum-told c = search needs
+
+-- src/answers.rt:117:32
+with-requires : tie.Need-with-requires
+with-requires c κs = search needs
+
+-- src/answers.rt:118:34
+enum-told-2 : tie.Need-enum-told-2
+enum-told-2 c = search needs
+
+-- src/answers.rt:118:34
+with-requires-2 : tie.Need-with-requires-2
+with-requires-2 c κs = search needs
+
+-- src/answers.rt:113:1
+returns : tie.Need-returns
+returns c = ?
+
+-- src/answers.rt:113:1
+returns-2 : tie.Need-returns-2
+returns-2 c = ?
+
+pub of-close-spec : {M : Type 1} → statement M
+of-close-spec =
+    tie.close (tie.spec enum-told with-requires enum-told-2 with-requires-2 returns returns-2)

@@ -1,0 +1,101 @@
+use borrow.Author.Needs.{needs}
+use Rattle.gateway.proofs.answers.of_fault.Statement.{statement}
+use Rattle.gateway.proofs.answers.of_fault.Tie as tie
+use Rattle.gateway.proofs.answers.of_fault.Reads as reads
+use Rattle.gateway.proofs.answers.of_fault.Lts as lts
+use Rattle.gateway.proofs.answers.with.Reads as with-reads
+
+-- src/answers.rt:49:23
+enum-known-fault : tie.Need-enum-known-fault
+enum-known-fault c = search needs
+
+-- src/answers.rt:49:29
+with-requires : tie.Need-with-requires
+with-requires c κs = search needs
+
+-- src/answers.rt:50:24
+enum-known-fault-2 : tie.Need-enum-known-fault-2
+enum-known-fault-2 c = search needs
+
+-- src/answers.rt:50:30
+with-requires-2 : tie.Need-with-requires-2
+with-requires-2 c κs = search needs
+
+-- src/answers.rt:51:24
+enum-known-fault-3 : tie.Need-enum-known-fault-3
+enum-known-fault-3 c = search needs
+
+-- src/answers.rt:51:30
+with-requires-3 : tie.Need-with-requires-3
+with-requires-3 c κs = search needs
+
+-- src/answers.rt:52:26
+enum-known-fault-4 : tie.Need-enum-known-fault-4
+enum-known-fault-4 c = search needs
+
+-- src/answers.rt:52:32
+with-requires-4 : tie.Need-with-requires-4
+with-requires-4 c κs = search needs
+
+-- src/answers.rt:53:28
+enum-told : tie.Need-enum-told
+enum-told c = search needs
+
+-- src/answers.rt:53:28
+with-requires-5 : tie.Need-with-requires-5
+with-requires-5 c κs = search needs
+
+-- src/answers.rt:54:26
+enum-known-fault-5 : tie.Need-enum-known-fault-5
+enum-known-fault-5 c = search needs
+
+-- src/answers.rt:54:32
+with-requires-6 : tie.Need-with-requires-6
+with-requires-6 c κs = search needs
+
+-- src/answers.rt:45:1
+returns : tie.Need-returns
+returns c = ?
+
+-- src/answers.rt:45:1
+returns-2 : tie.Need-returns-2
+returns-2 c = ?
+
+-- src/answers.rt:45:1
+returns-3 : tie.Need-returns-3
+returns-3 c = ?
+
+-- src/answers.rt:45:1
+returns-4 : tie.Need-returns-4
+returns-4 c = ?
+
+-- src/answers.rt:45:1
+returns-5 : tie.Need-returns-5
+returns-5 c = ?
+
+-- src/answers.rt:45:1
+returns-6 : tie.Need-returns-6
+returns-6 c = ?
+
+pub of-fault-spec : {M : Type 1} → statement M
+of-fault-spec =
+    tie.close
+    (tie.spec
+    enum-known-fault
+    with-requires
+    enum-known-fault-2
+    with-requires-2
+    enum-known-fault-3
+    with-requires-3
+    enum-known-fault-4
+    with-requires-4
+    enum-told
+    with-requires-5
+    enum-known-fault-5
+    with-requires-6
+    returns
+    returns-2
+    returns-3
+    returns-4
+    returns-5
+    returns-6)

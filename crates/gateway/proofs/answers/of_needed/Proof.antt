@@ -1,0 +1,42 @@
+use borrow.Author.Needs.{needs}
+use Rattle.gateway.proofs.answers.of_needed.Statement.{statement}
+use Rattle.gateway.proofs.answers.of_needed.Tie as tie
+use Rattle.gateway.proofs.answers.of_needed.Reads as reads
+use Rattle.gateway.proofs.answers.of_needed.Lts as lts
+use Rattle.gateway.proofs.answers.of_fault.Reads as of-fault-reads
+use Rattle.gateway.proofs.answers.with.Reads as with-reads
+
+-- src/answers.rt:72:23
+enum-known-needed : tie.Need-enum-known-needed
+enum-known-needed c = search needs
+
+-- src/answers.rt:72:40
+with-requires : tie.Need-with-requires
+with-requires c κs = search needs
+
+-- src/answers.rt:73:23
+enum-known-needed-2 : tie.Need-enum-known-needed-2
+enum-known-needed-2 c = search needs
+
+-- src/answers.rt:73:33
+of-fault-requires : tie.Need-of-fault-requires
+of-fault-requires c κs = search needs
+
+-- src/answers.rt:68:1
+returns : tie.Need-returns
+returns c = ?
+
+-- src/answers.rt:68:1
+returns-2 : tie.Need-returns-2
+returns-2 c = ?
+
+pub of-needed-spec : {M : Type 1} → statement M
+of-needed-spec =
+    tie.close
+    (tie.spec
+    enum-known-needed
+    with-requires
+    enum-known-needed-2
+    of-fault-requires
+    returns
+    returns-2)

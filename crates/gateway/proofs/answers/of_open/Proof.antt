@@ -1,0 +1,76 @@
+use borrow.Author.Needs.{needs}
+use Rattle.gateway.proofs.answers.of_open.Statement.{statement}
+use Rattle.gateway.proofs.answers.of_open.Tie as tie
+use Rattle.gateway.proofs.answers.of_open.Reads as reads
+use Rattle.gateway.proofs.answers.of_open.Lts as lts
+use Rattle.gateway.proofs.answers.with.Reads as with-reads
+
+-- src/answers.rt:92:28
+enum-known-said : tie.Need-enum-known-said
+enum-known-said c = search needs
+
+-- src/answers.rt:92:47
+cast-with : tie.Need-cast-with
+cast-with c = search needs
+
+-- src/answers.rt:92:39
+with-requires : tie.Need-with-requires
+with-requires c κs = search needs
+
+-- src/answers.rt:93:30
+enum-told : tie.Need-enum-told
+enum-told c = search needs
+
+-- src/answers.rt:93:30
+with-requires-2 : tie.Need-with-requires-2
+with-requires-2 c κs = search needs
+
+-- src/answers.rt:94:34
+enum-told-2 : tie.Need-enum-told-2
+enum-told-2 c = search needs
+
+-- src/answers.rt:94:34
+with-requires-3 : tie.Need-with-requires-3
+with-requires-3 c κs = search needs
+
+-- src/answers.rt:95:31
+enum-told-3 : tie.Need-enum-told-3
+enum-told-3 c = search needs
+
+-- src/answers.rt:95:31
+with-requires-4 : tie.Need-with-requires-4
+with-requires-4 c κs = search needs
+
+-- src/answers.rt:88:1
+returns : tie.Need-returns
+returns c = ?
+
+-- src/answers.rt:88:1
+returns-2 : tie.Need-returns-2
+returns-2 c = ?
+
+-- src/answers.rt:88:1
+returns-3 : tie.Need-returns-3
+returns-3 c = ?
+
+-- src/answers.rt:88:1
+returns-4 : tie.Need-returns-4
+returns-4 c = ?
+
+pub of-open-spec : {M : Type 1} → statement M
+of-open-spec =
+    tie.close
+    (tie.spec
+    enum-known-said
+    cast-with
+    with-requires
+    enum-told
+    with-requires-2
+    enum-told-2
+    with-requires-3
+    enum-told-3
+    with-requires-4
+    returns
+    returns-2
+    returns-3
+    returns-4)

@@ -1,0 +1,34 @@
+use borrow.Author.Needs.{needs}
+use Rattle.gateway.proofs.answers.of_refusal.Statement.{statement}
+use Rattle.gateway.proofs.answers.of_refusal.Tie as tie
+use Rattle.gateway.proofs.answers.of_refusal.Reads as reads
+use Rattle.gateway.proofs.answers.of_refusal.Lts as lts
+use Rattle.gateway.proofs.answers.with.Reads as with-reads
+
+-- src/answers.rt:140:30
+enum-told : tie.Need-enum-told
+enum-told c = search needs
+
+-- src/answers.rt:140:30
+with-requires : tie.Need-with-requires
+with-requires c κs = search needs
+
+-- src/answers.rt:141:31
+enum-told-2 : tie.Need-enum-told-2
+enum-told-2 c = search needs
+
+-- src/answers.rt:141:31
+with-requires-2 : tie.Need-with-requires-2
+with-requires-2 c κs = search needs
+
+-- src/answers.rt:136:1
+returns : tie.Need-returns
+returns c = ?
+
+-- src/answers.rt:136:1
+returns-2 : tie.Need-returns-2
+returns-2 c = ?
+
+pub of-refusal-spec : {M : Type 1} → statement M
+of-refusal-spec =
+    tie.close (tie.spec enum-told with-requires enum-told-2 with-requires-2 returns returns-2)

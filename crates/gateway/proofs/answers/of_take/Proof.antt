@@ -1,0 +1,61 @@
+use borrow.Author.Needs.{needs}
+use Rattle.gateway.proofs.answers.of_take.Statement.{statement}
+use Rattle.gateway.proofs.answers.of_take.Tie as tie
+use Rattle.gateway.proofs.answers.of_take.Reads as reads
+use Rattle.gateway.proofs.answers.of_take.Lts as lts
+use Rattle.gateway.proofs.answers.with.Reads as with-reads
+
+-- src/answers.rt:126:27
+enum-known-said : tie.Need-enum-known-said
+enum-known-said c = search needs
+
+-- src/answers.rt:130:21
+cast-with : tie.Need-cast-with
+cast-with c = search needs
+
+-- src/answers.rt:130:38
+cast-with-2 : tie.Need-cast-with-2
+cast-with-2 c = search needs
+
+-- src/answers.rt:130:56
+cast-with-3 : tie.Need-cast-with-3
+cast-with-3 c = search needs
+
+-- src/answers.rt:130:70
+cast-with-4 : tie.Need-cast-with-4
+cast-with-4 c = search needs
+
+-- src/answers.rt:130:13
+with-requires : tie.Need-with-requires
+with-requires c κs = search needs
+
+-- src/answers.rt:132:32
+enum-told : tie.Need-enum-told
+enum-told c = search needs
+
+-- src/answers.rt:132:32
+with-requires-2 : tie.Need-with-requires-2
+with-requires-2 c κs = search needs
+
+-- src/answers.rt:122:1
+returns : tie.Need-returns
+returns c = ?
+
+-- src/answers.rt:122:1
+returns-2 : tie.Need-returns-2
+returns-2 c = ?
+
+pub of-take-spec : {M : Type 1} → statement M
+of-take-spec =
+    tie.close
+    (tie.spec
+    enum-known-said
+    cast-with
+    cast-with-2
+    cast-with-3
+    cast-with-4
+    with-requires
+    enum-told
+    with-requires-2
+    returns
+    returns-2)

@@ -1,0 +1,173 @@
+// The static library for C and Rust: each call of the desk, building and reading outside it, and the size query.
+// A desk goes in by value and comes back beside its answer; its image is numbers alone, so any bytes of its size are a desk.
+mod answers;
+
+use answers::Answer;
+use desk::Desk;
+use desk::Serial;
+
+ghost use mathlib.Core.Path.{_≡_};
+ghost use mathlib.Core.List.{[], _∷_};
+ghost use lib.ListN.{length};
+ghost use Rattle.desk.specs.Rooms.{serialOf};
+ghost use Rattle.desk.specs.Calls.{newDesk, openOf, closeOf, takeOf};
+ghost use Rattle.desk.specs.Replace.{replaceOf, replacedRun};
+ghost use Rattle.desk.specs.Feed.{feedOf};
+ghost use Rattle.desk.specs.TakeMany.{manyOf, takeManyOf, listTaken};
+ghost use Rattle.tables.specs.Building.{builtOf, tableOf, neededOf};
+ghost use Rattle.reading.specs.Outside.{readOf, splitBy, wholeBy, listBy};
+ghost use Rattle.gateway.specs.Numbers.{builtAnswer, neededAnswer, replaceAnswer, openAnswer, feedAnswer, closeAnswer, takeAnswer, readAnswer};
+
+// A desk after a call, and the call's answer.
+#[repr(C)]
+pub struct Reply {
+    pub desk: Desk,
+    pub answer: Answer,
+}
+
+// How many records were taken at once.
+#[repr(C)]
+pub struct TakenMany {
+    pub desk: Desk,
+    pub count: u64,
+}
+
+// A read outside the desk: its answer, and the place after it.
+#[repr(C)]
+pub struct SplitReply {
+    pub answer: Answer,
+    pub place: [u16; 8],
+}
+
+#[repr(C)]
+pub struct WholeReply {
+    pub answer: Answer,
+    pub place: u16,
+}
+
+#[no_mangle]
+pub extern "C" fn sleet_desk_new() -> Desk
+    ensures { λ r. ⌜ r ≡ newDesk ⌝ }
+{
+    Desk::new()
+}
+
+#[no_mangle]
+pub extern "C" fn sleet_desk_replace(desk: Desk, set: &[u8], table: &mut [u16]) -> Reply
+    ensures { λ r. ⌜ (r .desk ≡ replaceOf desk (now (set .entry)) (length (now (table .entry))) .desk) × (r .answer ≡ replaceAnswer (replaceOf desk (now (set .entry)) (length (now (table .entry))) .answer)) × (now (table .exit) ≡ replacedRun desk (now (set .entry)) (now (table .entry))) ⌝ }
+{
+    let r = desk.replace(set, table);
+    let after = r.desk;
+    let said = r.answer;
+    let answer = answers::of_replace(said);
+    Reply { desk: after, answer }
+}
+
+#[no_mangle]
+pub extern "C" fn sleet_desk_open(desk: Desk) -> Reply
+    ensures { λ r. ⌜ (r .desk ≡ openOf desk .desk) × (r .answer ≡ openAnswer (openOf desk .answer)) ⌝ }
+{
+    let r = desk.open();
+    let after = r.desk;
+    let said = r.answer;
+    let answer = answers::of_open(said);
+    Reply { desk: after, answer }
+}
+
+#[no_mangle]
+pub extern "C" fn sleet_desk_feed(desk: Desk, serial: u32, table: &[u16], piece: &[u8]) -> Reply
+    ensures { λ r. ⌜ (r .desk ≡ feedOf desk (serialOf serial) (now (table .entry)) (now (piece .entry)) .desk) × (r .answer ≡ feedAnswer (feedOf desk (serialOf serial) (now (table .entry)) (now (piece .entry)) .answer)) ⌝ }
+{
+    let r = desk.feed(Serial(serial), table, piece);
+    let after = r.desk;
+    let said = r.answer;
+    let answer = answers::of_feed(said);
+    Reply { desk: after, answer }
+}
+
+#[no_mangle]
+pub extern "C" fn sleet_desk_close(desk: Desk, serial: u32) -> Reply
+    ensures { λ r. ⌜ (r .desk ≡ closeOf desk (serialOf serial) .desk) × (r .answer ≡ closeAnswer (closeOf desk (serialOf serial) .answer)) ⌝ }
+{
+    let r = desk.close(Serial(serial));
+    let after = r.desk;
+    let said = r.answer;
+    let answer = answers::of_close(said);
+    Reply { desk: after, answer }
+}
+
+#[no_mangle]
+pub extern "C" fn sleet_desk_take(desk: Desk) -> Reply
+    ensures { λ r. ⌜ (r .desk ≡ takeOf desk .desk) × (r .answer ≡ takeAnswer (takeOf desk .answer)) ⌝ }
+{
+    let r = desk.take();
+    let after = r.desk;
+    let said = r.answer;
+    let answer = answers::of_take(said);
+    Reply { desk: after, answer }
+}
+
+#[no_mangle]
+pub extern "C" fn sleet_desk_take_many(desk: Desk, list: &mut [u32]) -> TakenMany
+    ensures { λ r. ⌜ (r .desk ≡ takeManyOf desk (length (now (list .entry))) .desk) × (r .count ≡ takeManyOf desk (length (now (list .entry))) .count) × (now (list .exit) ≡ listTaken desk (now (list .entry)) (manyOf desk (length (now (list .entry))))) ⌝ }
+{
+    let r = desk.take_many(list);
+    let after = r.desk;
+    TakenMany {
+        desk: after,
+        count: r.count as u64,
+    }
+}
+
+#[no_mangle]
+pub extern "C" fn sleet_slots_needed(set: &[u8]) -> Answer
+    ensures { λ r. ⌜ r ≡ neededAnswer (neededOf (now (set .entry))) ⌝ }
+{
+    answers::of_needed(tables::slots_needed(set))
+}
+
+#[no_mangle]
+pub extern "C" fn sleet_build_split(set: &[u8], table: &mut [u16]) -> Answer
+    ensures { λ r. ⌜ (r ≡ builtAnswer (builtOf 1 8 (now (set .entry)) (length (now (table .entry))))) × (now (table .exit) ≡ tableOf 1 8 (now (set .entry)) (now (table .entry))) ⌝ }
+{
+    answers::of_built(tables::build_split(set, table))
+}
+
+#[no_mangle]
+pub extern "C" fn sleet_build_whole(set: &[u8], table: &mut [u16]) -> Answer
+    ensures { λ r. ⌜ (r ≡ builtAnswer (builtOf 8 1 (now (set .entry)) (length (now (table .entry))))) × (now (table .exit) ≡ tableOf 8 1 (now (set .entry)) (now (table .entry))) ⌝ }
+{
+    answers::of_built(tables::build_whole(set, table))
+}
+
+#[no_mangle]
+pub extern "C" fn sleet_read_split(
+    table: &[u16],
+    place: &[u16; 8],
+    count: u32,
+    piece: &[u8],
+    list: &mut [u32],
+) -> SplitReply
+{
+    let start = *place;
+    let r = reading::read_split(table, start, count, piece, list);
+    let after = r.place;
+    let ending = r.ending;
+    let answer = answers::of_read(r.taken, r.records, ending);
+    SplitReply { answer, place: after }
+}
+
+#[no_mangle]
+pub extern "C" fn sleet_read_whole(
+    table: &[u16],
+    place: u16,
+    count: u32,
+    piece: &[u8],
+    list: &mut [u32],
+) -> WholeReply
+{
+    let r = reading::read_whole(table, place, count, piece, list);
+    let ending = r.ending;
+    let answer = answers::of_read(r.taken, r.records, ending);
+    WholeReply { answer, place: r.place }
+}
