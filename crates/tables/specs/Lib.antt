@@ -1,6 +1,3 @@
--- What building answers and leaves; below that, what the parts of the builder say to each other.
+-- What building answers and leaves; and what the parts of the builder say to each other.
 pub mod Building
-pub mod Letters
-pub mod Fronts
-pub mod Rows
 pub mod Shape

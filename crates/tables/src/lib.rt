@@ -9,20 +9,15 @@ ghost use Rattle.matching.specs.Machine.{states};
 ghost use Rattle.matching.specs.Table.{slotSize, slotsIn, tagsFor, built, roomFrom};
 ghost use Rattle.tagset.specs.Answer.{cutAt};
 ghost use Rattle.tables.specs.Building.{machineName, builtBy, builtOf, tableOf, mostStates, neededOf};
-ghost use Rattle.tables.specs.Rows.{Filled};
+ghost use Rattle.machines.specs.Rows.{Filled};
 ghost use Rattle.tables.specs.Shape.{Shaped, Tagged, builtTags, tableTags, isAccepted};
-use counting::count_states;
-use counting::larger;
-use filling::make_slots;
+use machines::count_states;
+use machines::larger;
+use machines::make_slots;
+use machines::spell;
 use tagset::SetFault;
 use tagset::Verdict;
 use tagset::read_set;
-use words::spell;
-
-mod counting;
-mod filling;
-mod planting;
-mod words;
 
 // What building gives: the number of tags; or the set's fault; or the lowest machine short of slots and the states that it needs.
 pub enum Built {
