@@ -1,4 +1,5 @@
-// The tree of the prefixes, in the nexts of a machine's slots: a state's children, and 0 where it has none.
+// The tree of the prefixes, in the nexts of a machine's slots: a state's children, and 0 where it has none. A machine of m letters has
+// m nexts and a vector in a slot.
 ghost use mathlib.Core.Path.{_≡_};
 ghost use mathlib.Core.List.{List, []};
 ghost use Prim.Native.Nat.{ℕ, _+_, _<_};

@@ -199,3 +199,8 @@ of-accepted {bytes} {ts} a =
 
 pub tags-of : (bytes : List ℕ) (ts : List Word) → setOf bytes ≡ goodSet ts → TagsOf bytes ts
 tags-of bytes ts good = of-accepted (accepted-iff bytes ts .0 good)
+
+-- a run of numbers that are each below m, as a lent slice of bytes is for 256
+pub below-all : (m : ℕ) (l : List ℕ) → ((i : ℕ) → i < length l → getD l i 0 < m) → Below m l
+below-all m [] h = tt
+below-all m (x ∷ l) h = (h 0 (omega arith), below-all m l (λ i k. h (suc i) (omega arith)))

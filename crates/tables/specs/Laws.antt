@@ -1,0 +1,3 @@
+-- The laws of building.
+pub mod Exact
+pub mod Left
