@@ -17,7 +17,6 @@ use Rattle.matching.specs.Laws.Tables.{judged, roomFrom-next, roomFrom-short}
 use Rattle.matching.specs.Machine.{states}
 use Rattle.matching.specs.Table.{Room, built, enoughSlots, roomFrom, shortOfSlots, slotSize, slots, slotsIn, tagsFor}
 use Rattle.matching.specs.Words.{Word}
-use Rattle.tables.proofs.Making.{kept}
 use Rattle.tables.proofs.Seen.{bits-some, letters-few}
 use Rattle.tables.specs.Building.{builtBy, builtOf, machineName, mostStates, neededOf, tableBy, tableOf}
 use Rattle.tables.specs.Shape.{Shaped, Tagged, builtTags, isAccepted, tableTags}

@@ -1,13 +1,3 @@
-pub mod Ends
-pub mod Growing
-pub mod Sharing
-pub mod Lows
-pub mod Cells
-pub mod Tree
-pub mod Making
-pub mod Heads
-pub mod Levels
-pub mod Deepening
 pub mod Seen
 pub mod Machines
 pub mod Answers

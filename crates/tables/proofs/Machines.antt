@@ -8,16 +8,19 @@ use native.Mathlib.Numerals.{add-one}
 use native.Mathlib.Omega.{arith}
 use lib.ListN.{drop, getD, getD-replicate, length, length-append, length-drop, take}
 use lib.Seq.{drop-at, drop-drop, length-take-le, take-at}
+use Rattle.machines.specs.Rows.{Filled}
 use Rattle.matching.specs.Laws.Tables.{laid-ext, laid-length, slot-length, slot-next, slot-unused, slot-vector, slots-length}
 use Rattle.matching.specs.Machine.{prefixes, states}
 use Rattle.matching.specs.Table.{built, laid, slot, slotSize, slots, tagsFor}
 use Rattle.matching.specs.Words.{Word, same}
-use Rattle.tables.proofs.Making.{states-is}
-use Rattle.tables.specs.Rows.{Filled}
 use Rattle.tables.specs.Shape.{Shaped}
 use Rattle.tables.specs.declared.Layout.{Layout}
 
 -- ---- one machine's slots
+
+states-is : (ts : List Word) → length (prefixes ts) ≡ states ts
+unfolding states
+states-is ts = refl
 
 module _ (n : ℕ) (ts : List Word) (m s : ℕ) (l : List ℕ) (f : Filled (tagsFor n ts m) (2 ^ n) l) (long : length l ≡ s * slotSize n) where
   number : (q j : ℕ) → q < s → j < slotSize n → getD l (q * slotSize n + j) 0 ≡ getD (slot n (tagsFor n ts m) (prefixes (tagsFor n ts m)) q) j 0

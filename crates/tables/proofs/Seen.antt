@@ -8,13 +8,13 @@ use lib.Bits.{and-mask}
 use lib.ListN.{drop, length, length-map, length-replicate, replicate, set, take}
 use lib.Pow.{pow-mono}
 use lib.Seq.{length-take-le}
+use Rattle.machines.specs.Letters.{letterBy}
+use Rattle.machines.specs.Rows.{Filled, Fit, Roomy}
 use Rattle.matching.specs.Laws.Vectors.{reduced-length}
 use Rattle.matching.specs.Machine.{states}
 use Rattle.matching.specs.Slicing.{reduced, slice}
 use Rattle.matching.specs.Table.{tagsFor}
 use Rattle.matching.specs.Words.{AllBelow, AllShort, Below, Word}
-use Rattle.tables.specs.Letters.{letterBy}
-use Rattle.tables.specs.Rows.{Filled, Fit, Roomy}
 use Rattle.tables.specs.Shape.{Shaped, Tagged}
 use Rattle.tables.specs.declared.Layout.{Layout}
 use Rattle.tagset.specs.Answer.{cutAt}

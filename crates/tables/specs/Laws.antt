@@ -1,2 +1,4 @@
 -- The laws of building.
 pub mod Cases
+pub mod Exact
+pub mod Left

@@ -1,7 +1,5 @@
--- What building answers and leaves; below that, what the parts of the builder say to each other.
+-- What building answers and leaves, and when; and what the parts of the builder say to each other.
 pub mod Building
-pub mod Laws
-pub mod Letters
-pub mod Fronts
-pub mod Rows
+pub mod Refusals
 pub mod Shape
+pub mod Laws

@@ -9,20 +9,15 @@ ghost use Rattle.matching.specs.Machine.{states};
 ghost use Rattle.matching.specs.Table.{slotSize, slotsIn, tagsFor, built, roomFrom};
 ghost use Rattle.tagset.specs.Answer.{cutAt};
 ghost use Rattle.tables.specs.Building.{machineName, builtBy, builtOf, tableOf, mostStates, neededOf};
-ghost use Rattle.tables.specs.Rows.{Filled};
+ghost use Rattle.machines.specs.Rows.{Filled};
 ghost use Rattle.tables.specs.Shape.{Shaped, Tagged, builtTags, tableTags, isAccepted};
-use counting::count_states;
-use counting::larger;
-use filling::make_slots;
+use machines::count_states;
+use machines::larger;
+use machines::make_slots;
+use machines::spell;
 use tagset::SetFault;
 use tagset::Verdict;
 use tagset::read_set;
-use words::spell;
-
-mod counting;
-mod filling;
-mod planting;
-mod words;
 
 // What building gives: the number of tags; or the set's fault; or the lowest machine short of slots and the states that it needs.
 pub enum Built {
@@ -191,7 +186,8 @@ fn build_tags(
     ghost { List Word }
     requires { λ ts. ⌜ cutAt (now set) (now from) (now to) ≡ ts ⌝ }
     requires { λ ts. ⌜ (Shaped layout) × (Tagged (now set) (length (now from)) ts) ⌝ }
-    ensures { λ ts r. ⌜ (r ≡ builtTags (layout .bits) (layout .machines) ts (length (now (table .entry)))) × (now (table .exit) ≡ cond write (tableTags (layout .bits) (layout .machines) ts (now (table .entry))) (now (table .entry))) ⌝ }
+    ensures answer { λ ts r. ⌜ r ≡ builtTags (layout .bits) (layout .machines) ts (length (now (table .entry))) ⌝ }
+    ensures left { λ ts _. ⌜ now (table .exit) ≡ cond write (tableTags (layout .bits) (layout .machines) ts (now (table .entry))) (now (table .entry)) ⌝ }
 {
     let s = slots_in(layout, table.len());
     let answer = judge(set, from, to, layout, s);
@@ -208,7 +204,8 @@ fn build_tags(
 // A set's table: its faults, then its machines.
 fn build(set: &[u8], layout: Layout, table: &mut [u16], write: bool) -> Built
     requires { ⌜ Shaped layout ⌝ }
-    ensures { λ r. ⌜ (r ≡ builtOf (layout .bits) (layout .machines) (now (set .entry)) (length (now (table .entry)))) × (now (table .exit) ≡ cond write (tableOf (layout .bits) (layout .machines) (now (set .entry)) (now (table .entry))) (now (table .entry))) ⌝ }
+    ensures answer { λ r. ⌜ r ≡ builtOf (layout .bits) (layout .machines) (now (set .entry)) (length (now (table .entry))) ⌝ }
+    ensures left { λ _. ⌜ now (table .exit) ≡ cond write (tableOf (layout .bits) (layout .machines) (now (set .entry)) (now (table .entry))) (now (table .entry)) ⌝ }
 {
     let read = read_set(set);
     let verdict = read.verdict;
@@ -224,21 +221,24 @@ fn build(set: &[u8], layout: Layout, table: &mut [u16], write: bool) -> Built
 
 // The split table of a set: eight machines of one bit each.
 pub fn build_split(set: &[u8], table: &mut [u16]) -> Built
-    ensures { λ r. ⌜ (r ≡ builtOf 1 8 (now (set .entry)) (length (now (table .entry)))) × (now (table .exit) ≡ tableOf 1 8 (now (set .entry)) (now (table .entry))) ⌝ }
+    ensures answer { λ r. ⌜ r ≡ builtOf 1 8 (now (set .entry)) (length (now (table .entry))) ⌝ }
+    ensures left { λ _. ⌜ now (table .exit) ≡ tableOf 1 8 (now (set .entry)) (now (table .entry)) ⌝ }
 {
     build(set, SPLIT, table, true)
 }
 
 // The same answer; the table is written only where it is to be.
 pub fn build_split_if(set: &[u8], table: &mut [u16], write: bool) -> Built
-    ensures { λ r. ⌜ (r ≡ builtOf 1 8 (now (set .entry)) (length (now (table .entry)))) × (now (table .exit) ≡ cond write (tableOf 1 8 (now (set .entry)) (now (table .entry))) (now (table .entry))) ⌝ }
+    ensures answer { λ r. ⌜ r ≡ builtOf 1 8 (now (set .entry)) (length (now (table .entry))) ⌝ }
+    ensures left { λ _. ⌜ now (table .exit) ≡ cond write (tableOf 1 8 (now (set .entry)) (now (table .entry))) (now (table .entry)) ⌝ }
 {
     build(set, SPLIT, table, write)
 }
 
 // The whole-byte table of a set: one machine of eight bits.
 pub fn build_whole(set: &[u8], table: &mut [u16]) -> Built
-    ensures { λ r. ⌜ (r ≡ builtOf 8 1 (now (set .entry)) (length (now (table .entry)))) × (now (table .exit) ≡ tableOf 8 1 (now (set .entry)) (now (table .entry))) ⌝ }
+    ensures answer { λ r. ⌜ r ≡ builtOf 8 1 (now (set .entry)) (length (now (table .entry))) ⌝ }
+    ensures left { λ _. ⌜ now (table .exit) ≡ tableOf 8 1 (now (set .entry)) (now (table .entry)) ⌝ }
 {
     build(set, WHOLE, table, true)
 }

@@ -8,11 +8,11 @@ use native.Mathlib.Omega.{arith}
 use lib.ListN.{drop, drop-of-length-le, length, length-append, length-drop, replicate, set}
 use lib.Seq.{drop-drop, set-at}
 use Rattle.matching.specs.Words.{Word}
-use Rattle.tagset.specs.Answer.{begun, ended, padded, passedUp, placed, setRead, tagsLie}
+use Rattle.tagset.specs.Answer.{along, beginOf, begun, endOf, ended, padded, passedUp, placed, setRead, tagsLie}
 use Rattle.tagset.specs.Grammar.{EntryOf, entriesFrom, entryOf, lengthAt}
 use Rattle.tagset.specs.Laws.Entries.{EntryCase, entry-case, fails, passed-all, passed-fails, passed-few, passes, payload-length}
 use Rattle.tagset.specs.Laws.Exact.{passed-count}
-use Rattle.tagset.specs.Laws.Places.{begun-length, begun-snoc, ended-length, ended-snoc, size-snoc, sizeOf}
+use Rattle.tagset.specs.Laws.Places.{along-length, along-snoc, size-snoc, sizeOf}
 use Rattle.tagset.specs.Refusals.{Passed, Whole, atFront, oneMore, payload}
 use Rattle.tagset.specs.declared.Entry.{Entry}
 use Rattle.tagset.specs.declared.Entry.the-variants.{Faulty, Tag}
@@ -25,6 +25,13 @@ padded-set l v k e h =
     let m : 16 - length (l ++ v ∷ []) ≡ 15 - length l = omega (arith, length-append l (v ∷ [])) in
     rw (n, m) (set-at l 0 (replicate (15 - length l) 0) v k e ∙ sym (append-assoc l (v ∷ []) (replicate (15 - length l) 0)))
 
+-- one more place, in either array
+place-more : (f : ℕ → Word → ℕ) (l : List ℕ) (ts : List Word) (t : Word) (k v : ℕ) → l ≡ padded 16 (along f 0 ts) → length ts ≡ k → k < 16 → v ≡ f (sizeOf ts) t
+    → set l k v ≡ padded 16 (along f 0 (ts ++ t ∷ []))
+place-more f l ts t k v e n h ev =
+    ap (λ (x : List ℕ). set x k v) e ∙ padded-set (along f 0 ts) v k (along-length f 0 ts ∙ n) h
+    ∙ ap (padded 16) (ap (λ (x : ℕ). along f 0 ts ++ x ∷ []) ev ∙ sym (along-snoc f 0 ts t (sizeOf ts) (omega arith)))
+
 -- the first k entries passed, and end at `at`
 pub record Gone (bytes from to : List ℕ) (k at : ℕ) : Type 0 where
   pub tags : List Word
@@ -35,7 +42,7 @@ pub record Gone (bytes from to : List ℕ) (k at : ℕ) : Type 0 where
   pub tos : to ≡ padded 16 (ended 0 tags)
 
 pub gone-start : (bytes : List ℕ) → Gone bytes (replicate 16 0) (replicate 16 0) 0 0
-unfolding sizeOf begun ended
+unfolding sizeOf along
 gone-start bytes = record { tags = []; passed = atFront; place = refl; within = omega arith; froms = refl; tos = refl }
 
 module _ {bytes from to : List ℕ} {k at : ℕ} (g : Gone bytes from to k at) where
@@ -83,12 +90,8 @@ module _ {bytes from to : List ℕ} {k at : ℕ} (g : Gone bytes from to k at) w
                 passed = rw (add-one k) (subst (Passed bytes (suc k) (ts ++ t ∷ [])) (rest w ee) (oneMore (g .passed) w));
                 place = omega (arith, g .place, size-snoc ts t);
                 within = omega (arith, n, w .rest, length-drop at bytes, left);
-                froms =
-                    ap (λ (l : List ℕ). set l k begin) (g .froms) ∙ padded-set (begun 0 ts) begin k (begun-length 0 ts ∙ count) few
-                    ∙ ap (padded 16) (ap (λ (x : ℕ). begun 0 ts ++ x ∷ []) (eb ∙ ap (λ (x : ℕ). x + 4) (g .place)) ∙ sym (begun-snoc 0 ts t));
-                tos =
-                    ap (λ (l : List ℕ). set l k end) (g .tos) ∙ padded-set (ended 0 ts) end k (ended-length 0 ts ∙ count) few
-                    ∙ ap (padded 16) (ap (λ (x : ℕ). ended 0 ts ++ x ∷ []) (ee ∙ ap (λ (x : ℕ). x + 4 + length t) (g .place)) ∙ sym (ended-snoc 0 ts t));
+                froms = place-more beginOf from ts t k begin (g .froms) count few (eb ∙ ap (λ (x : ℕ). x + 4) (g .place));
+                tos = place-more endOf to ts t k end (g .tos) count few (ee ∙ ap (λ (x : ℕ). x + 4 + length t) (g .place));
               };
             }
           where

@@ -31,15 +31,25 @@ faultValues (Length k) = k ∷ []
 faultValues Empty = 0 ∷ []
 faultValues (Repeat k) = k ∷ []
 
--- where the payloads of entries begin, the first entry beginning at `at`
-unfoldable pub begun : ℕ → List Word → List ℕ
-begun at [] = []
-begun at (t ∷ ts) = (at + 4) ∷ begun (at + 4 + length t) ts
+-- a number for each of the entries of tags, by where it begins and its tag, the first beginning at `at`
+unfoldable pub along : (ℕ → Word → ℕ) → ℕ → List Word → List ℕ
+along f at [] = []
+along f at (t ∷ ts) = f at t ∷ along f (at + 4 + length t) ts
+
+-- where the payload of an entry begins, and where it ends
+abbrev pub beginOf : ℕ → Word → ℕ
+beginOf at t = at + 4
+
+abbrev pub endOf : ℕ → Word → ℕ
+endOf at t = at + 4 + length t
+
+-- where the payloads of entries begin
+abbrev pub begun : ℕ → List Word → List ℕ
+begun at ts = along beginOf at ts
 
 -- and where they end
-unfoldable pub ended : ℕ → List Word → List ℕ
-ended at [] = []
-ended at (t ∷ ts) = (at + 4 + length t) ∷ ended (at + 4 + length t) ts
+abbrev pub ended : ℕ → List Word → List ℕ
+ended at ts = along endOf at ts
 
 -- so many numbers: a list's, and zeros behind them
 abbrev pub padded : ℕ → List ℕ → List ℕ

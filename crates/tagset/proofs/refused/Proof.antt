@@ -2,10 +2,10 @@
 use Rattle.tagset.proofs.refused.Statement.{statement}
 use Rattle.tagset.proofs.refused.Tie as tie
 use mathlib.Core.Path.{refl}
-use Rattle.tagset.specs.Answer.{begun, ended, setRead, tagsLie}
+use Rattle.tagset.specs.Answer.{along, setRead, tagsLie}
 
 returns : tie.Need-returns
-unfolding setRead tagsLie begun ended
+unfolding setRead tagsLie along
 returns c = refl
 
 pub refused-spec : {M : Type 1} → statement M

@@ -6,9 +6,9 @@ use native.Mathlib.Omega.{arith}
 use lib.ListN.{length, length-append, replicate, take}
 use lib.Seq.{length-take-le, take-at}
 use Rattle.matching.specs.Words.{Word}
-use Rattle.tagset.specs.Answer.{begun, cutAt, ended, padded, setRead, tagsLie}
+use Rattle.tagset.specs.Answer.{along, beginOf, begun, cutAt, endOf, ended, padded, setRead, tagsLie}
 use Rattle.tagset.specs.Grammar.{SetOf, badSet, goodSet, setOf}
-use Rattle.tagset.specs.Laws.Places.{TagsOf, begun-length, ended-length, tags-of}
+use Rattle.tagset.specs.Laws.Places.{TagsOf, along-length, tags-of}
 use Rattle.tagset.specs.declared.SetFault.{SetFault}
 use Rattle.tagset.specs.declared.SetRead.{SetRead}
 use Rattle.tagset.specs.declared.Verdict.the-variants.{Bad, Good}
@@ -20,21 +20,18 @@ pub record Lent (bytes : List ℕ) (ts : List Word) (r : SetRead) : Type 0 where
   pub fitsFrom : r .tags .count ≤ length (r .tags .from)
   pub fitsTo : r .tags .count ≤ length (r .tags .to)
 
-taken : (l : List ℕ) (n : ℕ) → length l ≡ n → take n (padded 16 l) ≡ l
-taken l n e = take-at l (replicate (16 - length l) 0) n e
+-- so it is with either array, whatever its numbers
+module _ (f : ℕ → Word → ℕ) (ts : List Word) where
+  taken : take (length ts) (padded 16 (along f 0 ts)) ≡ along f 0 ts
+  taken = take-at (along f 0 ts) (replicate (16 - length (along f 0 ts)) 0) (length ts) (along-length f 0 ts)
 
-padded-fits : (l : List ℕ) (n : ℕ) → length l ≡ n → n ≤ length (padded 16 l)
-padded-fits l n e = omega (arith, length-append l (replicate (16 - length l) 0))
+  fits : length ts ≤ length (padded 16 (along f 0 ts))
+  fits = omega (arith, length-append (along f 0 ts) (replicate (16 - length (along f 0 ts)) 0), along-length f 0 ts)
 
 pub lent-tags : (bytes : List ℕ) (ts : List Word) → cutAt bytes (begun 0 ts) (ended 0 ts) ≡ ts → Lent bytes ts (setRead (goodSet ts))
 unfolding setRead tagsLie
 lent-tags bytes ts lies =
-    record {
-      lies = rw (taken (begun 0 ts) (length ts) (begun-length 0 ts), taken (ended 0 ts) (length ts) (ended-length 0 ts)) lies;
-      many = refl;
-      fitsFrom = padded-fits (begun 0 ts) (length ts) (begun-length 0 ts);
-      fitsTo = padded-fits (ended 0 ts) (length ts) (ended-length 0 ts);
-    }
+    record { lies = rw (taken beginOf ts, taken endOf ts) lies; many = refl; fitsFrom = fits beginOf ts; fitsTo = fits endOf ts }
 
 -- as many places are lent as there are tags
 module _ {bytes : List ℕ} {ts : List Word} {r : SetRead} (l : Lent bytes ts r) where

@@ -7,7 +7,7 @@ use native.Mathlib.Omega.{arith}
 use lib.ListN.{drop, getD, length, length-drop, take}
 use lib.Seq.{drop-drop}
 use Rattle.matching.specs.Words.{AllBelow, AllShort, Below, Lawful, Word}
-use Rattle.tagset.specs.Answer.{begun, cutAt, ended}
+use Rattle.tagset.specs.Answer.{along, beginOf, begun, cutAt, endOf, ended}
 use Rattle.tagset.specs.Grammar.{goodSet, lengthAt, setOf}
 use Rattle.tagset.specs.Laws.Entries.{passed-few, payload-length}
 use Rattle.tagset.specs.Laws.Exact.{accepted-iff}
@@ -25,29 +25,16 @@ size-snoc (u ∷ ts) t = omega (arith, size-snoc ts t)
 
 -- ---- lists of places
 
-pub begun-length : (at : ℕ) (ts : List Word) → length (begun at ts) ≡ length ts
-unfolding begun
-begun-length at [] = refl
-begun-length at (t ∷ ts) = ap suc (begun-length (at + 4 + length t) ts)
+pub along-length : (f : ℕ → Word → ℕ) (at : ℕ) (ts : List Word) → length (along f at ts) ≡ length ts
+unfolding along
+along-length f at [] = refl
+along-length f at (t ∷ ts) = ap suc (along-length f (at + 4 + length t) ts)
 
-pub ended-length : (at : ℕ) (ts : List Word) → length (ended at ts) ≡ length ts
-unfolding ended
-ended-length at [] = refl
-ended-length at (t ∷ ts) = ap suc (ended-length (at + 4 + length t) ts)
-
-pub begun-snoc : (at : ℕ) (ts : List Word) (t : Word) → begun at (ts ++ t ∷ []) ≡ begun at ts ++ (sizeOf ts + (at + 4)) ∷ []
-unfolding begun sizeOf
-begun-snoc at [] t = ap (λ (n : ℕ). n ∷ []) (omega arith)
-begun-snoc at (u ∷ ts) t =
-    ap (λ (l : List ℕ). (at + 4) ∷ l)
-    (begun-snoc (at + 4 + length u) ts t ∙ ap (λ (n : ℕ). begun (at + 4 + length u) ts ++ n ∷ []) (omega arith))
-
-pub ended-snoc : (at : ℕ) (ts : List Word) (t : Word) → ended at (ts ++ t ∷ []) ≡ ended at ts ++ (sizeOf ts + (at + 4) + length t) ∷ []
-unfolding ended sizeOf
-ended-snoc at [] t = ap (λ (n : ℕ). n ∷ []) (omega arith)
-ended-snoc at (u ∷ ts) t =
-    ap (λ (l : List ℕ). (at + 4 + length u) ∷ l)
-    (ended-snoc (at + 4 + length u) ts t ∙ ap (λ (n : ℕ). ended (at + 4 + length u) ts ++ n ∷ []) (omega arith))
+-- one more tag, whose entry begins at n
+pub along-snoc : (f : ℕ → Word → ℕ) (at : ℕ) (ts : List Word) (t : Word) (n : ℕ) → n ≡ at + sizeOf ts → along f at (ts ++ t ∷ []) ≡ along f at ts ++ f n t ∷ []
+unfolding along sizeOf
+along-snoc f at [] t n e = let z : at ≡ n = omega arith in rw z
+along-snoc f at (u ∷ ts) t n e = ap (λ (l : List ℕ). f at u ∷ l) (along-snoc f (at + 4 + length u) ts t n (omega arith))
 
 pub cutAt-snoc : (bytes froms tos : List ℕ) (a e : ℕ) → length froms ≡ length tos
     → cutAt bytes (froms ++ a ∷ []) (tos ++ e ∷ []) ≡ cutAt bytes froms tos ++ take (e - a) (drop a bytes) ∷ []
@@ -137,9 +124,9 @@ passed-more {bytes} {k} {ts} {left} r w =
       size = omega (arith, z, r .size, w .rest, length-drop (4 + lengthAt left) left);
       sized = sized-snoc ts (payload left) (r .sized) (omega (arith, n, w .some), omega (arith, n, w .short));
       lies =
-          rw (begun-snoc 0 ts (payload left), ended-snoc 0 ts (payload left))
+          rw (along-snoc beginOf 0 ts (payload left) (sizeOf ts) (omega arith), along-snoc endOf 0 ts (payload left) (sizeOf ts) (omega arith))
           (cutAt-snoc bytes (begun 0 ts) (ended 0 ts) (sizeOf ts + 4) (sizeOf ts + 4 + length (payload left))
-          (begun-length 0 ts ∙ sym (ended-length 0 ts))
+          (along-length beginOf 0 ts ∙ sym (along-length endOf 0 ts))
           ∙ ap (λ (l : List Word). l ++ take (sizeOf ts + 4 + length (payload left) - (sizeOf ts + 4)) (drop (sizeOf ts + 4) bytes) ∷ []) (r .lies)
           ∙ ap (λ (t : Word). ts ++ t ∷ []) cut);
     }
@@ -151,7 +138,7 @@ passed-more {bytes} {k} {ts} {left} r w =
         rw (n, e)
 
 pub passed-read : {bytes : List ℕ} {k : ℕ} {ts : List Word} {left : List ℕ} → Passed bytes k ts left → Read bytes ts left
-unfolding sizeOf cutAt begun
+unfolding sizeOf cutAt along
 passed-read atFront = record { behind = refl; size = omega arith; sized = tt; lies = refl }
 passed-read (oneMore p w) = passed-more (passed-read p) w
 
@@ -199,3 +186,8 @@ of-accepted {bytes} {ts} a =
 
 pub tags-of : (bytes : List ℕ) (ts : List Word) → setOf bytes ≡ goodSet ts → TagsOf bytes ts
 tags-of bytes ts good = of-accepted (accepted-iff bytes ts .0 good)
+
+-- a run of numbers that are each below m, as a lent slice of bytes is for 256
+pub below-all : (m : ℕ) (l : List ℕ) → ((i : ℕ) → i < length l → getD l i 0 < m) → Below m l
+below-all m [] h = tt
+below-all m (x ∷ l) h = (h 0 (omega arith), below-all m l (λ i k. h (suc i) (omega arith)))

@@ -1,0 +1,60 @@
+-- `tables::words::spell` meets its contract. What is written is what the machine sees of the bytes before `i`.
+use Rattle.machines.proofs.spell.Statement.{statement}
+use Rattle.machines.proofs.spell.Tie as tie
+use Prim.Native.Nat.{_-_, _≤_}
+use mathlib.Core.List.{map}
+use mathlib.Core.Path.{_≡_, refl}
+use native.Mathlib.Omega.{arith}
+use lib.ListN.{length, length-set, set, take}
+use borrow.Author.Needs.{needs}
+use Rattle.machines.proofs.Ends.{spell-end, spell-more}
+use Rattle.machines.specs.Letters.{letterBy}
+
+abbrev Inv-loop : tie.InvT-loop
+Inv-loop set shift mask out₀ i₀ out i = (i ≤ length set) × (length out ≡ length out₀) × (take i out ≡ map (letterBy shift mask) (take i set))
+
+abbrev μ-loop : tie.MeasureT-loop
+μ-loop set shift mask out₀ i₀ out i = length set - i
+
+loop-holds : tie.Need-loop-holds Inv-loop μ-loop
+loop-holds c = (omega arith, refl, refl)
+
+shared-slice-read-letter : tie.Need-shared-slice-read-letter Inv-loop μ-loop
+shared-slice-read-letter c = omega arith
+
+letter-requires : tie.Need-letter-requires Inv-loop μ-loop
+letter-requires c κs = search needs
+
+slice-write-out : tie.Need-slice-write-out Inv-loop μ-loop
+slice-write-out c = omega arith
+
+add-i : tie.Need-add-i Inv-loop μ-loop
+add-i c = omega arith
+
+loop-less : tie.Need-loop-less Inv-loop μ-loop
+loop-less c = omega arith
+
+loop-again : tie.Need-loop-again Inv-loop μ-loop
+loop-again c = (omega arith, simp length-set (c .before .before .before .loop .inv .1), spell-more (letterBy (c .before .before .before .before .before .before .args .shift) (c .before .before .before .before .before .before .args .mask)) (c .before .before .before .before .before .before .args .set .now) (c .before .before .before .loop .out) (c .before .before .before .loop .i) _ (c .before .before .loop-test .taken) (omega arith) (c .letter .ensures) (c .before .before .before .loop .inv .2))
+
+same-length : tie.Need-same-length Inv-loop μ-loop
+same-length c = c .before .loop .inv .1
+
+returns : tie.Need-returns Inv-loop μ-loop
+returns c = spell-end (letterBy (c .before .before .before .before .args .shift) (c .before .before .before .before .args .mask)) (c .before .before .before .before .args .set .now) (c .before .loop .out) (c .before .loop .i) (c .before .loop .inv .0) (c .loop-test .left) (c .before .loop .inv .2)
+
+pub spell-spec : {M : Type 1} → statement M
+spell-spec =
+    tie.close
+    (tie.spec
+    Inv-loop
+    μ-loop
+    loop-holds
+    shared-slice-read-letter
+    letter-requires
+    slice-write-out
+    add-i
+    loop-less
+    loop-again
+    same-length
+    returns)
