@@ -1,5 +1,6 @@
 -- What a read outside the desk answers and leaves; what its parts do; the laws.
 pub mod Outside
+pub mod Refusals
 pub mod Records
 pub mod Walks
 pub mod Laws

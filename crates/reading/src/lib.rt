@@ -1,7 +1,11 @@
 // Reading a piece over any table (document 01, 'Reading a piece').
 mod records;
+mod refusals;
 mod walks;
 
+use crate::refusals::Verdict;
+use crate::refusals::judge;
+use crate::refusals::too_long;
 use crate::walks::on_split;
 use crate::walks::on_whole;
 use matching::Stop;
@@ -12,9 +16,7 @@ use passing::places::wide;
 use passing::places::widened;
 ghost use mathlib.Core.Path.{_≡_};
 ghost use mathlib.Core.List.{[], _∷_};
-ghost use Prim.Native.Nat.{_+_};
 ghost use lib.ListN.{length};
-ghost use lib.Dec.{ltb};
 ghost use Rattle.reading.specs.Outside.{readOf, splitBy, wholeBy, listBy};
 
 // Why a read outside the desk is refused.
@@ -46,14 +48,6 @@ pub struct WholeAnswer {
     pub ending: Ending,
 }
 
-// Whether the bytes taken and the piece pass the largest count.
-fn too_long(count: u32, len: usize) -> bool
-    ensures { λ r. ⌜ r ≡ ltb 4294967295 (count + len) ⌝ }
-{
-    let left = (4294967295 - count) as usize;
-    left < len
-}
-
 // Over a split table: eight machines of one bit.
 pub fn read_split(
     table: &[u16],
@@ -66,20 +60,15 @@ pub fn read_split(
 {
     let s = slots(table.len(), 1, 8);
     let start = widened(place);
-    if !all_below(s, 8, start) {
+    let sound = all_below(s, 8, start);
+    let long = too_long(count, piece.len());
+    let verdict = judge(sound, long);
+    if let Verdict::Refuse(why) = verdict {
         return SplitAnswer {
             taken: 0,
             place,
             records: 0,
-            ending: Ending::Refused(ReadRefusal::Place),
-        };
-    }
-    if too_long(count, piece.len()) {
-        return SplitAnswer {
-            taken: 0,
-            place,
-            records: 0,
-            ending: Ending::Refused(ReadRefusal::Long),
+            ending: Ending::Refused(why),
         };
     }
     let r = on_split(table, s, start, count, piece, list);
@@ -105,27 +94,23 @@ pub fn read_whole(
 {
     let s = slots(table.len(), 8, 1);
     let start = wide(place);
-    if s <= start {
+    let sound = start < s;
+    let long = too_long(count, piece.len());
+    let verdict = judge(sound, long);
+    if let Verdict::Refuse(why) = verdict {
         return WholeAnswer {
             taken: 0,
             place,
             records: 0,
-            ending: Ending::Refused(ReadRefusal::Place),
-        };
-    }
-    if too_long(count, piece.len()) {
-        return WholeAnswer {
-            taken: 0,
-            place,
-            records: 0,
-            ending: Ending::Refused(ReadRefusal::Long),
+            ending: Ending::Refused(why),
         };
     }
     let r = on_whole(table, s, start, count, piece, list);
+    let at = r.state as u16;
     let stop = r.stop;
     WholeAnswer {
         taken: r.taken,
-        place: r.state as u16,
+        place: at,
         records: r.records,
         ending: Ending::Stopped(stop),
     }

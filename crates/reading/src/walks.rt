@@ -27,6 +27,17 @@ pub struct Went {
     pub stop: Stop,
 }
 
+fn stopped(taken: usize, place: [usize; 8], records: usize, stop: Stop) -> Went
+    ensures { λ r. ⌜ r ≡ record { taken = taken; place = place; records = records; stop = stop } ⌝ }
+{
+    Went {
+        taken,
+        place,
+        records,
+        stop,
+    }
+}
+
 // Over a split table.
 pub fn on_split(
     table: &[u16],
@@ -46,12 +57,7 @@ pub fn on_split(
     while i < piece.len() {
         let next = next_numbers(table, s, 1, &starts, place, piece[i]);
         if !all_below(s, 8, next) {
-            return Went {
-                taken: i,
-                place,
-                records: w,
-                stop: Stop::Damaged,
-            };
+            return stopped(i, place, w, Stop::Damaged);
         }
         let hits = vectors(table, s, 1, 0, 8, next, 65535);
         match put_all(list, w, count + (i as u32) + 1, hits) {
@@ -59,12 +65,7 @@ pub fn on_split(
                 w = x;
             }
             Emit::NoRoom => {
-                return Went {
-                    taken: i,
-                    place,
-                    records: w,
-                    stop: Stop::Full,
-                };
+                return stopped(i, place, w, Stop::Full);
             }
         }
         place = next;
@@ -76,12 +77,7 @@ pub fn on_split(
             i = q.at;
         }
     }
-    Went {
-        taken: i,
-        place,
-        records: w,
-        stop: Stop::All,
-    }
+    stopped(i, place, w, Stop::All)
 }
 
 pub struct WentOne {
@@ -89,6 +85,17 @@ pub struct WentOne {
     pub state: usize,
     pub records: usize,
     pub stop: Stop,
+}
+
+fn stopped_one(taken: usize, state: usize, records: usize, stop: Stop) -> WentOne
+    ensures { λ r. ⌜ r ≡ record { taken = taken; state = state; records = records; stop = stop } ⌝ }
+{
+    WentOne {
+        taken,
+        state,
+        records,
+        stop,
+    }
 }
 
 // Over a whole-byte table.
@@ -109,12 +116,7 @@ pub fn on_whole(
     while i < piece.len() {
         let n = next_of(table, q, piece[i]);
         if s <= n {
-            return WentOne {
-                taken: i,
-                state: q,
-                records: w,
-                stop: Stop::Damaged,
-            };
+            return stopped_one(i, q, w, Stop::Damaged);
         }
         let hits = vector_of(table, n);
         match put_all(list, w, count + (i as u32) + 1, hits) {
@@ -122,12 +124,7 @@ pub fn on_whole(
                 w = x;
             }
             Emit::NoRoom => {
-                return WentOne {
-                    taken: i,
-                    state: q,
-                    records: w,
-                    stop: Stop::Full,
-                };
+                return stopped_one(i, q, w, Stop::Full);
             }
         }
         q = n;
@@ -138,10 +135,5 @@ pub fn on_whole(
             i = p.at;
         }
     }
-    WentOne {
-        taken: i,
-        state: q,
-        records: w,
-        stop: Stop::All,
-    }
+    stopped_one(i, q, w, Stop::All)
 }

@@ -1,17 +1,19 @@
 use Rattle.reading.proofs.read_split.Statement.{statement}
 use Rattle.reading.proofs.read_split.Tie as tie
 use Prim.Native.Nat.{_+_, _/_}
-use mathlib.Core.Bool.{false, true}
+use mathlib.Core.Bool.{false, not, true}
 use mathlib.Core.Path.{_∙_, _≡_, ap, refl, sym}
 use native.Mathlib.Omega.{arith}
+use lib.Dec.{ltb}
 use lib.ListN.{length}
 use borrow.Author.Needs.{needs}
-use borrow.Author.Tests.{ltb-false, not-false, not-true}
+use borrow.Author.Tests.{ltb-false}
 use Rattle.matching.specs.Reading.{allBelow, read}
-use Rattle.matching.specs.Table.{slotsIn}
 use Rattle.passing.specs.Laws.Rows.{slots-room}
 use Rattle.passing.specs.Laws.Runs.{full}
-use Rattle.reading.specs.Laws.Answers.{list-long, read-goes, read-long, read-place, slots-few, split-read, states-fit}
+use Rattle.reading.specs.Laws.Answers.{first-none, list-long, read-goes, read-refused, slots-few, split-read, states-fit}
+use Rattle.reading.specs.Refusals.{firstOf}
+use Rattle.reading.specs.declared.ReadRefusal.the-variants.{Long, Place}
 use Rattle.reading.specs.declared.walks.Went.{Went}
 
 slots-requires : tie.Need-slots-requires
@@ -23,62 +25,74 @@ widened-requires c κs = search needs
 all-below-requires : tie.Need-all-below-requires
 all-below-requires c κs = search needs
 
--- past the first test, each state is below s
-sound : (c : tie.Else1) → allBelow (c .before .before .before .slots .result) (c .before .before .before .before .before .before .before .args .place) ≡ true
-sound c =
-    rw (c .before .before .widened .ensures, full (c .before .before .before .before .before .before .before .args .place) (omega arith)) at (sym (c .before .all-below .ensures) ∙ not-false _ (c .if1 .left))
-
-returns : tie.Need-returns
-returns c =
-    let a = c .before .before .before .before .before .before .before .args in
-    let e : c .before .before .before .slots .result ≡ slotsIn 1 8 (length (a .table .now)) = c .before .before .before .slots .ensures in
-    let b : allBelow (c .before .before .before .slots .result) (a .place) ≡ false = rw (c .before .before .widened .ensures, full (a .place) (omega arith)) at (sym (c .before .all-below .ensures) ∙ not-true _ (c .if1 .taken)) in
-    rw (read-place 1 8 (a .table .now) (a .place) (a .count) (a .piece .now) (length (a .list .now)) _ e b) (refl, refl)
-
 too-long-requires : tie.Need-too-long-requires
 too-long-requires c κs = search needs
 
-returns-2 : tie.Need-returns-2
-returns-2 c =
-    let a = c .before .before .before .before .before .before .before .before .before .args in
-    rw (read-long 1 8 (a .table .now) (a .place) (a .count) (a .piece .now) (length (a .list .now)) _ (c .before .before .before .before .before .slots .ensures) (sound (c .before .before)) (sym (c .before .too-long .ensures) ∙ c .if2 .taken)) (refl, refl)
+judge-requires : tie.Need-judge-requires
+judge-requires c κs = search needs
+
+-- the verdict by what is refused
+verdict-is : (c : tie.After-judge)
+    → c .judge .result
+    ≡ firstOf (not (allBelow (c .before .before .before .before .slots .result) (c .before .before .before .before .before .before .before .before .args .place))) Place (ltb 4294967295 (c .before .before .before .before .before .before .before .before .args .count + length (c .before .before .before .before .before .before .before .before .args .piece .now))) Long
+verdict-is c =
+    rw (c .before .before .all-below .ensures, c .before .before .before .widened .ensures, full (c .before .before .before .before .before .before .before .before .args .place) (omega arith), c .before .too-long .ensures) at (c .judge .ensures)
+
+-- where it is to go, each state is below s and the count has room
+goes : (c : tie.After-enum-told)
+    → (allBelow (c .before .before .before .before .before .before .slots .result) (c .before .before .before .before .before .before .before .before .before .before .args .place) ≡ true) × (ltb 4294967295 (c .before .before .before .before .before .before .before .before .before .before .args .count + length (c .before .before .before .before .before .before .before .before .before .before .args .piece .now)) ≡ false)
+goes c = first-none _ _ (sym (c .enum-told .given .1) ∙ verdict-is (c .before .before))
+
+enum-known-verdict : tie.Need-enum-known-verdict
+enum-known-verdict c = search needs
+
+returns : tie.Need-returns
+returns c =
+    let a = c .before .before .before .before .before .before .before .before .before .before .before .args in
+    rw (read-refused 1 8 (a .table .now) (a .place) (a .count) (a .piece .now) (length (a .list .now)) (c .before .before .before .before .before .before .before .slots .result) (c .before .before .before .before .before .before .before .slots .ensures) (c .before .verdict .given .0 .0) (sym (c .before .verdict .given .1) ∙ verdict-is (c .before .before .before))) (refl, refl)
+
+enum-told : tie.Need-enum-told
+enum-told c = search needs
 
 on-split-requires : tie.Need-on-split-requires
 on-split-requires c κs =
-    let a = c .before .before .before .before .before .before .before .before .before .before .args in
-    let s = c .before .before .before .before .before .before .slots .result in
-    let e = c .before .before .before .before .before .before .slots .ensures in
-    let l = ltb-false 4294967295 (a .count + length (a .piece .now)) (sym (c .before .before .too-long .ensures) ∙ c .before .if2 .left) in (
+    let a = c .before .before .before .before .before .before .before .before .before .before .before .args in
+    let s = c .before .before .before .before .before .before .before .slots .result in
+    let e = c .before .before .before .before .before .before .before .slots .ensures in
+    let start = c .before .before .before .before .before .before .widened .result in
+    let g = goes (c .before) in
+    let l = ltb-false 4294967295 (a .count + length (a .piece .now)) (g .1) in (
       record {
         room = slots-room 1 8 (length (a .table .now)) s e;
         few = omega arith;
         long = omega arith;
-        below = sym (c .before .before .before .before .all-below .ensures) ∙ not-false _ (c .before .before .before .if1 .left);
+        below = rw (full start (omega arith), c .before .before .before .before .before .before .widened .ensures) (g .0);
       },
       (slots-few 1 8 (length (a .table .now)) s e, omega (arith, l)),
     )
 
 narrowed-requires : tie.Need-narrowed-requires
 narrowed-requires c κs =
-    let a = c .before .before .before .before .before .before .before .before .before .before .before .before .before .before .args in
-    let s = c .before .before .before .before .before .before .before .before .before .before .slots .result in
-    let start = c .before .before .before .before .before .before .before .before .before .widened .result in
+    let a = c .before .before .before .before .before .before .before .before .before .before .before .before .before .before .before .args in
+    let s = c .before .before .before .before .before .before .before .before .before .before .before .slots .result in
+    let start = c .before .before .before .before .before .before .before .before .before .before .widened .result in
     let o = read 1 s (a .table .now) start (a .count) (length (a .list .now) / 2) (a .piece .now) in
     let at : c .before .before .before .on-split .result .place ≡ o .place = ap (λ (r : Went). r .place) (c .before .before .before .on-split .ensures .0) in
-    let b : allBelow s start ≡ true = rw (c .before .before .before .before .before .before .before .before .before .widened .ensures) (sound (c .before .before .before .before .before .before .before)) in
-    λ i l. rw at (states-fit 1 s (a .table .now) start (a .count) (length (a .list .now) / 2) (a .piece .now) (slots-few 1 8 (length (a .table .now)) s (c .before .before .before .before .before .before .before .before .before .before .slots .ensures)) b i (omega arith))
+    let b : allBelow s start ≡ true = rw (c .before .before .before .before .before .before .before .before .before .before .widened .ensures) (goes (c .before .before .before .before .before) .0) in
+    λ i l. rw at (states-fit 1 s (a .table .now) start (a .count) (length (a .list .now) / 2) (a .piece .now) (slots-few 1 8 (length (a .table .now)) s (c .before .before .before .before .before .before .before .before .before .before .before .slots .ensures)) b i (omega arith))
 
 same-length : tie.Need-same-length
 same-length c =
-    let a = c .before .before .before .before .before .before .before .before .before .before .before .before .before .before .before .args in
+    let a = c .before .before .before .before .before .before .before .before .before .before .before .before .before .before .before .before .args in
     list-long 1 _ (a .table .now) _ (a .count) (a .piece .now) (a .list .now) _ (c .before .before .before .before .on-split .ensures .1)
 
-returns-3 : tie.Need-returns-3
-returns-3 c =
-    let a = c .before .before .before .before .before .before .before .before .before .before .before .before .before .before .before .args in
-    let goes = read-goes 1 8 (a .table .now) (a .place) (a .count) (a .piece .now) (length (a .list .now)) _ (c .before .before .before .before .before .before .before .before .before .before .before .slots .ensures) (sound (c .before .before .before .before .before .before .before .before)) (sym (c .before .before .before .before .before .before .before .too-long .ensures) ∙ c .before .before .before .before .before .before .if2 .left) in
-    split-read _ _ (a .place) (c .before .before .before .before .on-split .result) _ (a .list .now) _ goes
-    (rw (c .before .before .before .before .before .before .before .before .before .before .widened .ensures) at (c .before .before .before .before .on-split .ensures .0)) (c .narrowed .ensures) (rw (c .before .before .before .before .before .before .before .before .before .before .widened .ensures) at (c .before .before .before .before .on-split .ensures .1))
+returns-2 : tie.Need-returns-2
+returns-2 c =
+    let a = c .before .before .before .before .before .before .before .before .before .before .before .before .before .before .before .before .args in
+    let g = goes (c .before .before .before .before .before .before) in
+    let reads = read-goes 1 8 (a .table .now) (a .place) (a .count) (a .piece .now) (length (a .list .now)) _ (c .before .before .before .before .before .before .before .before .before .before .before .before .slots .ensures) (g .0) (g .1) in
+    split-read _ _ (a .place) (c .before .before .before .before .on-split .result) _ (a .list .now) _ reads
+    (rw (c .before .before .before .before .before .before .before .before .before .before .before .widened .ensures) at (c .before .before .before .before .on-split .ensures .0)) (c .narrowed .ensures) (rw (c .before .before .before .before .before .before .before .before .before .before .before .widened .ensures) at (c .before .before .before .before .on-split .ensures .1))
 
 pub read-split-spec : {M : Type 1} → statement M
 read-split-spec =
@@ -87,10 +101,12 @@ read-split-spec =
     slots-requires
     widened-requires
     all-below-requires
-    returns
     too-long-requires
-    returns-2
+    judge-requires
+    enum-known-verdict
+    returns
+    enum-told
     on-split-requires
     narrowed-requires
     same-length
-    returns-3)
+    returns-2)

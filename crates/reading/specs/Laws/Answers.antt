@@ -1,6 +1,6 @@
 -- What comes before the loop and after it.
 use Prim.Native.Nat.{_+_, _-_, _/_, _<_, _≤_, ℕ}
-use mathlib.Core.Bool.{false, true}
+use mathlib.Core.Bool.{Bool, false, not, true}
 use mathlib.Core.List.{List}
 use mathlib.Core.Path.{_∙_, _≡_, ap, refl}
 use native.Mathlib.Omega.{arith}
@@ -13,10 +13,13 @@ use Rattle.matching.specs.Reading.{Outcome, allBelow, read}
 use Rattle.matching.specs.Table.{slotsIn}
 use Rattle.passing.specs.Laws.Below.{below-at}
 use Rattle.reading.specs.Laws.Records.{flat-length}
-use Rattle.reading.specs.Outside.{ReadOf, listBy, readOf, readTo, refusedRead, splitBy, wholeBy}
+use Rattle.reading.specs.Outside.{ReadOf, listBy, readBy, readOf, readTo, refusedRead, splitBy, wholeBy}
+use Rattle.reading.specs.Refusals.{firstOf}
 use Rattle.reading.specs.Walks.{listOf, wentOf, wentOneOf}
 use Rattle.reading.specs.declared.Ending.the-variants.{Stopped}
+use Rattle.reading.specs.declared.ReadRefusal.{ReadRefusal}
 use Rattle.reading.specs.declared.ReadRefusal.the-variants.{Long, Place}
+use Rattle.reading.specs.declared.refusals.Verdict.the-variants.{Go, Refuse}
 use Rattle.reading.specs.declared.walks.Went.{Went}
 use Rattle.reading.specs.declared.walks.WentOne.{WentOne}
 
@@ -42,6 +45,23 @@ module _ (n k : ℕ) (table place : List ℕ) (count : ℕ) (piece : List ℕ) (
       → readOf n k table place count piece len ≡ readTo (read n s table place count (len / 2) piece)
   unfolding readOf
   read-goes b h = rw (← e, b, h)
+
+-- by the code's verdict
+pub first-refused : (r : Outcome) (sound long : Bool) (why : ReadRefusal) → Refuse why ≡ firstOf (not sound) Place long Long → readBy r sound long ≡ refusedRead why
+first-refused r false long why e = cc
+first-refused r true true why e = cc
+first-refused r true false why e = let z : _≡_ {A = ℕ} 0 1 = cc in absurd (omega arith)
+
+pub first-none : (sound long : Bool) → Go ≡ firstOf (not sound) Place long Long → (sound ≡ true) × (long ≡ false)
+first-none false long e = let z : _≡_ {A = ℕ} 0 1 = cc in absurd (omega arith)
+first-none true true e = let z : _≡_ {A = ℕ} 0 1 = cc in absurd (omega arith)
+first-none true false e = (refl, refl)
+
+pub read-refused : (n k : ℕ) (table place : List ℕ) (count : ℕ) (piece : List ℕ) (len s : ℕ) → s ≡ slotsIn n k (length table)
+    → (why : ReadRefusal) → Refuse why ≡ firstOf (not (allBelow s place)) Place (ltb 4294967295 (count + length piece)) Long
+    → readOf n k table place count piece len ≡ refusedRead why
+unfolding readOf
+read-refused n k table place count piece len s e why v = rw (← e) (first-refused _ (allBelow s place) (ltb 4294967295 (count + length piece)) why v)
 
 pub slots-few : (n k len s : ℕ) → s ≡ slotsIn n k len → s ≤ 513
 slots-few n k len s e = omega arith

@@ -253,3 +253,18 @@ pub odd-kept : (n k : ℕ) (table place : List ℕ) (count : ℕ) (piece : Word)
 odd-kept n k table place count piece list i h =
     let g = read-keeps n k table place count piece list in
     g .unused i (omega (arith, g .fits))
+
+-- refused: nothing is taken, nothing written, and place and list are what they were
+pub refused-same : (place list : List ℕ) (r : ReadOf) (why : ReadRefusal) → r ≡ refusedRead why
+    → (takenBy r ≡ 0) × ((recordsBy r ≡ 0) × ((placeBy place r ≡ place) × (listBy list r ≡ list)))
+refused-same place list r why e = rw e (refl, (refl, (refl, refl)))
+
+-- nothing taken, refused or not: place and list are what they were
+module _ (piece : Word) (list : List ℕ) where
+  pub split-idle : (place : List ℕ) (r : ReadOf) → ReadKept place piece list r → splitBy place r .taken ≡ 0 → (splitBy place r .place ≡ place) × (listBy list r ≡ list)
+  split-idle place (refusedRead why) k e = (refl, refl)
+  split-idle place (readTo o) k e = k .idle e
+
+  pub whole-idle : (place : ℕ) (r : ReadOf) → ReadKept (place ∷ []) piece list r → wholeBy place r .taken ≡ 0 → (wholeBy place r .place ≡ place) × (listBy list r ≡ list)
+  whole-idle place (refusedRead why) k e = (refl, refl)
+  whole-idle place (readTo o) k e = (ap (λ (l : List ℕ). getD l 0 0) (k .idle e .0), k .idle e .1)

@@ -1,9 +1,5 @@
 use Rattle.passing.proofs.whole.pass_pairs.Statement.{statement}
 use Rattle.passing.proofs.whole.pass_pairs.Tie as tie
-use Rattle.passing.proofs.whole.pass_pairs.Reads as reads
-use Rattle.passing.proofs.whole.pass_pairs.Lts as lts
-use Rattle.passing.proofs.whole.pair.Reads as pair-reads
-use Rattle.passing.proofs.whole.run_length.Reads as run-length-reads
 use Prim.Native.Nat.{_+_, _-_, _≤_}
 use mathlib.Core.List.{[], _∷_}
 use native.Mathlib.Omega.{arith}
@@ -20,49 +16,38 @@ Inv-loop table s start piece from q₀ i₀ h₀ q i h = (Passes 8 s table piece
 abbrev μ-loop : tie.MeasureT-loop
 μ-loop table s start piece from q₀ i₀ h₀ q i h = length piece - i
 
--- src/whole.rt:135:28
 sub-run-length : tie.Need-sub-run-length Inv-loop μ-loop
 sub-run-length c = search needs
 
--- src/whole.rt:135:9
 run-length-requires : tie.Need-run-length-requires Inv-loop μ-loop
 run-length-requires c κs = search needs
 
--- src/whole.rt:136:5
 loop-holds : tie.Need-loop-holds Inv-loop μ-loop
 loop-holds c = (whole-start _ _ _ [] _ _ (c .before .before .before .pre .1 .0) (c .before .before .before .pre .1 .1), omega (arith, c .run-length .ensures))
 
--- src/whole.rt:137:13
 pair-requires : tie.Need-pair-requires Inv-loop μ-loop
 pair-requires c κs =
     let k = one-below _ _ (c .before .loop .inv .0 .below) in
     (c .before .before .before .before .before .pre .0, (k, c .before .loop .inv .1))
 
--- src/whole.rt:138:19
 add-if1 : tie.Need-add-if1 Inv-loop μ-loop
 add-if1 c = search needs
 
--- src/whole.rt:139:13
 returns : tie.Need-returns Inv-loop μ-loop
 returns c = passes-on _ _ _ _ _ _ _ _ _ _ (c .before .before .before .before .loop .inv .0) (c .before .before .pair .ensures)
 
--- src/whole.rt:143:24
 sub-run-length-2 : tie.Need-sub-run-length-2 Inv-loop μ-loop
 sub-run-length-2 c = c .before .before .pair .ensures .most
 
--- src/whole.rt:143:9
 run-length-requires-2 : tie.Need-run-length-requires-2 Inv-loop μ-loop
 run-length-requires-2 c κs = search needs
 
--- src/whole.rt:136:5
 loop-less : tie.Need-loop-less Inv-loop μ-loop
 loop-less c = omega (arith, c .before .before .before .pair .ensures .most, c .before .if1 .left)
 
--- src/whole.rt:136:5
 loop-again : tie.Need-loop-again Inv-loop μ-loop
 loop-again c = (passes-on _ _ _ _ _ _ _ _ _ _ (c .before .before .before .before .before .loop .inv .0) (c .before .before .before .pair .ensures), omega (arith, c .run-length2 .ensures, c .before .before .before .pair .ensures .most))
 
--- src/whole.rt:129:1
 returns-2 : tie.Need-returns-2 Inv-loop μ-loop
 returns-2 c = c .before .loop .inv .0
 

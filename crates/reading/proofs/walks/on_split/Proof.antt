@@ -33,15 +33,19 @@ next-numbers-requires c κs = split-able _ _ _ _ _ _ (c .before .before .before 
 all-below-requires : tie.Need-all-below-requires Inv-loop μ-loop
 all-below-requires c κs = search needs
 
+stopped-requires : tie.Need-stopped-requires Inv-loop μ-loop
+stopped-requires c κs = search needs
+
 same-length : tie.Need-same-length Inv-loop μ-loop
-same-length c = going-long _ _ _ _ _ _ _ _ _ _ _ (c .before .before .before .before .before .before .loop .inv)
+same-length c = going-long _ _ _ _ _ _ _ _ _ _ _ (c .before .before .before .before .before .before .before .loop .inv)
 
 returns : tie.Need-returns Inv-loop μ-loop
 returns c =
-    let a = c .before .before .before .before .before .before .before .before .before .before .before .args in
-    let l = c .before .before .before .before .before .before .loop in
-    split-damaged (a .s) (a .table .now) (a .count) (a .piece .now) (a .list .now) (a .start) (c .before .before .before .before .before .before .before .before .before .before .before .pre .0) (l .list) (l .place) (l .w) (l .i) (l .inv) (c .before .before .before .before .before .loop-test .taken)
-    (c .before .before .next-numbers .result) (omega arith) (c .before .before .next-numbers .ensures) (sym (c .before .all-below .ensures) ∙ not-true _ (c .if1 .taken))
+    let a = c .before .before .before .before .before .before .before .before .before .before .before .before .args in
+    let l = c .before .before .before .before .before .before .before .loop in
+    let z = split-damaged (a .s) (a .table .now) (a .count) (a .piece .now) (a .list .now) (a .start) (c .before .before .before .before .before .before .before .before .before .before .before .before .pre .0) (l .list) (l .place) (l .w) (l .i) (l .inv) (c .before .before .before .before .before .before .loop-test .taken)
+    (c .before .before .before .next-numbers .result) (omega arith) (c .before .before .before .next-numbers .ensures) (sym (c .before .before .all-below .ensures) ∙ not-true _ (c .before .if1 .taken)) in
+    (c .stopped .ensures ∙ z .0, z .1)
 
 vectors-requires : tie.Need-vectors-requires Inv-loop μ-loop
 vectors-requires c κs =
@@ -68,18 +72,22 @@ enum-known-x c = search needs
 enum-told : tie.Need-enum-told Inv-loop μ-loop
 enum-told c = search needs
 
+stopped-requires-2 : tie.Need-stopped-requires-2 Inv-loop μ-loop
+stopped-requires-2 c κs = search needs
+
 same-length-2 : tie.Need-same-length-2 Inv-loop μ-loop
 same-length-2 c =
-    let l = c .before .before .before .before .before .before .before .before .before .before .before .before .before .loop in
-    emitted-long (l .list) (l .w) (c .before .before .before .before .before .before .before .before .before .before .before .before .before .before .before .before .before .before .args .count + l .i + 1) (onesOf 0 16 (c .before .before .before .before .before .before .vectors .result)) _ (c .before .before .before .before .put-all .ensures .1) ∙ going-long _ _ _ _ _ _ _ _ _ _ _ (l .inv)
+    let l = c .before .before .before .before .before .before .before .before .before .before .before .before .before .before .loop in
+    emitted-long (l .list) (l .w) (c .before .before .before .before .before .before .before .before .before .before .before .before .before .before .before .before .before .before .before .args .count + l .i + 1) (onesOf 0 16 (c .before .before .before .before .before .before .before .vectors .result)) _ (c .before .before .before .before .before .put-all .ensures .1) ∙ going-long _ _ _ _ _ _ _ _ _ _ _ (l .inv)
 
 returns-2 : tie.Need-returns-2 Inv-loop μ-loop
 returns-2 c =
-    let a = c .before .before .before .before .before .before .before .before .before .before .before .before .before .before .before .before .before .before .args in
-    let l = c .before .before .before .before .before .before .before .before .before .before .before .before .before .loop in
-    split-full (a .s) (a .table .now) (a .count) (a .piece .now) (a .list .now) (a .start) (c .before .before .before .before .before .before .before .before .before .before .before .before .before .before .before .before .before .before .pre .0) (l .list) (l .place) (l .w) (l .i) (l .inv) (c .before .before .before .before .before .before .before .before .before .before .before .before .loop-test .taken)
-    (c .before .before .before .before .before .before .before .before .before .next-numbers .result) (omega arith) (c .before .before .before .before .before .before .before .before .before .next-numbers .ensures) (sym (c .before .before .before .before .before .before .before .before .all-below .ensures) ∙ not-false _ (c .before .before .before .before .before .before .before .if1 .left)) _ (c .before .before .before .before .before .before .vectors .ensures)
-    (sym (c .enum-told .given .1) ∙ c .before .before .before .before .put-all .ensures .0) _ (c .before .before .before .before .put-all .ensures .1)
+    let a = c .before .before .before .before .before .before .before .before .before .before .before .before .before .before .before .before .before .before .before .args in
+    let l = c .before .before .before .before .before .before .before .before .before .before .before .before .before .before .loop in
+    let z = split-full (a .s) (a .table .now) (a .count) (a .piece .now) (a .list .now) (a .start) (c .before .before .before .before .before .before .before .before .before .before .before .before .before .before .before .before .before .before .before .pre .0) (l .list) (l .place) (l .w) (l .i) (l .inv) (c .before .before .before .before .before .before .before .before .before .before .before .before .before .loop-test .taken)
+    (c .before .before .before .before .before .before .before .before .before .before .next-numbers .result) (omega arith) (c .before .before .before .before .before .before .before .before .before .before .next-numbers .ensures) (sym (c .before .before .before .before .before .before .before .before .before .all-below .ensures) ∙ not-false _ (c .before .before .before .before .before .before .before .before .if1 .left)) (c .before .before .before .before .before .before .before .vectors .result) (c .before .before .before .before .before .before .before .vectors .ensures)
+    (sym (c .before .enum-told .given .1) ∙ c .before .before .before .before .before .put-all .ensures .0) (c .before .before .before .before .before .put-all .last .0) (c .before .before .before .before .before .put-all .ensures .1) in
+    (c .stopped2 .ensures ∙ z .0, z .1)
 
 -- the byte is taken, and its records written
 took : (c : tie.After-known-told Inv-loop μ-loop)
@@ -112,14 +120,18 @@ loop-less-2 c = search needs
 loop-again-2 : tie.Need-loop-again-2 Inv-loop μ-loop
 loop-again-2 c = took (c .before)
 
+stopped-requires-3 : tie.Need-stopped-requires-3 Inv-loop μ-loop
+stopped-requires-3 c κs = search needs
+
 same-length-3 : tie.Need-same-length-3 Inv-loop μ-loop
-same-length-3 c = going-long _ _ _ _ _ _ _ _ _ _ _ (c .before .loop .inv)
+same-length-3 c = going-long _ _ _ _ _ _ _ _ _ _ _ (c .before .before .loop .inv)
 
 returns-3 : tie.Need-returns-3 Inv-loop μ-loop
 returns-3 c =
-    let a = c .before .before .before .before .before .before .args in
-    let l = c .before .loop in
-    split-all (a .s) (a .table .now) (a .count) (a .piece .now) (a .list .now) _ (c .before .before .before .before .before .before .pre .0) (l .list) (l .place) (l .w) (l .i) (l .inv) (c .loop-test .left)
+    let a = c .before .before .before .before .before .before .before .args in
+    let l = c .before .before .loop in
+    let z = split-all (a .s) (a .table .now) (a .count) (a .piece .now) (a .list .now) (a .start) (c .before .before .before .before .before .before .before .pre .0) (l .list) (l .place) (l .w) (l .i) (l .inv) (c .before .loop-test .left) in
+    (c .stopped3 .ensures ∙ z .0, z .1)
 
 pub on-split-spec : {M : Type 1} → statement M
 on-split-spec =
@@ -132,6 +144,7 @@ on-split-spec =
     shared-slice-read-next-numbers
     next-numbers-requires
     all-below-requires
+    stopped-requires
     same-length
     returns
     vectors-requires
@@ -141,6 +154,7 @@ on-split-spec =
     put-all-requires
     enum-known-x
     enum-told
+    stopped-requires-2
     same-length-2
     returns-2
     add-i
@@ -149,5 +163,6 @@ on-split-spec =
     loop-again
     loop-less-2
     loop-again-2
+    stopped-requires-3
     same-length-3
     returns-3)

@@ -29,14 +29,18 @@ next-of-requires c κs =
     let h = one-below _ _ (c .before .before .loop .inv .below) in
     omega arith
 
+stopped-one-requires : tie.Need-stopped-one-requires Inv-loop μ-loop
+stopped-one-requires c κs = search needs
+
 same-length : tie.Need-same-length Inv-loop μ-loop
-same-length c = going-long _ _ _ _ _ _ _ _ _ _ _ (c .before .before .before .before .loop .inv)
+same-length c = going-long _ _ _ _ _ _ _ _ _ _ _ (c .before .before .before .before .before .loop .inv)
 
 returns : tie.Need-returns Inv-loop μ-loop
 returns c =
-    let a = c .before .before .before .before .before .before .before .before .args in
-    let l = c .before .before .before .before .loop in
-    whole-damaged (a .s) (a .table .now) (a .count) (a .piece .now) (a .list .now) (a .start) (l .list) (l .q) (l .w) (l .i) (l .inv) (c .before .before .before .loop-test .taken) (c .before .next-of .result) (c .before .next-of .ensures _) (c .if1 .taken)
+    let a = c .before .before .before .before .before .before .before .before .before .args in
+    let l = c .before .before .before .before .before .loop in
+    let z = whole-damaged (a .s) (a .table .now) (a .count) (a .piece .now) (a .list .now) (a .start) (l .list) (l .q) (l .w) (l .i) (l .inv) (c .before .before .before .before .loop-test .taken) (c .before .before .next-of .result) (c .before .before .next-of .ensures _) (c .before .if1 .taken) in
+    (c .stopped-one .ensures ∙ z .0, z .1)
 
 vector-of-requires : tie.Need-vector-of-requires Inv-loop μ-loop
 vector-of-requires c κs = omega arith
@@ -61,17 +65,21 @@ enum-known-x c = search needs
 enum-told : tie.Need-enum-told Inv-loop μ-loop
 enum-told c = search needs
 
+stopped-one-requires-2 : tie.Need-stopped-one-requires-2 Inv-loop μ-loop
+stopped-one-requires-2 c κs = search needs
+
 same-length-2 : tie.Need-same-length-2 Inv-loop μ-loop
 same-length-2 c =
-    let l = c .before .before .before .before .before .before .before .before .before .before .before .loop in
-    emitted-long (l .list) (l .w) (c .before .before .before .before .before .before .before .before .before .before .before .before .before .before .before .args .count + l .i + 1) (onesOf 0 16 (c .before .before .before .before .before .before .vector-of .result)) _ (c .before .before .before .before .put-all .ensures .1) ∙ going-long _ _ _ _ _ _ _ _ _ _ _ (l .inv)
+    let l = c .before .before .before .before .before .before .before .before .before .before .before .before .loop in
+    emitted-long (l .list) (l .w) (c .before .before .before .before .before .before .before .before .before .before .before .before .before .before .before .before .args .count + l .i + 1) (onesOf 0 16 (c .before .before .before .before .before .before .before .vector-of .result)) _ (c .before .before .before .before .before .put-all .ensures .1) ∙ going-long _ _ _ _ _ _ _ _ _ _ _ (l .inv)
 
 returns-2 : tie.Need-returns-2 Inv-loop μ-loop
 returns-2 c =
-    let a = c .before .before .before .before .before .before .before .before .before .before .before .before .before .before .before .args in
-    let l = c .before .before .before .before .before .before .before .before .before .before .before .loop in
-    whole-full (a .s) (a .table .now) (a .count) (a .piece .now) (a .list .now) (a .start) (l .list) (l .q) (l .w) (l .i) (l .inv) (c .before .before .before .before .before .before .before .before .before .before .loop-test .taken) (c .before .before .before .before .before .before .before .before .next-of .result) (c .before .before .before .before .before .before .before .before .next-of .ensures _) (c .before .before .before .before .before .before .before .if1 .left)
-    (c .before .before .before .before .before .before .vector-of .result) (c .before .before .before .before .before .before .vector-of .ensures _) (sym (c .enum-told .given .1) ∙ c .before .before .before .before .put-all .ensures .0) _ (c .before .before .before .before .put-all .ensures .1)
+    let a = c .before .before .before .before .before .before .before .before .before .before .before .before .before .before .before .before .args in
+    let l = c .before .before .before .before .before .before .before .before .before .before .before .before .loop in
+    let z = whole-full (a .s) (a .table .now) (a .count) (a .piece .now) (a .list .now) (a .start) (l .list) (l .q) (l .w) (l .i) (l .inv) (c .before .before .before .before .before .before .before .before .before .before .before .loop-test .taken) (c .before .before .before .before .before .before .before .before .before .next-of .result) (c .before .before .before .before .before .before .before .before .before .next-of .ensures _) (c .before .before .before .before .before .before .before .before .if1 .left)
+    (c .before .before .before .before .before .before .before .vector-of .result) (c .before .before .before .before .before .before .before .vector-of .ensures _) (sym (c .before .enum-told .given .1) ∙ c .before .before .before .before .before .put-all .ensures .0) (c .before .before .before .before .before .put-all .last .0) (c .before .before .before .before .before .put-all .ensures .1) in
+    (c .stopped-one2 .ensures ∙ z .0, z .1)
 
 -- the byte is taken, and its records written
 took : (c : tie.After-known-told Inv-loop μ-loop)
@@ -104,14 +112,18 @@ loop-less-2 c = search needs
 loop-again-2 : tie.Need-loop-again-2 Inv-loop μ-loop
 loop-again-2 c = took (c .before)
 
+stopped-one-requires-3 : tie.Need-stopped-one-requires-3 Inv-loop μ-loop
+stopped-one-requires-3 c κs = search needs
+
 same-length-3 : tie.Need-same-length-3 Inv-loop μ-loop
-same-length-3 c = going-long _ _ _ _ _ _ _ _ _ _ _ (c .before .loop .inv)
+same-length-3 c = going-long _ _ _ _ _ _ _ _ _ _ _ (c .before .before .loop .inv)
 
 returns-3 : tie.Need-returns-3 Inv-loop μ-loop
 returns-3 c =
-    let a = c .before .before .before .before .before .args in
-    let l = c .before .loop in
-    whole-all (a .s) (a .table .now) (a .count) (a .piece .now) (a .list .now) (a .start) (l .list) (l .q) (l .w) (l .i) (l .inv) (c .loop-test .left)
+    let a = c .before .before .before .before .before .before .args in
+    let l = c .before .before .loop in
+    let z = whole-all (a .s) (a .table .now) (a .count) (a .piece .now) (a .list .now) (a .start) (l .list) (l .q) (l .w) (l .i) (l .inv) (c .before .loop-test .left) in
+    (c .stopped-one3 .ensures ∙ z .0, z .1)
 
 pub on-whole-spec : {M : Type 1} → statement M
 on-whole-spec =
@@ -122,6 +134,7 @@ on-whole-spec =
     loop-holds
     shared-slice-read-next-of
     next-of-requires
+    stopped-one-requires
     same-length
     returns
     vector-of-requires
@@ -131,6 +144,7 @@ on-whole-spec =
     put-all-requires
     enum-known-x
     enum-told
+    stopped-one-requires-2
     same-length-2
     returns-2
     add-i
@@ -139,5 +153,6 @@ on-whole-spec =
     loop-again
     loop-less-2
     loop-again-2
+    stopped-one-requires-3
     same-length-3
     returns-3)

@@ -1,5 +1,5 @@
-use Rattle.reading.proofs.too_long.Statement.{statement}
-use Rattle.reading.proofs.too_long.Tie as tie
+use Rattle.reading.proofs.refusals.too_long.Statement.{statement}
+use Rattle.reading.proofs.refusals.too_long.Tie as tie
 use native.Mathlib.Omega.{arith}
 use borrow.Author.Needs.{needs}
 use Rattle.reading.specs.Laws.Answers.{long-same}

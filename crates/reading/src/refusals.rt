@@ -1,0 +1,41 @@
+// When a read is refused.
+use crate::ReadRefusal;
+ghost use mathlib.Core.Path.{_≡_};
+ghost use Prim.Native.Nat.{_+_};
+ghost use mathlib.Core.Bool.{not};
+ghost use lib.Dec.{ltb};
+ghost use Rattle.reading.specs.declared.ReadRefusal.the-variants.{Place, Long};
+ghost use Rattle.reading.specs.Refusals.{firstOf};
+
+pub enum Verdict {
+    Refuse(ReadRefusal),
+    Go,
+}
+
+// The first of two refusals whose condition holds.
+fn first_of(a: bool, x: ReadRefusal, b: bool, y: ReadRefusal) -> Verdict
+    ensures { λ r. ⌜ r ≡ firstOf a x b y ⌝ }
+{
+    if a {
+        return Verdict::Refuse(x);
+    }
+    if b {
+        return Verdict::Refuse(y);
+    }
+    Verdict::Go
+}
+
+// PLACE, then LONG.
+pub fn judge(sound: bool, long: bool) -> Verdict
+    ensures { λ r. ⌜ r ≡ firstOf (not sound) Place long Long ⌝ }
+{
+    first_of(!sound, ReadRefusal::Place, long, ReadRefusal::Long)
+}
+
+// Whether the bytes taken and the piece pass the largest count.
+pub fn too_long(count: u32, len: usize) -> bool
+    ensures { λ r. ⌜ r ≡ ltb 4294967295 (count + len) ⌝ }
+{
+    let left = (4294967295 - count) as usize;
+    left < len
+}
