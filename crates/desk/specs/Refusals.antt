@@ -9,7 +9,7 @@ use Prim.Native.Nat.{_+_, _-_, _<_, _≤_, suc, zero, ℕ}
 use mathlib.Core.Bool.{Bool, cond, false, not, true}
 use mathlib.Core.List.{List, [], _∷_}
 use mathlib.Core.Path.{_∙_, _≡_, ap, ap₂, refl, sym}
-use native.Mathlib.Nat.{le-of-eq, le-trans}
+use native.Mathlib.Nat.{le-of-eq, le-trans, pos-of-ne-zero}
 use native.Mathlib.Omega.{arith}
 use lib.Dec.{eqb, eqb-refl, ltb, ltb→lt, lt→ltb}
 use lib.ListN.{length, set}
@@ -39,7 +39,7 @@ use Rattle.matching.specs.Table.{slots, slotsIn}
 use Rattle.matching.specs.Words.{Word, same}
 use Rattle.matching.specs.declared.Stop.{Stop}
 use Rattle.tables.specs.Building.{builtNumber, builtOf, builtValues, tableOf}
-use Rattle.tables.specs.Laws.Cases.{Builds, build-done, build-fault, build-short, builds}
+use Rattle.tables.specs.Laws.Left.{refused-kept}
 use Rattle.tables.specs.declared.Built.{Built}
 use Rattle.tagset.specs.Answer.{faultNumber}
 use Rattle.tagset.specs.declared.SetFault.{SetFault}
@@ -235,12 +235,7 @@ replace-refused d bytes run = go _ (replaces d bytes (length run))
 
     -- where building refuses, the run is what it was
     same : (n : Built) → builtOf 1 8 bytes (length run) ≡ n → (builtNumber n ≡ 0 → ⊥) → tableOf 1 8 bytes run ≡ run
-    same n e z = cases _ _ (builds 1 8 bytes run) refl refl
-      where
-        cases : (b : Built) (t : List ℕ) → Builds 1 8 bytes run b t → builtOf 1 8 bytes (length run) ≡ b → tableOf 1 8 bytes run ≡ t → tableOf 1 8 bytes run ≡ run
-        cases b t (build-fault fault x) p q = q
-        cases b t (build-short ts x m short y) p q = q
-        cases b t (build-done ts x y) p q = absurd (z (ap builtNumber (sym e ∙ p)))
+    same n e z = refused-kept 1 8 bytes run (pos-of-ne-zero (λ q. z (ap builtNumber (sym e) ∙ q)))
 
     number : (f : SetFault) → faultNumber f ≡ 0 → ⊥
     number (Cut k) e = omega (arith, e)

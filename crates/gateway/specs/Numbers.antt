@@ -20,6 +20,8 @@ use Rattle.gateway.specs.declared.answers.Answer.{Answer}
 use Rattle.matching.specs.declared.Stop.{Stop}
 use Rattle.reading.specs.Outside.{readNumber}
 use Rattle.reading.specs.declared.Ending.{Ending}
+use Rattle.reading.specs.declared.SplitAnswer.{SplitAnswer}
+use Rattle.reading.specs.declared.WholeAnswer.{WholeAnswer}
 use Rattle.tables.specs.declared.Built.{Built}
 use Rattle.tables.specs.declared.Needed.{Needed}
 use Rattle.tagset.specs.Answer.{faultNumber, faultValues}
@@ -79,3 +81,9 @@ takeAnswer K.Nothing = answerOf 16 []
 abbrev pub readAnswer : ℕ → ℕ → Ending → Answer
 readAnswer count records (E.Stopped stop) = answerOf 0 (count ∷ stopNumber stop ∷ records ∷ [])
 readAnswer count records (E.Refused why) = answerOf (readNumber why) []
+
+abbrev pub splitSaid : SplitAnswer → Answer
+splitSaid r = readAnswer (r .taken) (r .records) (r .ending)
+
+abbrev pub wholeSaid : WholeAnswer → Answer
+wholeSaid r = readAnswer (r .taken) (r .records) (r .ending)

@@ -10,7 +10,6 @@ use reading::ReadRefusal;
 use tables::Built;
 use tables::Needed;
 use tagset::SetFault;
-
 ghost use mathlib.Core.Path.{_≡_};
 ghost use mathlib.Core.List.{[], _∷_};
 ghost use Rattle.tagset.specs.Answer.{faultNumber, faultValues};
@@ -29,7 +28,13 @@ pub struct Answer {
 fn with(refusal: u64, a: u64, b: u64, c: u64, d: u64) -> Answer
     ensures { λ r. ⌜ r ≡ answerOf refusal (a ∷ b ∷ c ∷ d ∷ []) ⌝ }
 {
-    Answer { refusal, a, b, c, d }
+    Answer {
+        refusal,
+        a,
+        b,
+        c,
+        d,
+    }
 }
 
 fn of_stop(stop: Stop) -> u64
@@ -40,6 +45,13 @@ fn of_stop(stop: Stop) -> u64
         Stop::Full => 1,
         Stop::Damaged => 2,
     }
+}
+
+fn of_stopped(taken: usize, records: usize, stop: Stop) -> Answer
+    ensures { λ r. ⌜ r ≡ answerOf 0 (taken ∷ stopNumber stop ∷ records ∷ []) ⌝ }
+{
+    let why = of_stop(stop);
+    with(0, taken as u64, why, records as u64, 0)
 }
 
 fn of_fault(fault: SetFault) -> Answer
@@ -100,10 +112,11 @@ pub fn of_feed(said: FeedAnswer) -> Answer
     ensures { λ r. ⌜ r ≡ feedAnswer said ⌝ }
 {
     match said {
-        FeedAnswer::Fed { taken, records, stop } => {
-            let why = of_stop(stop);
-            with(0, taken as u64, why, records as u64, 0)
-        }
+        FeedAnswer::Fed {
+            taken,
+            records,
+            stop,
+        } => of_stopped(taken, records, stop),
         FeedAnswer::NoTicket => with(12, 0, 0, 0, 0),
         FeedAnswer::Stale(edition) => with(13, edition.0 as u64, 0, 0, 0),
         FeedAnswer::Long => with(14, 0, 0, 0, 0),
@@ -127,7 +140,13 @@ pub fn of_take(said: TakeAnswer) -> Answer
             let serial = r.serial;
             let edition = r.edition;
             let tag = r.tag;
-            with(0, serial.0 as u64, edition.0 as u64, r.end as u64, tag.0 as u64)
+            with(
+                0,
+                serial.0 as u64,
+                edition.0 as u64,
+                r.end as u64,
+                tag.0 as u64,
+            )
         }
         TakeAnswer::Nothing => with(16, 0, 0, 0, 0),
     }
@@ -146,10 +165,7 @@ pub fn of_read(taken: usize, records: usize, ending: Ending) -> Answer
     ensures { λ r. ⌜ r ≡ readAnswer taken records ending ⌝ }
 {
     match ending {
-        Ending::Stopped(stop) => {
-            let why = of_stop(stop);
-            with(0, taken as u64, why, records as u64, 0)
-        }
+        Ending::Stopped(stop) => of_stopped(taken, records, stop),
         Ending::Refused(why) => of_refusal(why),
     }
 }

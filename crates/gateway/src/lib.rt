@@ -5,7 +5,6 @@ mod answers;
 use answers::Answer;
 use desk::Desk;
 use desk::Serial;
-
 ghost use mathlib.Core.Path.{_≡_};
 ghost use mathlib.Core.List.{[], _∷_};
 ghost use lib.ListN.{length};
@@ -16,7 +15,7 @@ ghost use Rattle.desk.specs.Feed.{feedOf};
 ghost use Rattle.desk.specs.TakeMany.{manyOf, takeManyOf, listTaken};
 ghost use Rattle.tables.specs.Building.{builtOf, tableOf, neededOf};
 ghost use Rattle.reading.specs.Outside.{readOf, splitBy, wholeBy, listBy};
-ghost use Rattle.gateway.specs.Numbers.{builtAnswer, neededAnswer, replaceAnswer, openAnswer, feedAnswer, closeAnswer, takeAnswer, readAnswer};
+ghost use Rattle.gateway.specs.Numbers.{builtAnswer, neededAnswer, replaceAnswer, openAnswer, feedAnswer, closeAnswer, takeAnswer, splitSaid, wholeSaid};
 
 // A desk after a call, and the call's answer.
 #[repr(C)]
@@ -60,7 +59,10 @@ pub extern "C" fn sleet_desk_replace(desk: Desk, set: &[u8], table: &mut [u16]) 
     let after = r.desk;
     let said = r.answer;
     let answer = answers::of_replace(said);
-    Reply { desk: after, answer }
+    Reply {
+        desk: after,
+        answer,
+    }
 }
 
 #[no_mangle]
@@ -71,7 +73,10 @@ pub extern "C" fn sleet_desk_open(desk: Desk) -> Reply
     let after = r.desk;
     let said = r.answer;
     let answer = answers::of_open(said);
-    Reply { desk: after, answer }
+    Reply {
+        desk: after,
+        answer,
+    }
 }
 
 #[no_mangle]
@@ -82,7 +87,10 @@ pub extern "C" fn sleet_desk_feed(desk: Desk, serial: u32, table: &[u16], piece:
     let after = r.desk;
     let said = r.answer;
     let answer = answers::of_feed(said);
-    Reply { desk: after, answer }
+    Reply {
+        desk: after,
+        answer,
+    }
 }
 
 #[no_mangle]
@@ -93,7 +101,10 @@ pub extern "C" fn sleet_desk_close(desk: Desk, serial: u32) -> Reply
     let after = r.desk;
     let said = r.answer;
     let answer = answers::of_close(said);
-    Reply { desk: after, answer }
+    Reply {
+        desk: after,
+        answer,
+    }
 }
 
 #[no_mangle]
@@ -104,7 +115,10 @@ pub extern "C" fn sleet_desk_take(desk: Desk) -> Reply
     let after = r.desk;
     let said = r.answer;
     let answer = answers::of_take(said);
-    Reply { desk: after, answer }
+    Reply {
+        desk: after,
+        answer,
+    }
 }
 
 #[no_mangle]
@@ -148,13 +162,17 @@ pub extern "C" fn sleet_read_split(
     piece: &[u8],
     list: &mut [u32],
 ) -> SplitReply
+    ensures { λ r. ⌜ (r .answer ≡ splitSaid (splitBy (now (place .entry)) (readOf 1 8 (now (table .entry)) (now (place .entry)) count (now (piece .entry)) (length (now (list .entry)))))) × (r .place ≡ splitBy (now (place .entry)) (readOf 1 8 (now (table .entry)) (now (place .entry)) count (now (piece .entry)) (length (now (list .entry)))) .place) × (now (list .exit) ≡ listBy (now (list .entry)) (readOf 1 8 (now (table .entry)) (now (place .entry)) count (now (piece .entry)) (length (now (list .entry))))) ⌝ }
 {
     let start = *place;
     let r = reading::read_split(table, start, count, piece, list);
     let after = r.place;
     let ending = r.ending;
     let answer = answers::of_read(r.taken, r.records, ending);
-    SplitReply { answer, place: after }
+    SplitReply {
+        answer,
+        place: after,
+    }
 }
 
 #[no_mangle]
@@ -165,9 +183,13 @@ pub extern "C" fn sleet_read_whole(
     piece: &[u8],
     list: &mut [u32],
 ) -> WholeReply
+    ensures { λ r. ⌜ (r .answer ≡ wholeSaid (wholeBy place (readOf 8 1 (now (table .entry)) (place ∷ []) count (now (piece .entry)) (length (now (list .entry)))))) × (r .place ≡ wholeBy place (readOf 8 1 (now (table .entry)) (place ∷ []) count (now (piece .entry)) (length (now (list .entry)))) .place) × (now (list .exit) ≡ listBy (now (list .entry)) (readOf 8 1 (now (table .entry)) (place ∷ []) count (now (piece .entry)) (length (now (list .entry))))) ⌝ }
 {
     let r = reading::read_whole(table, place, count, piece, list);
     let ending = r.ending;
     let answer = answers::of_read(r.taken, r.records, ending);
-    WholeReply { answer, place: r.place }
+    WholeReply {
+        answer,
+        place: r.place,
+    }
 }

@@ -30,7 +30,7 @@ use Rattle.matching.specs.Words.{Below, Lawful, Word, same}
 use Rattle.reading.specs.Outside.{ReadOf, readBy, readOf, readTo, refusedRead}
 use Rattle.reading.specs.declared.ReadRefusal.the-variants.{Long}
 use Rattle.tables.specs.Building.{builtBy, builtOf, onSet, tableOf}
-use Rattle.tables.specs.Laws.Cases.{accepted, tableOf-length}
+use Rattle.tables.specs.Laws.Left.{done, left-length}
 use Rattle.tagset.specs.Grammar.{goodSet, setOf}
 use Rattle.tagset.specs.Laws.Places.{tags-of}
 
@@ -96,10 +96,10 @@ module _ (n k : ℕ) (set run : List ℕ) (ts : List Word) (b : AsBuilt n k set 
   lawful = tags-of set ts (b .tags) .lawful (b .bytes)
 
   size : length (tableOf n k set run) ≡ length run
-  size = tableOf-length n k set run (b .slicing .machines)
+  size = left-length n k set run
 
   room : roomFrom n slots ts 0 k ≡ enoughSlots
-  room = let a = accepted n k set run (length ts) (b .answered) in ap (λ (l : List Word). roomFrom n slots l 0 k) (same-set (sym (b .tags) ∙ a .set)) ∙ a .room
+  room = let a = done n k set run (length ts) (b .answered) in ap (λ (l : List Word). roomFrom n slots l 0 k) (same-set (sym (b .tags) ∙ a .set)) ∙ a .room
     where
       same-set : {x y : List Word} → goodSet x ≡ goodSet y → x ≡ y
       same-set e = cc
@@ -108,7 +108,7 @@ module _ (n k : ℕ) (set run : List ℕ) (ts : List Word) (b : AsBuilt n k set 
   rest = drop (k * (slots * slotSize n)) run
 
   table-is : tableOf n k set run ≡ built n k slots ts ++ drop (k * (slots * slotSize n)) run
-  table-is = let a = accepted n k set run (length ts) (b .answered) in a .table ∙ ap (λ (l : List Word). built n k slots l ++ drop (k * (slots * slotSize n)) run) (same-set (sym (a .set) ∙ b .tags))
+  table-is = let a = done n k set run (length ts) (b .answered) in a .table ∙ ap (λ (l : List Word). built n k slots l ++ drop (k * (slots * slotSize n)) run) (same-set (sym (a .set) ∙ b .tags))
     where
       same-set : {x y : List Word} → goodSet x ≡ goodSet y → x ≡ y
       same-set e = cc

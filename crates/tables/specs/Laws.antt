@@ -1,4 +1,3 @@
 -- The laws of building.
-pub mod Cases
 pub mod Exact
 pub mod Left

@@ -35,7 +35,7 @@ use Rattle.matching.specs.Reading.{allBelow}
 use Rattle.matching.specs.Table.{slotsIn, tagsFor}
 use Rattle.matching.specs.Words.{Word}
 use Rattle.tables.specs.Building.{builtOf}
-use Rattle.tables.specs.Laws.Cases.{accepted}
+use Rattle.tables.specs.Laws.Left.{done}
 
 -- what holds of a ticket that has a room, under an edition in force and its slots: it is of no later edition, and if it is of that
 -- one its place is below the slots
@@ -121,7 +121,7 @@ good-takes d r (take-oldest h) g =
 pub slots-some : (bytes : List ℕ) (len count : ℕ) → builtOf 1 8 bytes len ≡ B.Tags count → 0 < slotsIn 1 8 len
 slots-some bytes len count e =
     let l : length (replicate {A = ℕ} len 0) ≡ len = length-replicate len 0 in
-    let a = accepted 1 8 bytes (replicate len 0) count (ap (builtOf 1 8 bytes) l ∙ e) in
+    let a = done 1 8 bytes (replicate len 0) count (ap (builtOf 1 8 bytes) l ∙ e) in
     subst (λ (n : ℕ). 0 < slotsIn 1 8 n) l
     (lt-of-lt-of-le (lt-of-le-of-lt zero-le (walk-lt (tagsFor 1 (a .tags) 0) [])) (enough-iff 1 (slotsIn 1 8 (length (replicate {A = ℕ} len 0))) (a .tags) 8 .0 (a .room) 0 (omega arith)))
 

@@ -20,7 +20,7 @@ same-length c = search needs
 
 -- src/lib.rt:129:1
 returns : tie.Need-returns
-returns c = ?
+returns c = ((cc), (cc))
 
 pub sleet-build-split-spec : {M : Type 1} → statement M
 sleet-build-split-spec =

@@ -16,7 +16,7 @@ of-close-requires c κs = search needs
 
 -- src/lib.rt:88:1
 returns : tie.Need-returns
-returns c = ?
+returns c = ((cc), (cc))
 
 pub sleet-desk-close-spec : {M : Type 1} → statement M
 sleet-desk-close-spec = tie.close (tie.spec close-requires of-close-requires returns)

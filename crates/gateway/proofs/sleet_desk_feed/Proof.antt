@@ -16,7 +16,7 @@ of-feed-requires c κs = search needs
 
 -- src/lib.rt:77:1
 returns : tie.Need-returns
-returns c = ?
+returns c = ((cc), (cc))
 
 pub sleet-desk-feed-spec : {M : Type 1} → statement M
 sleet-desk-feed-spec = tie.close (tie.spec feed-requires of-feed-requires returns)

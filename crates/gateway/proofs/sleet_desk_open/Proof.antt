@@ -16,7 +16,7 @@ of-open-requires c κs = search needs
 
 -- src/lib.rt:66:1
 returns : tie.Need-returns
-returns c = ?
+returns c = ((cc), (cc))
 
 pub sleet-desk-open-spec : {M : Type 1} → statement M
 sleet-desk-open-spec = tie.close (tie.spec open-requires of-open-requires returns)

@@ -20,7 +20,7 @@ same-length c = search needs
 
 -- src/lib.rt:55:1
 returns : tie.Need-returns
-returns c = ?
+returns c = ((cc), (cc), (cc))
 
 pub sleet-desk-replace-spec : {M : Type 1} → statement M
 sleet-desk-replace-spec =

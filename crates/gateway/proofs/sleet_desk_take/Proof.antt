@@ -16,7 +16,7 @@ of-take-requires c κs = search needs
 
 -- src/lib.rt:99:1
 returns : tie.Need-returns
-returns c = ?
+returns c = ((cc), (cc))
 
 pub sleet-desk-take-spec : {M : Type 1} → statement M
 sleet-desk-take-spec = tie.close (tie.spec take-requires of-take-requires returns)

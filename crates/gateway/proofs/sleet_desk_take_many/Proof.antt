@@ -15,7 +15,7 @@ same-length c = search needs
 
 -- src/lib.rt:110:1
 returns : tie.Need-returns
-returns c = ?
+returns c = ((cc), (cc), (cc))
 
 pub sleet-desk-take-many-spec : {M : Type 1} → statement M
 sleet-desk-take-many-spec = tie.close (tie.spec take-many-requires same-length returns)

@@ -16,7 +16,7 @@ of-needed-requires c κs = search needs
 
 -- src/lib.rt:122:1
 returns : tie.Need-returns
-returns c = ?
+returns c = cc
 
 pub sleet-slots-needed-spec : {M : Type 1} → statement M
 sleet-slots-needed-spec = tie.close (tie.spec slots-needed-requires of-needed-requires returns)

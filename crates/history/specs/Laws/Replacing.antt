@@ -19,7 +19,7 @@ use Rattle.matching.specs.Laws.Words.{eqb-eq}
 use Rattle.matching.specs.Table.{built, roomFrom, slotSize, slotsIn}
 use Rattle.matching.specs.Words.{Below, Lawful, Word}
 use Rattle.tables.specs.Building.{builtOf, tableOf}
-use Rattle.tables.specs.Laws.Cases.{accepted, tableOf-length}
+use Rattle.tables.specs.Laws.Left.{done, left-length}
 use Rattle.tagset.specs.Grammar.{goodSet, setOf}
 
 run-replaced : (d : Desk) (bytes run : List ℕ) → (d .edition .0 ≡ 4294967295 → ⊥) → replacedRun d bytes run ≡ tableOf 1 8 bytes run
@@ -35,7 +35,7 @@ module _ (w : World) (v : Inv w) (bytes run : List ℕ) (small : Below 256 bytes
 
   force : InForce (after .table) (after .tags) (slotsIn 1 8 (length run))
   force =
-      let a = accepted 1 8 bytes run count e in
+      let a = done 1 8 bytes run count e in
       let t : tagsOfSet (setOf bytes) ≡ a .tags = ap tagsOfSet (a .set) in
       let r : replacedRun (w .desk) bytes run ≡ tableOf 1 8 bytes run = run-replaced (w .desk) bytes run h in
       record {
@@ -43,7 +43,7 @@ module _ (w : World) (v : Inv w) (bytes run : List ℕ) (small : Below 256 bytes
         table-is = r ∙ a .table ∙ ap (λ (ts : List Word). built 1 8 (slotsIn 1 8 (length run)) ts ++ drop (8 * (slotsIn 1 8 (length run) * slotSize 1)) run) (sym t);
         room = ap (λ (ts : List Word). roomFrom 1 (slotsIn 1 8 (length run)) ts 0 8) t ∙ a .room;
         lawful = subst Lawful (sym t) (lawful (a .tags) (a .set));
-        slots-are = ap (λ (n : ℕ). slotsIn 1 8 n) (ap {B = ℕ} length r ∙ tableOf-length 1 8 bytes run (omega arith));
+        slots-are = ap (λ (n : ℕ). slotsIn 1 8 n) (ap {B = ℕ} length r ∙ left-length 1 8 bytes run);
       }
 
   older : (a : Account) → Kept (w .edition) (w .tags) a → Kept (after .edition) (after .tags) a

@@ -11,7 +11,8 @@ use Rattle.matching.specs.Laws.Tables.{built-length}
 use Rattle.matching.specs.Table.{Room, built, enoughSlots, roomFrom, shortOfSlots, slotSize, slotsIn}
 use Rattle.matching.specs.Words.{Word}
 use Rattle.tables.specs.Building.{builtBy, builtNumber, builtOf, onSet, onSetTable, tableBy, tableOf, withTable}
-use Rattle.tables.specs.Laws.Exact.{BuiltCase, built-case, isFault, isTable, isTags}
+use Rattle.tables.specs.Laws.Exact.{BuiltCase, built-case, isFault, isTable, isTags, tags-iff}
+use Rattle.tables.specs.declared.Built.the-variants as B
 use Rattle.tables.specs.Refusals.{Builds}
 use Rattle.tables.specs.declared.Built.{Built}
 use Rattle.tagset.specs.Answer.{faultNumber}
@@ -77,3 +78,21 @@ module _ (n k : ℕ) (bytes run : List ℕ) where
           some (Repeat i) = omega arith
       go b e (isTable t) = ap {B = ℕ} length (refused-kept (rw e (omega arith)))
       go b e (isTags t) = ap {B = ℕ} length (built-left t) ∙ table-length n k (t .tags) run
+
+-- where building is done: the tags, the room that they found, and the run it leaves
+pub record Done (n k : ℕ) (bytes run : List ℕ) (count : ℕ) : Type 0 where
+  pub tags : List Word
+  pub set : setOf bytes ≡ goodSet tags
+  pub room : roomFrom n (slotsIn n k (length run)) tags 0 k ≡ enoughSlots
+  pub table : tableOf n k bytes run ≡ withTable n k tags run
+  pub number : count ≡ length tags
+
+pub done : (n k : ℕ) (bytes run : List ℕ) (count : ℕ) → builtOf n k bytes (length run) ≡ B.Tags count → Done n k bytes run count
+done n k bytes run count e =
+    let b = tags-iff n k bytes (length run) count .0 e in record {
+      tags = b .tags;
+      set = accepted-iff bytes (b .tags) .1 (b .set);
+      room = enough-iff n (slotsIn n k (length run)) (b .tags) k .1 (b .enough);
+      table = built-left n k bytes run b;
+      number = b .counted;
+    }

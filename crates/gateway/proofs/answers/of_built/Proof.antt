@@ -1,10 +1,12 @@
-use borrow.Author.Needs.{needs}
 use Rattle.gateway.proofs.answers.of_built.Statement.{statement}
 use Rattle.gateway.proofs.answers.of_built.Tie as tie
 use Rattle.gateway.proofs.answers.of_built.Reads as reads
 use Rattle.gateway.proofs.answers.of_built.Lts as lts
 use Rattle.gateway.proofs.answers.of_fault.Reads as of-fault-reads
 use Rattle.gateway.proofs.answers.with.Reads as with-reads
+use mathlib.Core.Path.{_∙_, ap, sym}
+use borrow.Author.Needs.{needs}
+use Rattle.gateway.specs.Numbers.{builtAnswer}
 
 -- src/answers.rt:62:21
 enum-known-built : tie.Need-enum-known-built
@@ -32,15 +34,15 @@ with-requires-2 c κs = search needs
 
 -- src/answers.rt:58:1
 returns : tie.Need-returns
-returns c = ?
+returns c = c .with .ensures ∙ sym (ap builtAnswer (c .before .before .built .given .1))
 
 -- src/answers.rt:58:1
 returns-2 : tie.Need-returns-2
-returns-2 c = ?
+returns-2 c = c .of-fault .ensures ∙ sym (ap builtAnswer (c .before .before .built2 .given .1))
 
 -- src/answers.rt:58:1
 returns-3 : tie.Need-returns-3
-returns-3 c = ?
+returns-3 c = c .with2 .ensures ∙ sym (ap builtAnswer (c .before .before .built3 .given .1))
 
 pub of-built-spec : {M : Type 1} → statement M
 of-built-spec =

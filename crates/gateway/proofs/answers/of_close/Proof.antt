@@ -1,9 +1,9 @@
-use borrow.Author.Needs.{needs}
 use Rattle.gateway.proofs.answers.of_close.Statement.{statement}
 use Rattle.gateway.proofs.answers.of_close.Tie as tie
 use Rattle.gateway.proofs.answers.of_close.Reads as reads
 use Rattle.gateway.proofs.answers.of_close.Lts as lts
 use Rattle.gateway.proofs.answers.with.Reads as with-reads
+use borrow.Author.Needs.{needs}
 
 -- src/answers.rt:117:32
 enum-told : tie.Need-enum-told
@@ -23,11 +23,11 @@ with-requires-2 c κs = search needs
 
 -- src/answers.rt:113:1
 returns : tie.Need-returns
-returns c = ?
+returns c = cc
 
 -- src/answers.rt:113:1
 returns-2 : tie.Need-returns-2
-returns-2 c = ?
+returns-2 c = cc
 
 pub of-close-spec : {M : Type 1} → statement M
 of-close-spec =

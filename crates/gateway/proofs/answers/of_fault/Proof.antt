@@ -1,9 +1,13 @@
-use borrow.Author.Needs.{needs}
 use Rattle.gateway.proofs.answers.of_fault.Statement.{statement}
 use Rattle.gateway.proofs.answers.of_fault.Tie as tie
 use Rattle.gateway.proofs.answers.of_fault.Reads as reads
 use Rattle.gateway.proofs.answers.of_fault.Lts as lts
 use Rattle.gateway.proofs.answers.with.Reads as with-reads
+use mathlib.Core.Path.{_∙_, ap, sym}
+use borrow.Author.Needs.{needs}
+use Rattle.gateway.specs.Numbers.{answerOf}
+use Rattle.tagset.specs.Answer.{faultNumber, faultValues}
+use Rattle.tagset.specs.declared.SetFault.{SetFault}
 
 -- src/answers.rt:49:23
 enum-known-fault : tie.Need-enum-known-fault
@@ -55,27 +59,27 @@ with-requires-6 c κs = search needs
 
 -- src/answers.rt:45:1
 returns : tie.Need-returns
-returns c = ?
+returns c = c .with .ensures ∙ sym (ap (λ (f : SetFault). answerOf (faultNumber f) (faultValues f)) (c .before .before .fault .given .1))
 
 -- src/answers.rt:45:1
 returns-2 : tie.Need-returns-2
-returns-2 c = ?
+returns-2 c = c .with2 .ensures ∙ sym (ap (λ (f : SetFault). answerOf (faultNumber f) (faultValues f)) (c .before .before .fault2 .given .1))
 
 -- src/answers.rt:45:1
 returns-3 : tie.Need-returns-3
-returns-3 c = ?
+returns-3 c = c .with3 .ensures ∙ sym (ap (λ (f : SetFault). answerOf (faultNumber f) (faultValues f)) (c .before .before .fault3 .given .1))
 
 -- src/answers.rt:45:1
 returns-4 : tie.Need-returns-4
-returns-4 c = ?
+returns-4 c = c .with4 .ensures ∙ sym (ap (λ (f : SetFault). answerOf (faultNumber f) (faultValues f)) (c .before .before .fault4 .given .1))
 
 -- src/answers.rt:45:1
 returns-5 : tie.Need-returns-5
-returns-5 c = ?
+returns-5 c = c .with5 .ensures ∙ sym (ap (λ (f : SetFault). answerOf (faultNumber f) (faultValues f)) (c .before .enum-told .given .1))
 
 -- src/answers.rt:45:1
 returns-6 : tie.Need-returns-6
-returns-6 c = ?
+returns-6 c = c .with6 .ensures ∙ sym (ap (λ (f : SetFault). answerOf (faultNumber f) (faultValues f)) (c .before .before .fault5 .given .1))
 
 pub of-fault-spec : {M : Type 1} → statement M
 of-fault-spec =

@@ -1,10 +1,12 @@
-use borrow.Author.Needs.{needs}
 use Rattle.gateway.proofs.answers.of_needed.Statement.{statement}
 use Rattle.gateway.proofs.answers.of_needed.Tie as tie
 use Rattle.gateway.proofs.answers.of_needed.Reads as reads
 use Rattle.gateway.proofs.answers.of_needed.Lts as lts
 use Rattle.gateway.proofs.answers.of_fault.Reads as of-fault-reads
 use Rattle.gateway.proofs.answers.with.Reads as with-reads
+use mathlib.Core.Path.{_∙_, ap, sym}
+use borrow.Author.Needs.{needs}
+use Rattle.gateway.specs.Numbers.{neededAnswer}
 
 -- src/answers.rt:72:23
 enum-known-needed : tie.Need-enum-known-needed
@@ -24,11 +26,11 @@ of-fault-requires c κs = search needs
 
 -- src/answers.rt:68:1
 returns : tie.Need-returns
-returns c = ?
+returns c = c .with .ensures ∙ sym (ap neededAnswer (c .before .before .needed .given .1))
 
 -- src/answers.rt:68:1
 returns-2 : tie.Need-returns-2
-returns-2 c = ?
+returns-2 c = c .of-fault .ensures ∙ sym (ap neededAnswer (c .before .before .needed2 .given .1))
 
 pub of-needed-spec : {M : Type 1} → statement M
 of-needed-spec =

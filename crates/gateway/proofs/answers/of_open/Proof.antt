@@ -1,9 +1,11 @@
-use borrow.Author.Needs.{needs}
 use Rattle.gateway.proofs.answers.of_open.Statement.{statement}
 use Rattle.gateway.proofs.answers.of_open.Tie as tie
 use Rattle.gateway.proofs.answers.of_open.Reads as reads
 use Rattle.gateway.proofs.answers.of_open.Lts as lts
 use Rattle.gateway.proofs.answers.with.Reads as with-reads
+use mathlib.Core.Path.{_∙_, ap, sym}
+use borrow.Author.Needs.{needs}
+use Rattle.gateway.specs.Numbers.{openAnswer}
 
 -- src/answers.rt:92:28
 enum-known-said : tie.Need-enum-known-said
@@ -43,19 +45,19 @@ with-requires-4 c κs = search needs
 
 -- src/answers.rt:88:1
 returns : tie.Need-returns
-returns c = ?
+returns c = c .with .ensures ∙ sym (ap openAnswer (c .before .before .before .said .given .1))
 
 -- src/answers.rt:88:1
 returns-2 : tie.Need-returns-2
-returns-2 c = ?
+returns-2 c = cc
 
 -- src/answers.rt:88:1
 returns-3 : tie.Need-returns-3
-returns-3 c = ?
+returns-3 c = cc
 
 -- src/answers.rt:88:1
 returns-4 : tie.Need-returns-4
-returns-4 c = ?
+returns-4 c = cc
 
 pub of-open-spec : {M : Type 1} → statement M
 of-open-spec =

@@ -1,47 +1,43 @@
-use borrow.Author.Needs.{needs}
 use Rattle.gateway.proofs.answers.of_read.Statement.{statement}
 use Rattle.gateway.proofs.answers.of_read.Tie as tie
 use Rattle.gateway.proofs.answers.of_read.Reads as reads
 use Rattle.gateway.proofs.answers.of_read.Lts as lts
 use Rattle.gateway.proofs.answers.of_refusal.Reads as of-refusal-reads
-use Rattle.gateway.proofs.answers.of_stop.Reads as of-stop-reads
-use Rattle.gateway.proofs.answers.with.Reads as with-reads
+use Rattle.gateway.proofs.answers.of_stopped.Reads as of-stopped-reads
+use mathlib.Core.Path.{_∙_, ap, sym}
+use borrow.Author.Needs.{needs}
+use Rattle.gateway.specs.Numbers.{readAnswer}
 
--- src/answers.rt:149:25
+-- src/answers.rt:153:25
 enum-known-ending : tie.Need-enum-known-ending
 enum-known-ending c = search needs
 
--- src/answers.rt:150:17
-of-stop-requires : tie.Need-of-stop-requires
-of-stop-requires c κs = search needs
+-- src/answers.rt:153:34
+of-stopped-requires : tie.Need-of-stopped-requires
+of-stopped-requires c κs = search needs
 
--- src/answers.rt:151:13
-with-requires : tie.Need-with-requires
-with-requires c κs = search needs
-
--- src/answers.rt:153:25
+-- src/answers.rt:154:25
 enum-known-ending-2 : tie.Need-enum-known-ending-2
 enum-known-ending-2 c = search needs
 
--- src/answers.rt:153:33
+-- src/answers.rt:154:33
 of-refusal-requires : tie.Need-of-refusal-requires
 of-refusal-requires c κs = search needs
 
--- src/answers.rt:145:1
+-- src/answers.rt:149:1
 returns : tie.Need-returns
-returns c = ?
+returns c = c .of-stopped .ensures ∙ sym (ap (readAnswer _ _) (c .before .before .ending .given .1))
 
--- src/answers.rt:145:1
+-- src/answers.rt:149:1
 returns-2 : tie.Need-returns-2
-returns-2 c = ?
+returns-2 c = c .of-refusal .ensures ∙ sym (ap (readAnswer _ _) (c .before .before .ending2 .given .1))
 
 pub of-read-spec : {M : Type 1} → statement M
 of-read-spec =
     tie.close
     (tie.spec
     enum-known-ending
-    of-stop-requires
-    with-requires
+    of-stopped-requires
     enum-known-ending-2
     of-refusal-requires
     returns

@@ -1,9 +1,14 @@
-use borrow.Author.Needs.{needs}
 use Rattle.gateway.proofs.answers.of_refusal.Statement.{statement}
 use Rattle.gateway.proofs.answers.of_refusal.Tie as tie
 use Rattle.gateway.proofs.answers.of_refusal.Reads as reads
 use Rattle.gateway.proofs.answers.of_refusal.Lts as lts
 use Rattle.gateway.proofs.answers.with.Reads as with-reads
+use mathlib.Core.List.{[]}
+use mathlib.Core.Path.{_∙_, ap, sym}
+use borrow.Author.Needs.{needs}
+use Rattle.gateway.specs.Numbers.{answerOf}
+use Rattle.reading.specs.Outside.{readNumber}
+use Rattle.reading.specs.declared.ReadRefusal.{ReadRefusal}
 
 -- src/answers.rt:140:30
 enum-told : tie.Need-enum-told
@@ -23,11 +28,11 @@ with-requires-2 c κs = search needs
 
 -- src/answers.rt:136:1
 returns : tie.Need-returns
-returns c = ?
+returns c = c .with .ensures ∙ sym (ap (λ (w : ReadRefusal). answerOf (readNumber w) []) (c .before .enum-told .given .1))
 
 -- src/answers.rt:136:1
 returns-2 : tie.Need-returns-2
-returns-2 c = ?
+returns-2 c = c .with2 .ensures ∙ sym (ap (λ (w : ReadRefusal). answerOf (readNumber w) []) (c .before .enum-told2 .given .1))
 
 pub of-refusal-spec : {M : Type 1} → statement M
 of-refusal-spec =

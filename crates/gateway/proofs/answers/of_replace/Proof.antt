@@ -1,10 +1,12 @@
-use borrow.Author.Needs.{needs}
 use Rattle.gateway.proofs.answers.of_replace.Statement.{statement}
 use Rattle.gateway.proofs.answers.of_replace.Tie as tie
 use Rattle.gateway.proofs.answers.of_replace.Reads as reads
 use Rattle.gateway.proofs.answers.of_replace.Lts as lts
 use Rattle.gateway.proofs.answers.of_fault.Reads as of-fault-reads
 use Rattle.gateway.proofs.answers.with.Reads as with-reads
+use mathlib.Core.Path.{_∙_, ap, sym}
+use borrow.Author.Needs.{needs}
+use Rattle.gateway.specs.Numbers.{replaceAnswer}
 
 -- src/answers.rt:81:33
 enum-known-said : tie.Need-enum-known-said
@@ -44,19 +46,19 @@ with-requires-3 c κs = search needs
 
 -- src/answers.rt:77:1
 returns : tie.Need-returns
-returns c = ?
+returns c = c .with .ensures ∙ sym (ap replaceAnswer (c .before .before .before .said .given .1))
 
 -- src/answers.rt:77:1
 returns-2 : tie.Need-returns-2
-returns-2 c = ?
+returns-2 c = c .of-fault .ensures ∙ sym (ap replaceAnswer (c .before .before .said2 .given .1))
 
 -- src/answers.rt:77:1
 returns-3 : tie.Need-returns-3
-returns-3 c = ?
+returns-3 c = c .with2 .ensures ∙ sym (ap replaceAnswer (c .before .before .said3 .given .1))
 
 -- src/answers.rt:77:1
 returns-4 : tie.Need-returns-4
-returns-4 c = ?
+returns-4 c = cc
 
 pub of-replace-spec : {M : Type 1} → statement M
 of-replace-spec =

@@ -1,9 +1,11 @@
-use borrow.Author.Needs.{needs}
 use Rattle.gateway.proofs.answers.of_take.Statement.{statement}
 use Rattle.gateway.proofs.answers.of_take.Tie as tie
 use Rattle.gateway.proofs.answers.of_take.Reads as reads
 use Rattle.gateway.proofs.answers.of_take.Lts as lts
 use Rattle.gateway.proofs.answers.with.Reads as with-reads
+use mathlib.Core.Path.{_∙_, ap, sym}
+use borrow.Author.Needs.{needs}
+use Rattle.gateway.specs.Numbers.{takeAnswer}
 
 -- src/answers.rt:126:27
 enum-known-said : tie.Need-enum-known-said
@@ -39,11 +41,11 @@ with-requires-2 c κs = search needs
 
 -- src/answers.rt:122:1
 returns : tie.Need-returns
-returns c = ?
+returns c = c .with .ensures ∙ sym (ap takeAnswer (c .before .before .before .before .before .before .before .before .before .said .given .1))
 
 -- src/answers.rt:122:1
 returns-2 : tie.Need-returns-2
-returns-2 c = ?
+returns-2 c = c .with2 .ensures ∙ sym (ap takeAnswer (c .before .enum-told .given .1))
 
 pub of-take-spec : {M : Type 1} → statement M
 of-take-spec =
