@@ -170,8 +170,8 @@ unfolding sizeOf
 some-tags [] n e h = omega arith
 some-tags (t ∷ ts) n e h = omega arith
 
-of-accepted : {bytes : List ℕ} {ts : List Word} → Accepted bytes ts → TagsOf bytes ts
-of-accepted {bytes} {ts} a =
+pub tags-accepted : {bytes : List ℕ} {ts : List Word} → Accepted bytes ts → TagsOf bytes ts
+tags-accepted {bytes} {ts} a =
     let r : Read bytes ts [] = passed-read (a .passed) in
     let few : length ts ≤ 16 = passed-few (a .passed) in
     record {
@@ -185,7 +185,7 @@ of-accepted {bytes} {ts} a =
     }
 
 pub tags-of : (bytes : List ℕ) (ts : List Word) → setOf bytes ≡ goodSet ts → TagsOf bytes ts
-tags-of bytes ts good = of-accepted (accepted-iff bytes ts .0 good)
+tags-of bytes ts good = tags-accepted (accepted-iff bytes ts .0 good)
 
 -- a run of numbers that are each below m, as a lent slice of bytes is for 256
 pub below-all : (m : ℕ) (l : List ℕ) → ((i : ℕ) → i < length l → getD l i 0 < m) → Below m l
