@@ -1,3 +1,4 @@
+-- The number at row + c, read off the table cut at c.
 use Rattle.passing.proofs.whole.next_of.Statement.{statement}
 use Rattle.passing.proofs.whole.next_of.Tie as tie
 use Prim.Native.Nat.{_*_}
