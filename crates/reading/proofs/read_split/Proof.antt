@@ -1,3 +1,4 @@
+-- By the verdict: a refusal changes nothing, and otherwise the loop answers.
 use Rattle.reading.proofs.read_split.Statement.{statement}
 use Rattle.reading.proofs.read_split.Tie as tie
 use Prim.Native.Nat.{_+_, _/_}

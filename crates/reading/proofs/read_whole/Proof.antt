@@ -1,3 +1,4 @@
+-- By the verdict: a refusal changes nothing, and otherwise the loop answers.
 use Rattle.reading.proofs.read_whole.Statement.{statement}
 use Rattle.reading.proofs.read_whole.Tie as tie
 use Prim.Native.Nat.{_+_, _/_, _<_}

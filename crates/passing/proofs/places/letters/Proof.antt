@@ -1,3 +1,4 @@
+-- A power of two of at most 8 bits does not wrap.
 use Rattle.passing.proofs.places.letters.Statement.{statement}
 use Rattle.passing.proofs.places.letters.Tie as tie
 use Prim.Native.Nat.{_^_, _≤_}

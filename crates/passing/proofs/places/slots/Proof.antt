@@ -1,3 +1,4 @@
+-- The numbers of a row of all machines are at most 8 * 257, and some.
 use Rattle.passing.proofs.places.slots.Statement.{statement}
 use Rattle.passing.proofs.places.slots.Tie as tie
 use native.Mathlib.Nat.{mul-pos}

@@ -1,3 +1,4 @@
+-- The first m numbers are copied.
 use Rattle.passing.proofs.places.widened.Statement.{statement}
 use Rattle.passing.proofs.places.widened.Tie as tie
 use Prim.Native.Nat.{_-_}

@@ -1,3 +1,4 @@
+-- The bytes up to i are quiet: 64 more are, where `quiet_split` came to their end.
 use Rattle.passing.proofs.split.pass_split.Statement.{statement}
 use Rattle.passing.proofs.split.pass_split.Tie as tie
 use Prim.Native.Nat.{_-_}

@@ -1,3 +1,4 @@
+-- The bytes up to i are quiet. Where one is not, all that is claimed is where.
 use Rattle.passing.proofs.split.quiet_split.Statement.{statement}
 use Rattle.passing.proofs.split.quiet_split.Tie as tie
 use Prim.Native.Nat.{_-_, _≤_}

@@ -1,3 +1,4 @@
+-- The first e entries are made.
 use Rattle.passing.proofs.starts.starts_of.Statement.{statement}
 use Rattle.passing.proofs.starts.starts_of.Tie as tie
 use Prim.Native.Nat.{_*_, _-_, _/_, zero-le}

@@ -1,3 +1,4 @@
+-- The next numbers of the machines before are there, and those of the others are still to come.
 use Rattle.passing.proofs.steps.next_half.Statement.{statement}
 use Rattle.passing.proofs.steps.next_half.Tie as tie
 use Prim.Native.Nat.{_+_, _-_, _<_}

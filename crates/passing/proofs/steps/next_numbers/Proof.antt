@@ -1,3 +1,4 @@
+-- One half of the byte, then the other.
 use Rattle.passing.proofs.steps.next_numbers.Statement.{statement}
 use Rattle.passing.proofs.steps.next_numbers.Tie as tie
 use mathlib.Core.Path.{refl}

@@ -1,3 +1,4 @@
+-- Where the first few vectors have no bit in common, all of them have none.
 use Rattle.passing.proofs.steps.silent.Statement.{statement}
 use Rattle.passing.proofs.steps.silent.Tie as tie
 use Prim.Native.Nat.{zero-le}

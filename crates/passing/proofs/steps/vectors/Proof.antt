@@ -1,3 +1,4 @@
+-- The AND of all is the AND so far with those that are left.
 use Rattle.passing.proofs.steps.vectors.Statement.{statement}
 use Rattle.passing.proofs.steps.vectors.Tie as tie
 use Prim.Native.Nat.{_-_}

@@ -1,3 +1,4 @@
+-- Each run is quiet up to its byte; the second counts from the state that it was begun at.
 use Rattle.passing.proofs.whole.pair.Statement.{statement}
 use Rattle.passing.proofs.whole.pair.Tie as tie
 use Prim.Native.Nat.{_+_, _-_}

@@ -1,3 +1,4 @@
+-- The bytes up to i are quiet.
 use Rattle.passing.proofs.whole.pass_one.Statement.{statement}
 use Rattle.passing.proofs.whole.pass_one.Tie as tie
 use Prim.Native.Nat.{_-_, _≤_}

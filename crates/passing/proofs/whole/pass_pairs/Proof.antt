@@ -1,3 +1,4 @@
+-- The bytes up to i are quiet, and two runs of h are left.
 use Rattle.passing.proofs.whole.pass_pairs.Statement.{statement}
 use Rattle.passing.proofs.whole.pass_pairs.Tie as tie
 use Prim.Native.Nat.{_+_, _-_, _≤_}

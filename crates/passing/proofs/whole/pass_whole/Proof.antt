@@ -1,3 +1,4 @@
+-- One way over quiet bytes after another.
 use Rattle.passing.proofs.whole.pass_whole.Statement.{statement}
 use Rattle.passing.proofs.whole.pass_whole.Tie as tie
 use native.Mathlib.Nat.{le-refl}

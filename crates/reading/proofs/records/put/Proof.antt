@@ -1,3 +1,4 @@
+-- What is still to be written, written where it belongs, gives the whole.
 use Rattle.reading.proofs.records.put.Statement.{statement}
 use Rattle.reading.proofs.records.put.Tie as tie
 use Prim.Native.Nat.{_-_}

@@ -1,3 +1,4 @@
+-- As many records as bits; none where they do not all fit.
 use Rattle.reading.proofs.records.put_all.Statement.{statement}
 use Rattle.reading.proofs.records.put_all.Tie as tie
 use native.Mathlib.Omega.{arith}

@@ -1,3 +1,4 @@
+-- One record of two numbers, or none.
 use Rattle.reading.proofs.records.put_bit.Statement.{statement}
 use Rattle.reading.proofs.records.put_bit.Tie as tie
 use Prim.Native.Nat.{_*_}

@@ -1,3 +1,4 @@
+-- By the two tests.
 use Rattle.reading.proofs.refusals.first_of.Statement.{statement}
 use Rattle.reading.proofs.refusals.first_of.Tie as tie
 

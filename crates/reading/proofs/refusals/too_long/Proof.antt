@@ -1,3 +1,4 @@
+-- The sum passes the largest count exactly if the piece is longer than what is left of it.
 use Rattle.reading.proofs.refusals.too_long.Statement.{statement}
 use Rattle.reading.proofs.refusals.too_long.Tie as tie
 use native.Mathlib.Omega.{arith}

@@ -1,3 +1,4 @@
+-- The whole reading is what is done and then what is left, from the place at byte i.
 use Rattle.reading.proofs.walks.on_split.Statement.{statement}
 use Rattle.reading.proofs.walks.on_split.Tie as tie
 use Prim.Native.Nat.{_+_, _-_}

@@ -1,3 +1,4 @@
+-- The whole reading is what is done and then what is left, from the state at byte i.
 use Rattle.reading.proofs.walks.on_whole.Statement.{statement}
 use Rattle.reading.proofs.walks.on_whole.Tie as tie
 use Prim.Native.Nat.{_+_, _-_}
