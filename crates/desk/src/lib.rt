@@ -4,7 +4,7 @@ mod scan;
 mod shared;
 
 use matching::Stop;
-use passing::places::slots;
+use matching::slots;
 use reading::Ending;
 use rooms::Wanted;
 use tables::Built;

@@ -8,6 +8,7 @@ pub mod Vectors
 pub mod Bits
 pub mod Occurrences
 pub mod Tables
+pub mod Slots
 pub mod Readings
 pub mod Expected
 pub mod AnyTable

@@ -2,7 +2,6 @@
 ghost use mathlib.Core.Path.{_≡_};
 ghost use Prim.Native.Nat.{ℕ, _<_, _≤_, _^_};
 ghost use lib.ListN.{take, getD};
-ghost use Rattle.matching.specs.Table.{slotsIn};
 ghost use Rattle.matching.specs.Reading.{allBelow};
 
 pub fn wide(x: u16) -> usize
@@ -15,23 +14,6 @@ pub fn byte(x: u8) -> usize
     ensures { λ r. ⌜ r ≡ x ⌝ }
 {
     x as usize
-}
-
-// How many letters a machine of so many bits has.
-pub fn letters(bits: usize) -> usize
-    requires { ⌜ bits ≤ 8 ⌝ }
-    ensures { λ r. ⌜ r ≡ 2 ^ bits ⌝ }
-{
-    1 << bits
-}
-
-// s: the slots that a table of so many numbers has for each of k machines.
-pub fn slots(len: usize, bits: usize, k: usize) -> usize
-    requires { ⌜ (bits ≤ 8) × ((0 < k) × (k ≤ 8)) ⌝ }
-    ensures { λ r. ⌜ r ≡ slotsIn bits k len ⌝ }
-{
-    let most = len / (k * (letters(bits) + 1));
-    if most < 513 { most } else { 513 }
 }
 
 // Whether each of the first k is a state.

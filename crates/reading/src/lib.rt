@@ -11,7 +11,7 @@ use crate::walks::on_whole;
 use matching::Stop;
 use passing::places::all_below;
 use passing::places::narrowed;
-use passing::places::slots;
+use matching::slots;
 use passing::places::wide;
 use passing::places::widened;
 ghost use mathlib.Core.Path.{_≡_};

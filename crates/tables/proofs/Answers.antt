@@ -1,23 +1,24 @@
 -- What the builder answers, and what it leaves.
 use Rattle.tables.specs.declared.Built.the-variants as B
 use Rattle.tables.specs.declared.Needed.the-variants as N
-use Prim.Native.Nat.{_*_, _+_, _-_, _/_, _<_, _≤_, max, suc, ℕ}
+use Prim.Native.Nat.{_*_, _+_, _-_, _<_, _≤_, max, suc, ℕ}
 use mathlib.Core.Bool.{Bool, cond, false, false≢true, not, true}
 use mathlib.Core.List.{List, _++_}
 use mathlib.Core.Path.{_∙_, _≡_, ap, refl, subst, sym}
-use native.Mathlib.Nat.{div-add-mod', mul-le-mul-left, mul-le-mul-right, mul-left-comm, sub-zero}
+use native.Mathlib.Nat.{mul-le-mul-left, sub-zero}
 use native.Mathlib.Numerals.{add-one}
 use native.Mathlib.Omega.{arith}
 use lib.ListN.{drop, length, take}
 use borrow.Author.Needs.{needs}
 use Rattle.matching.specs.Laws.Built.{enough-iff}
 use Rattle.matching.specs.Laws.Counting.{after}
+use Rattle.matching.specs.Laws.Slots.{slots-fit}
 use Rattle.matching.specs.Laws.States.{most}
 use Rattle.matching.specs.Laws.Tables.{judged, roomFrom-next, roomFrom-short}
 use Rattle.matching.specs.Machine.{states}
 use Rattle.matching.specs.Table.{Room, built, enoughSlots, roomFrom, shortOfSlots, slotSize, slots, slotsIn, tagsFor}
 use Rattle.matching.specs.Words.{Word}
-use Rattle.tables.proofs.Seen.{bits-some, letters-few}
+use Rattle.tables.proofs.Seen.{bits-some}
 use Rattle.tables.specs.Building.{builtBy, builtOf, machineName, mostStates, neededOf, tableBy, tableOf}
 use Rattle.tables.specs.Shape.{Shaped, Tagged, builtTags, isAccepted, tableTags}
 use Rattle.tables.specs.declared.Built.{Built}
@@ -32,40 +33,13 @@ use Rattle.tagset.specs.declared.SetRead.{SetRead}
 -- ---- slots
 
 module _ {layout : Layout} (shaped : Shaped layout) where
-  pub row-fits : layout .machines * (layout .letters + 1) ≤ 2056
-  row-fits =
-      let k : layout .machines ≤ 8 =
-      omega (arith, shaped .slicing .byte, mul-le-mul-left {m = 1} {n = layout .bits} (layout .machines) (bits-some shaped)) in
-      omega (
-        arith,
-        mul-le-mul-right {m = layout .machines} {n = 8} (layout .letters + 1) k,
-        letters-few shaped,
-      )
-
-  pub row-some : 0 < layout .machines * (layout .letters + 1)
-  row-some = omega (arith, mul-le-mul-right {m = 1} {n = layout .machines} (layout .letters + 1) (shaped .slicing .machines))
-
-  same-row : layout .machines * (layout .letters + 1) ≡ layout .machines * slotSize (layout .bits)
-  same-row = ap (λ (x : ℕ). layout .machines * (x + 1)) (shaped .letters)
-
-  pub slots-few : (len : ℕ) → len / (layout .machines * (layout .letters + 1)) < 513
-      → len / (layout .machines * (layout .letters + 1)) ≡ slotsIn (layout .bits) (layout .machines) len
-  slots-few len h = let e = ap (λ (x : ℕ). len / x) same-row in omega (arith, e)
-
-  pub slots-most : (len : ℕ) → 513 ≤ len / (layout .machines * (layout .letters + 1)) → 513 ≡ slotsIn (layout .bits) (layout .machines) len
-  slots-most len h = let e = ap (λ (x : ℕ). len / x) same-row in omega (arith, e)
+  -- a slicing as slots counts it
+  pub few-machines : layout .machines ≤ 8
+  few-machines = omega (arith, shaped .slicing .byte, mul-le-mul-left {m = 1} {n = layout .bits} (layout .machines) (bits-some shaped))
 
   -- that many slots are there
   pub slots-room : (len s : ℕ) → s ≡ slotsIn (layout .bits) (layout .machines) len → layout .machines * (s * (layout .letters + 1)) ≤ len
-  slots-room len s e =
-      let r = layout .machines * (layout .letters + 1) in
-      let a : s ≤ len / r = omega (arith, e, ap (λ (x : ℕ). len / x) same-row) in
-      omega (
-        arith,
-        mul-le-mul-right {m = s} {n = len / r} r a,
-        div-add-mod' len r,
-        mul-left-comm (layout .machines) s (layout .letters + 1),
-      )
+  slots-room len s e = rw (e, shaped .letters) (slots-fit (layout .bits) (layout .machines) len)
 
 -- ---- the machines, from the lowest on
 

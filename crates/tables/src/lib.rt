@@ -15,6 +15,7 @@ use machines::count_states;
 use machines::larger;
 use machines::make_slots;
 use machines::spell;
+use matching::slots;
 use tagset::SetFault;
 use tagset::Verdict;
 use tagset::read_set;
@@ -155,15 +156,6 @@ fn most_states(set: &[u8], from: &[usize], to: &[usize], layout: Layout) -> usiz
     most
 }
 
-// The slots that a table of so many numbers has for each machine.
-fn slots_in(layout: Layout, len: usize) -> usize
-    requires { ⌜ Shaped layout ⌝ }
-    ensures { λ r. ⌜ r ≡ slotsIn (layout .bits) (layout .machines) len ⌝ }
-{
-    let s = len / (layout.machines * (layout.letters + 1));
-    if s < 513 { s } else { 513 }
-}
-
 fn accepted(answer: Built) -> bool
     ensures { λ r. ⌜ r ≡ isAccepted answer ⌝ }
 {
@@ -189,7 +181,7 @@ fn build_tags(
     ensures answer { λ ts r. ⌜ r ≡ builtTags (layout .bits) (layout .machines) ts (length (now (table .entry))) ⌝ }
     ensures left { λ ts _. ⌜ now (table .exit) ≡ cond write (tableTags (layout .bits) (layout .machines) ts (now (table .entry))) (now (table .entry)) ⌝ }
 {
-    let s = slots_in(layout, table.len());
+    let s = slots(table.len(), layout.bits, layout.machines);
     let answer = judge(set, from, to, layout, s);
     if !write {
         return answer;

@@ -52,7 +52,8 @@ onesOf-every P e (suc width) i v f = go (bit-cases v) (onesOf-every P e width (s
     go (inl q) ih = rw (onesOf-one i width v q) (subst (λ (x : ℕ). P (record { end = e; tag = x })) (add-zero i) (f 0 (omega arith)), ih)
     go (inr q) ih = rw (onesOf-none i width v q) ih
 
-nexts-length : (n s : ℕ) (table : List ℕ) (m : ℕ) (qs : List ℕ) (c : ℕ) → length (nexts n s table m qs c) ≡ length qs
+-- a place keeps its number of states
+pub nexts-length : (n s : ℕ) (table : List ℕ) (m : ℕ) (qs : List ℕ) (c : ℕ) → length (nexts n s table m qs c) ≡ length qs
 unfolding nexts
 nexts-length n s table m [] c = refl
 nexts-length n s table m (q ∷ qs) c = ap suc (nexts-length n s table (suc m) qs c)

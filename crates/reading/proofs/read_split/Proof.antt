@@ -10,7 +10,7 @@ use lib.ListN.{length}
 use borrow.Author.Needs.{needs}
 use borrow.Author.Tests.{ltb-false}
 use Rattle.matching.specs.Reading.{allBelow, read}
-use Rattle.passing.specs.Laws.Rows.{slots-room}
+use Rattle.matching.specs.Laws.Slots.{slots-room}
 use Rattle.passing.specs.Laws.Runs.{full}
 use Rattle.reading.specs.Laws.Answers.{first-none, list-long, read-goes, read-refused, slots-few, split-read, states-fit}
 use Rattle.reading.specs.Refusals.{firstOf}

@@ -13,7 +13,7 @@ use borrow.Author.Needs.{needs}
 use borrow.Author.Tests.{ltb-false}
 use Rattle.matching.specs.Reading.{allBelow, read}
 use Rattle.passing.specs.Laws.Below.{below-only, one-below}
-use Rattle.passing.specs.Laws.Rows.{slots-room}
+use Rattle.matching.specs.Laws.Slots.{slots-room}
 use Rattle.reading.specs.Laws.Answers.{first-none, list-long, read-goes, read-refused, slots-few, states-fit, whole-read}
 use Rattle.reading.specs.Refusals.{firstOf}
 use Rattle.reading.specs.declared.ReadRefusal.the-variants.{Long, Place}

@@ -10,6 +10,7 @@ use lib.Dec.{leb}
 use lib.ListN.{drop, drop-of-length-le, getD, length, length-append, length-drop, take}
 use lib.Seq.{drop-append-add, drop-cons, drop-drop, sets, sets-eq, take-append-seam}
 use borrow.Author.Tests.{le-ltb, leb-true}
+use Rattle.matching.specs.Laws.AnyTable.{nexts-length}
 use Rattle.matching.specs.Laws.Occurrences.{occurAt-length}
 use Rattle.matching.specs.Laws.Readings.{read-damaged, read-full, read-tookByte}
 use Rattle.matching.specs.Machine.{next, vector}
@@ -20,7 +21,7 @@ use Rattle.matching.specs.Words.{same}
 use Rattle.matching.specs.declared.Stop.{Stop}
 use Rattle.matching.specs.declared.Stop.the-variants.{All, Damaged, Full}
 use Rattle.passing.specs.Laws.Below.{below-one}
-use Rattle.passing.specs.Laws.Passing.{ahead-ahead, ahead-byte, ahead-none, nexts-long}
+use Rattle.passing.specs.Laws.Passing.{ahead-ahead, ahead-byte, ahead-none}
 use Rattle.passing.specs.Laws.Runs.{full}
 use Rattle.passing.specs.Laws.Starts.{one-even}
 use Rattle.passing.specs.Quiet.{Passes, ahead}
@@ -166,7 +167,7 @@ module _ (n s : ℕ) (table : List ℕ) (count : ℕ) (piece l₀ start : List �
             rw (front, read-tookByte n s table place (count + i) (length l₀ / 2 - w) c rest (rw moves at below) fits, flags, ahead-byte, moves) in
             record {
               most = omega arith;
-              long = ap length moves ∙ nexts-long n s table 0 place c ∙ g .long;
+              long = ap length moves ∙ nexts-length n s table 0 place c ∙ g .long;
               below = below;
               done = g .done ++ occurAt (suc (count + i)) tags;
               written = length-append (g .done) (occurAt (suc (count + i)) tags) ∙ rw (g .written, occurAt-length, f .1);

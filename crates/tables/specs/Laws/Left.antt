@@ -1,18 +1,18 @@
 -- What building leaves in the lent run.
-use Prim.Native.Nat.{_*_, _/_, _<_, _≤_, ℕ}
+use Rattle.tables.specs.declared.Built.the-variants as B
+use Prim.Native.Nat.{_*_, _<_, ℕ}
 use mathlib.Core.List.{List}
 use mathlib.Core.Path.{_∙_, _≡_, ap, refl}
-use native.Mathlib.Nat.{div-add-mod', mul-le-mul-right, mul-left-comm}
 use native.Mathlib.Omega.{arith}
 use lib.ListN.{drop, length, length-append, length-drop}
 use borrow.Author.Needs.{needs}
 use Rattle.matching.specs.Laws.Built.{enough-iff}
+use Rattle.matching.specs.Laws.Slots.{slots-fit}
 use Rattle.matching.specs.Laws.Tables.{built-length}
 use Rattle.matching.specs.Table.{Room, built, enoughSlots, roomFrom, shortOfSlots, slotSize, slotsIn}
 use Rattle.matching.specs.Words.{Word}
 use Rattle.tables.specs.Building.{builtBy, builtNumber, builtOf, onSet, onSetTable, tableBy, tableOf, withTable}
 use Rattle.tables.specs.Laws.Exact.{BuiltCase, built-case, isFault, isTable, isTags, tags-iff}
-use Rattle.tables.specs.declared.Built.the-variants as B
 use Rattle.tables.specs.Refusals.{Builds}
 use Rattle.tables.specs.declared.Built.{Built}
 use Rattle.tagset.specs.Answer.{faultNumber}
@@ -20,18 +20,6 @@ use Rattle.tagset.specs.Grammar.{SetOf, badSet, goodSet, setOf}
 use Rattle.tagset.specs.Laws.Exact.{accepted-iff}
 use Rattle.tagset.specs.declared.SetFault.{SetFault}
 use Rattle.tagset.specs.declared.SetFault.the-variants.{Cut, Empty, Kind, Length, Many, Repeat}
-
--- so many numbers are there
-pub slots-fit : (n k len : ℕ) → k * (slotsIn n k len * slotSize n) ≤ len
-slots-fit n k len =
-    let r = k * slotSize n in
-    let s = slotsIn n k len in
-    omega (
-      arith,
-      mul-le-mul-right {m = slotsIn n k len} {n = len / (k * slotSize n)} (k * slotSize n) (omega arith),
-      div-add-mod' len (k * slotSize n),
-      mul-left-comm k (slotsIn n k len) (slotSize n),
-    )
 
 pub table-length : (n k : ℕ) (ts : List Word) (run : List ℕ) → length (withTable n k ts run) ≡ length run
 table-length n k ts run =

@@ -16,7 +16,7 @@ use Rattle.desk.proofs.Desk.feed.Lts as lts
 use Rattle.desk.proofs.Desk.damaged.Reads as damaged-reads
 use Rattle.desk.proofs.Desk.read_on.Reads as read-on-reads
 use Rattle.desk.proofs.rooms.first_room.Reads as first-room-reads
-use Rattle.passing.proofs.places.slots.Reads as slots-reads
+use Rattle.matching.proofs.slots.Reads as slots-reads
 
 first-room-requires : tie.Need-first-room-requires
 first-room-requires c κs = search needs

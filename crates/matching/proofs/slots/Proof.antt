@@ -1,10 +1,10 @@
 -- The numbers of a row of all machines are at most 8 * 257, and some.
-use Rattle.passing.proofs.places.slots.Statement.{statement}
-use Rattle.passing.proofs.places.slots.Tie as tie
+use Rattle.matching.proofs.slots.Statement.{statement}
+use Rattle.matching.proofs.slots.Tie as tie
 use native.Mathlib.Nat.{mul-pos}
 use native.Mathlib.Omega.{arith}
 use borrow.Author.Needs.{needs}
-use Rattle.passing.specs.Laws.Rows.{row-size, slot-size, slots-most, slots-some}
+use Rattle.matching.specs.Laws.Slots.{row-size, slot-size, slots-most, slots-some}
 
 letters-requires : tie.Need-letters-requires
 letters-requires c κs = search needs

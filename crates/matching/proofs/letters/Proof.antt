@@ -1,6 +1,6 @@
 -- A power of two of at most 8 bits does not wrap.
-use Rattle.passing.proofs.places.letters.Statement.{statement}
-use Rattle.passing.proofs.places.letters.Tie as tie
+use Rattle.matching.proofs.letters.Statement.{statement}
+use Rattle.matching.proofs.letters.Tie as tie
 use Prim.Native.Nat.{_^_, _≤_}
 use native.Mathlib.Nat.{mod-eq-of-lt, one-mul, pow-le-pow-right}
 use native.Mathlib.Omega.{arith}
