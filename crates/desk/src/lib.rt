@@ -1,22 +1,19 @@
 // The desk (document 01, 'The desk'): tickets, one list of records shared by all, the edition and the last serial.
+mod feeds;
+mod replacements;
 mod rooms;
 mod scan;
 mod shared;
 
 use matching::Stop;
 use matching::slots;
-use reading::Ending;
 use rooms::Wanted;
-use tables::Built;
 use tagset::SetFault;
 ghost use mathlib.Core.Path.{_≡_};
 ghost use lib.ListN.{length};
 ghost use Rattle.desk.specs.Calls.{newDesk, openOf, closeOf, takeOf};
-ghost use mathlib.Core.Bool.{not, false};
-ghost use Prim.Native.Nat.{_+_, _<_, _≤_};
-ghost use lib.Dec.{eqb};
-ghost use Rattle.desk.specs.Replace.{replaceBy, replaceOf, replacedRun};
-ghost use Rattle.desk.specs.Feed.{feedOf, readIn};
+ghost use Rattle.desk.specs.Replace.{replaceOf, replacedRun};
+ghost use Rattle.desk.specs.Feed.{feedOf};
 ghost use Rattle.desk.specs.TakeMany.{manyOf, takeManyOf, listTaken};
 
 // Three kinds of number that can't be passed for one another: an old tag number needs its edition.
@@ -170,48 +167,7 @@ impl Desk {
         let s = slots(table.len(), 1, 8);
         let write = edition.0 != Desk::LAST;
         let built = tables::build_split_if(set, table, write);
-        self.replaced(s, built, write)
-    }
-
-    // By what building answered, and whether an edition is left.
-    fn replaced(self, s: usize, built: Built, write: bool) -> Replacing
-        requires { ⌜ write ≡ not (eqb (self .edition .0) 4294967295) ⌝ }
-        ensures { λ r. ⌜ r ≡ replaceBy self s built (eqb (self .edition .0) 4294967295) ⌝ }
-    {
-        match built {
-            Built::Fault(fault) => Replacing {
-                desk: self,
-                answer: ReplaceAnswer::Fault(fault),
-            },
-            Built::Table(machine, needs) => Replacing {
-                desk: self,
-                answer: ReplaceAnswer::Table(machine, needs),
-            },
-            Built::Tags(count) => {
-                if write {
-                    return self.under_next(s, count);
-                }
-                Replacing {
-                    desk: self,
-                    answer: ReplaceAnswer::EditionEnd,
-                }
-            }
-        }
-    }
-
-    fn under_next(self, s: usize, count: usize) -> Replacing
-        requires { ⌜ (self .edition .0 ≡ 4294967295 → ⊥) ⌝ }
-        ensures { λ r. ⌜ r ≡ replaceBy self s (Built.Tags count) false ⌝ }
-    {
-        let edition = self.edition;
-        let next = Edition(edition.0 + 1);
-        let mut desk = self;
-        desk.edition = next;
-        desk.slots = s;
-        Replacing {
-            desk,
-            answer: ReplaceAnswer::Replaced(next, count),
-        }
+        replacements::replaced(self, s, built, write)
     }
 
     pub fn open(self) -> Opening
@@ -270,7 +226,7 @@ impl Desk {
             };
         }
         if slots(table.len(), 1, 8) != self.slots {
-            return self.damaged();
+            return feeds::damaged(self);
         }
         let left = (Desk::LAST - t.taken) as usize;
         if left < piece.len() {
@@ -279,53 +235,7 @@ impl Desk {
                 answer: FeedAnswer::Long,
             };
         }
-        self.read_on(i, t, table, piece)
-    }
-
-    fn damaged(self) -> Feeding
-        ensures { λ r. ⌜ (r .desk ≡ self) × (r .answer ≡ FeedAnswer.Fed 0 0 Stop.Damaged) ⌝ }
-    {
-        let answer = FeedAnswer::Fed {
-            taken: 0,
-            records: 0,
-            stop: Stop::Damaged,
-        };
-        Feeding { desk: self, answer }
-    }
-
-    // The reading for the ticket in room i, once nothing refuses it; its records go behind those held.
-    fn read_on(self, i: usize, t: Ticket, table: &[u16], piece: &[u8]) -> Feeding
-        requires { ⌜ (i < 16) × (t .taken + length (now piece) ≤ 4294967295) ⌝ }
-        ensures { λ r. ⌜ r ≡ readIn self i t (now (table .entry)) (now (piece .entry)) ⌝ }
-    {
-        let held = self.records;
-        let place = t.place;
-        let room = shared::room_left(held.count);
-        let scan = scan::read_for(table, place, t.taken, piece, room);
-        let read = scan.read;
-        let list = scan.list;
-        let ending = read.ending;
-        let Ending::Stopped(stop) = ending else {
-            return self.damaged();
-        };
-        let serial = t.serial;
-        let edition = t.edition;
-        let after = read.place;
-        let records = shared::append(held, serial, edition, &list, read.records);
-        let mut desk = self;
-        desk.tickets[i] = Ticket {
-            serial,
-            edition,
-            taken: t.taken + (read.taken as u32),
-            place: after,
-        };
-        desk.records = records;
-        let answer = FeedAnswer::Fed {
-            taken: read.taken,
-            records: read.records,
-            stop,
-        };
-        Feeding { desk, answer }
+        feeds::read_on(self, i, t, table, piece)
     }
 
     pub fn close(self, serial: Serial) -> Closing

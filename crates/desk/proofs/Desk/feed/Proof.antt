@@ -13,8 +13,8 @@ use Rattle.desk.proofs.Desk.feed.Statement.{statement}
 use Rattle.desk.proofs.Desk.feed.Tie as tie
 use Rattle.desk.proofs.Desk.feed.Reads as reads
 use Rattle.desk.proofs.Desk.feed.Lts as lts
-use Rattle.desk.proofs.Desk.damaged.Reads as damaged-reads
-use Rattle.desk.proofs.Desk.read_on.Reads as read-on-reads
+use Rattle.desk.proofs.feeds.damaged.Reads as damaged-reads
+use Rattle.desk.proofs.feeds.read_on.Reads as read-on-reads
 use Rattle.desk.proofs.rooms.first_room.Reads as first-room-reads
 use Rattle.matching.proofs.slots.Reads as slots-reads
 

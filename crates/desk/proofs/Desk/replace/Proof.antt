@@ -5,7 +5,7 @@ use Rattle.desk.proofs.Desk.replace.Statement.{statement}
 use Rattle.desk.proofs.Desk.replace.Tie as tie
 use Rattle.desk.proofs.Desk.replace.Reads as reads
 use Rattle.desk.proofs.Desk.replace.Lts as lts
-use Rattle.desk.proofs.Desk.replaced.Reads as replaced-reads
+use Rattle.desk.proofs.replacements.replaced.Reads as replaced-reads
 use Rattle.matching.proofs.slots.Reads as slots-reads
 use Rattle.tables.proofs.build_split_if.Reads as build-split-if-reads
 
