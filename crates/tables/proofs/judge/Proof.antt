@@ -18,7 +18,12 @@ abbrev μ-loop : tie.MeasureT-loop
 μ-loop set from to layout s machines m₀ m = layout .machines - m
 
 loop-holds : tie.Need-loop-holds Inv-loop μ-loop
-loop-holds c = (omega arith, ap (roomFrom (c .before .before .before .args .layout .bits) (c .before .before .before .args .s) (cutAt (c .before .before .before .args .set .now) (c .before .before .before .args .from .now) (c .before .before .before .args .to .now)) 0) (sym (sub-zero (c .before .before .before .args .layout .machines))))
+loop-holds c =
+    let args = c .before .before .before .args in (
+      omega arith,
+      ap (roomFrom (args .layout .bits) (args .s) (cutAt (args .set .now) (args .from .now) (args .to .now)) 0)
+          (sym (sub-zero (args .layout .machines))),
+    )
 
 states-of-requires : tie.Need-states-of-requires Inv-loop μ-loop
 states-of-requires c κs = (c .before .before .before .before .before .pre .0, c .loop-test .taken, c .before .before .before .before .before .pre .1)
@@ -27,7 +32,17 @@ name-of-requires : tie.Need-name-of-requires Inv-loop μ-loop
 name-of-requires c κs = search needs
 
 returns : tie.Need-returns Inv-loop μ-loop
-returns c = judge-short (c .before .before .before .before .before .before .before .before .args .layout .bits) (c .before .before .before .before .before .before .before .before .args .s) (cutAt (c .before .before .before .before .before .before .before .before .args .set .now) (c .before .before .before .before .before .before .before .before .args .from .now) (c .before .before .before .before .before .before .before .before .args .to .now)) (c .before .before .before .before .before .before .before .before .args .layout .machines) (c .before .before .before .before .loop .m) (c .before .before .before .loop-test .taken) (c .before .before .before .before .loop .inv .1) (c .before .before .states-of .result) (c .before .before .states-of .ensures) (c .before .if1 .taken) (c .name-of .result) (c .name-of .ensures)
+returns c =
+    let c2 = c .before .before in
+    let states-of = c2 .states-of in
+    let c3 = c2 .before in
+    let loop-test = c3 .loop-test in
+    let c4 = c3 .before in
+    let loop = c4 .loop in
+    let args = c4 .before .before .before .before .args in
+    judge-short (args .layout .bits) (args .s) (cutAt (args .set .now) (args .from .now) (args .to .now)) (args .layout .machines) (loop .m)
+    (loop-test .taken) (loop .inv .1) (states-of .result) (states-of .ensures) (c .before .if1 .taken) (c .name-of .result)
+    (c .name-of .ensures)
 
 add-m : tie.Need-add-m Inv-loop μ-loop
 add-m c = omega arith
@@ -36,10 +51,28 @@ loop-less : tie.Need-loop-less Inv-loop μ-loop
 loop-less c = omega arith
 
 loop-again : tie.Need-loop-again Inv-loop μ-loop
-loop-again c = (omega arith, judge-more (c .before .before .before .before .before .before .before .args .layout .bits) (c .before .before .before .before .before .before .before .args .s) (cutAt (c .before .before .before .before .before .before .before .args .set .now) (c .before .before .before .before .before .before .before .args .from .now) (c .before .before .before .before .before .before .before .args .to .now)) (c .before .before .before .before .before .before .before .args .layout .machines) (c .before .before .before .loop .m) (c .before .before .loop-test .taken) (c .before .before .before .loop .inv .1) (c .before .states-of .result) (c .before .states-of .ensures) (c .if1 .left))
+loop-again c =
+    let c1 = c .before in
+    let states-of = c1 .states-of in
+    let c2 = c1 .before in
+    let loop-test = c2 .loop-test in
+    let c3 = c2 .before in
+    let loop = c3 .loop in
+    let args = c3 .before .before .before .before .args in (
+      omega arith,
+      judge-more (args .layout .bits) (args .s) (cutAt (args .set .now) (args .from .now) (args .to .now))
+          (args .layout .machines) (loop .m) (loop-test .taken) (loop .inv .1) (states-of .result) (states-of .ensures) (c .if1 .left),
+    )
 
 returns-2 : tie.Need-returns-2 Inv-loop μ-loop
-returns-2 c = judge-all (c .before .before .before .before .before .args .layout .bits) (c .before .before .before .before .before .args .s) (cutAt (c .before .before .before .before .before .args .set .now) (c .before .before .before .before .before .args .from .now) (c .before .before .before .before .before .args .to .now)) (c .before .before .before .before .before .args .layout .machines) (c .before .loop .m) (c .loop-test .left) (c .before .loop .inv .1) (length (c .before .before .before .before .before .args .from .now)) (c .before .before .before .before .before .pre .1 .many)
+returns-2 c =
+    let c1 = c .before in
+    let loop = c1 .loop in
+    let c5 = c1 .before .before .before .before in
+    let args = c5 .args in
+    let asked = c5 .pre in
+    judge-all (args .layout .bits) (args .s) (cutAt (args .set .now) (args .from .now) (args .to .now)) (args .layout .machines) (loop .m)
+    (c .loop-test .left) (loop .inv .1) (length (args .from .now)) (asked .1 .many)
 
 pub judge-spec : {M : Type 1} → statement M
 judge-spec =

@@ -18,7 +18,9 @@ abbrev μ-loop : tie.MeasureT-loop
 μ-loop set from to layout most₀ m₀ most m = m
 
 loop-holds : tie.Need-loop-holds Inv-loop μ-loop
-loop-holds c = (omega arith, most-none (c .before .before .before .args .layout .bits) (cutAt (c .before .before .before .args .set .now) (c .before .before .before .args .from .now) (c .before .before .before .args .to .now)) (c .before .before .before .args .layout .machines))
+loop-holds c =
+    let args = c .before .before .before .args in
+    (omega arith, most-none (args .layout .bits) (cutAt (args .set .now) (args .from .now) (args .to .now)) (args .layout .machines))
 
 sub-m : tie.Need-sub-m Inv-loop μ-loop
 sub-m c = omega arith
@@ -33,10 +35,27 @@ loop-less : tie.Need-loop-less Inv-loop μ-loop
 loop-less c = omega arith
 
 loop-again : tie.Need-loop-again Inv-loop μ-loop
-loop-again c = (omega arith, most-more (c .before .before .before .before .before .before .before .args .layout .bits) (cutAt (c .before .before .before .before .before .before .before .args .set .now) (c .before .before .before .before .before .before .before .args .from .now) (c .before .before .before .before .before .before .before .args .to .now)) (c .before .before .before .before .before .before .before .args .layout .machines) (c .before .before .before .loop .m) (c .before .before .before .loop .most) (c .before .states-of .result) (c .larger .result) (c .before .before .loop-test .taken) (c .before .before .before .loop .inv .0) (c .before .before .before .loop .inv .1) (c .before .states-of .ensures) (c .larger .ensures))
+loop-again c =
+    let c1 = c .before in
+    let states-of = c1 .states-of in
+    let c2 = c1 .before in
+    let loop-test = c2 .loop-test in
+    let c3 = c2 .before in
+    let loop = c3 .loop in
+    let args = c3 .before .before .before .before .args in (
+      omega arith,
+      most-more (args .layout .bits) (cutAt (args .set .now) (args .from .now) (args .to .now)) (args .layout .machines)
+          (loop .m) (loop .most) (states-of .result) (c .larger .result) (loop-test .taken) (loop .inv .0) (loop .inv .1) (states-of .ensures)
+          (c .larger .ensures),
+    )
 
 returns : tie.Need-returns Inv-loop μ-loop
-returns c = most-all (c .before .before .before .before .before .args .layout .bits) (cutAt (c .before .before .before .before .before .args .set .now) (c .before .before .before .before .before .args .from .now) (c .before .before .before .before .before .args .to .now)) (c .before .before .before .before .before .args .layout .machines) (c .before .loop .m) (c .before .loop .most) (c .loop-test .left) (c .before .loop .inv .1)
+returns c =
+    let c1 = c .before in
+    let loop = c1 .loop in
+    let args = c1 .before .before .before .before .args in
+    most-all (args .layout .bits) (cutAt (args .set .now) (args .from .now) (args .to .now)) (args .layout .machines) (loop .m) (loop .most)
+    (c .loop-test .left) (loop .inv .1)
 
 pub most-states-spec : {M : Type 1} → statement M
 most-states-spec =
