@@ -28,10 +28,31 @@ known-front-requires : tie.Need-known-front-requires Inv-loop μ-loop
 known-front-requires c κs = omega (arith, c .before .before .before .before .before .before .pre .many)
 
 sub-count : tie.Need-sub-count Inv-loop μ-loop
-sub-count c = count-sub (c .before .before .before .before .before .before .before .pre) (c .before .before .before .loop .t) (c .before .before .loop-test .taken) (c .before .tag-bytes .result .now) (c .before .tag-bytes .ensures) (c .known-front .result) (c .known-front .ensures)
+sub-count c =
+    let c1 = c .before in
+    let tag-bytes = c1 .tag-bytes in
+    let c2 = c1 .before in
+    let loop-test = c2 .loop-test in
+    let c3 = c2 .before in
+    let loop = c3 .loop in
+    let asked = c3 .before .before .before .before .pre in
+    count-sub asked (loop .t) (loop-test .taken) (tag-bytes .result .now) (tag-bytes .ensures) (c .known-front .result)
+    (c .known-front .ensures)
 
 add-count : tie.Need-add-count Inv-loop μ-loop
-add-count c = omega (arith, count-small (c .before .before .before .before .before .before .before .pre) (c .before .before .before .loop .t) (c .before .before .loop-test .taken) (c .before .tag-bytes .result .now) (c .before .tag-bytes .ensures) (c .known-front .result) (c .known-front .ensures) (c .before .before .before .loop .count) (c .before .before .before .loop .inv .1))
+add-count c =
+    let c1 = c .before in
+    let tag-bytes = c1 .tag-bytes in
+    let c2 = c1 .before in
+    let loop-test = c2 .loop-test in
+    let c3 = c2 .before in
+    let loop = c3 .loop in
+    let asked = c3 .before .before .before .before .pre in
+    omega (
+      arith,
+      count-small asked (loop .t) (loop-test .taken) (tag-bytes .result .now) (tag-bytes .ensures) (c .known-front .result)
+          (c .known-front .ensures) (loop .count) (loop .inv .1),
+    )
 
 add-t : tie.Need-add-t Inv-loop μ-loop
 add-t c = omega arith
@@ -40,10 +61,28 @@ loop-less : tie.Need-loop-less Inv-loop μ-loop
 loop-less c = omega arith
 
 loop-again : tie.Need-loop-again Inv-loop μ-loop
-loop-again c = (omega arith, count-more (c .before .before .before .before .before .before .before .pre) (c .before .before .before .loop .t) (c .before .before .loop-test .taken) (c .before .tag-bytes .result .now) (c .before .tag-bytes .ensures) (c .known-front .result) (c .known-front .ensures) (c .before .before .before .loop .count) (c .before .before .before .loop .inv .1))
+loop-again c =
+    let c1 = c .before in
+    let tag-bytes = c1 .tag-bytes in
+    let c2 = c1 .before in
+    let loop-test = c2 .loop-test in
+    let c3 = c2 .before in
+    let loop = c3 .loop in
+    let asked = c3 .before .before .before .before .pre in (
+      omega arith,
+      count-more asked (loop .t) (loop-test .taken) (tag-bytes .result .now) (tag-bytes .ensures) (c .known-front .result)
+          (c .known-front .ensures) (loop .count) (loop .inv .1),
+    )
 
 returns : tie.Need-returns Inv-loop μ-loop
-returns c = c .before .loop .inv .1 ∙ ap states (take-all (c .before .loop .t) (cutAt (c .before .before .before .before .before .args .letters .now) (c .before .before .before .before .before .args .from .now) (c .before .before .before .before .before .args .to .now)) (omega (arith, c .before .before .before .before .before .pre .many)))
+returns c =
+    let c1 = c .before in
+    let loop = c1 .loop in
+    let c5 = c1 .before .before .before .before in
+    let args = c5 .args in
+    let asked = c5 .pre in
+    loop .inv .1 ∙ ap states (take-all (loop .t) (cutAt (args .letters .now) (args .from .now) (args .to .now))
+    (omega (arith, asked .many)))
 
 pub count-states-spec : {M : Type 1} → statement M
 count-states-spec =

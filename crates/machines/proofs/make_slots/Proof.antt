@@ -9,10 +9,20 @@ clear-requires : tie.Need-clear-requires
 clear-requires c κs = search needs
 
 plant-requires : tie.Need-plant-requires
-plant-requires c κs = plant-first (c .before .before .before .before .before .before .before .before .before .pre .0) (c .before .before .before .before .before .before .before .before .before .pre .1) (c .before .before .before .clear .kept .0) (c .before .before .before .clear .ensures)
+plant-requires c κs =
+    let c3 = c .before .before .before in
+    let clear = c3 .clear in
+    let asked = c3 .before .before .before .before .before .before .pre in
+    plant-first (asked .0) (asked .1) (clear .kept .0) (clear .ensures)
 
 fill-requires : tie.Need-fill-requires
-fill-requires c κs = (c .before .before .before .before .before .before .before .before .before .before .before .before .before .pre .0, roomy-same (c .before .before .before .before .before .before .before .before .before .before .before .before .before .pre .1) (c .before .before .before .plant .kept .1 .1 .1 .1 .0 ∙ c .before .before .before .before .before .before .before .clear .kept .0), c .before .before .before .plant .ensures)
+fill-requires c κs =
+    let c3 = c .before .before .before in
+    let plant = c3 .plant in
+    let c7 = c3 .before .before .before .before in
+    let clear = c7 .clear in
+    let asked = c7 .before .before .before .before .before .before .pre in
+    (asked .0, roomy-same (asked .1) (plant .kept .1 .1 .1 .1 .0 ∙ clear .kept .0), plant .ensures)
 
 same-length : tie.Need-same-length
 same-length c = search needs

@@ -35,13 +35,28 @@ loop-less : tie.Need-loop-less Inv-loop μ-loop
 loop-less c = omega arith
 
 loop-again : tie.Need-loop-again Inv-loop μ-loop
-loop-again c = (omega arith, simp length-set (c .before .before .before .loop .inv .1), spell-more (letterBy (c .before .before .before .before .before .before .args .shift) (c .before .before .before .before .before .before .args .mask)) (c .before .before .before .before .before .before .args .set .now) (c .before .before .before .loop .out) (c .before .before .before .loop .i) _ (c .before .before .loop-test .taken) (omega arith) (c .letter .ensures) (c .before .before .before .loop .inv .2))
+loop-again c =
+    let c2 = c .before .before in
+    let loop-test = c2 .loop-test in
+    let c3 = c2 .before in
+    let loop = c3 .loop in
+    let args = c3 .before .before .before .args in (
+      omega arith,
+      simp length-set (loop .inv .1),
+      spell-more (letterBy (args .shift) (args .mask)) (args .set .now) (loop .out) (loop .i) _
+          (loop-test .taken) (omega arith) (c .letter .ensures) (loop .inv .2),
+    )
 
 same-length : tie.Need-same-length Inv-loop μ-loop
 same-length c = c .before .loop .inv .1
 
 returns : tie.Need-returns Inv-loop μ-loop
-returns c = spell-end (letterBy (c .before .before .before .before .args .shift) (c .before .before .before .before .args .mask)) (c .before .before .before .before .args .set .now) (c .before .loop .out) (c .before .loop .i) (c .before .loop .inv .0) (c .loop-test .left) (c .before .loop .inv .2)
+returns c =
+    let c1 = c .before in
+    let loop = c1 .loop in
+    let args = c1 .before .before .before .args in
+    spell-end (letterBy (args .shift) (args .mask)) (args .set .now) (loop .out) (loop .i) (loop .inv .0) (c .loop-test .left)
+    (loop .inv .2)
 
 pub spell-spec : {M : Type 1} → statement M
 spell-spec =

@@ -34,14 +34,24 @@ judge-requires c κs = search needs
 
 -- the verdict by what is refused
 verdict-is : (c : tie.After-judge)
-    → c .judge .result
-    ≡ firstOf (not (allBelow (c .before .before .before .before .slots .result) (c .before .before .before .before .before .before .before .before .args .place))) Place (ltb 4294967295 (c .before .before .before .before .before .before .before .before .args .count + length (c .before .before .before .before .before .before .before .before .args .piece .now))) Long
+    → let args = c .before .before .before .before .before .before .before .before .args in
+    c .judge .result
+    ≡ firstOf (not (allBelow (c .before .before .before .before .slots .result) (args .place))) Place
+    (ltb 4294967295 (args .count + length (args .piece .now))) Long
 verdict-is c =
-    rw (c .before .before .all-below .ensures, c .before .before .before .widened .ensures, full (c .before .before .before .before .before .before .before .before .args .place) (omega arith), c .before .too-long .ensures) at (c .judge .ensures)
+    let c2 = c .before .before in
+    let all-below = c2 .all-below in
+    let c3 = c2 .before in
+    let widened = c3 .widened in
+    let c8 = c3 .before .before .before .before .before in
+    let args = c8 .args in
+    rw (all-below .ensures, widened .ensures, full (args .place) (omega (arith, c8 .good)), c .before .too-long .ensures) at (c .judge .ensures)
 
 -- where it is to go, each state is below s and the count has room
 goes : (c : tie.After-enum-told)
-    → (allBelow (c .before .before .before .before .before .before .slots .result) (c .before .before .before .before .before .before .before .before .before .before .args .place) ≡ true) × (ltb 4294967295 (c .before .before .before .before .before .before .before .before .before .before .args .count + length (c .before .before .before .before .before .before .before .before .before .before .args .piece .now)) ≡ false)
+    → let args = c .before .before .before .before .before .before .before .before .before .before .args in
+    (allBelow (c .before .before .before .before .before .before .slots .result) (args .place) ≡ true)
+    × (ltb 4294967295 (args .count + length (args .piece .now)) ≡ false)
 goes c = first-none _ _ (sym (c .enum-told .given .1) ∙ verdict-is (c .before .before))
 
 enum-known-verdict : tie.Need-enum-known-verdict
@@ -49,8 +59,16 @@ enum-known-verdict c = search needs
 
 returns : tie.Need-returns
 returns c =
-    let a = c .before .before .before .before .before .before .before .before .before .before .before .args in
-    rw (read-refused 1 8 (a .table .now) (a .place) (a .count) (a .piece .now) (length (a .list .now)) (c .before .before .before .before .before .before .before .slots .result) (c .before .before .before .before .before .before .before .slots .ensures) (c .before .verdict .given .0 .0) (sym (c .before .verdict .given .1) ∙ verdict-is (c .before .before .before))) (refl, refl)
+    let c1 = c .before in
+    let verdict = c1 .verdict in
+    let c2 = c1 .before in
+    let before = c2 .before in
+    let c7 = c2 .before .before .before .before .before in
+    let slots = c7 .slots in
+    let args = c7 .before .before .before .before .args in
+    let a = args in
+    rw (read-refused 1 8 (a .table .now) (a .place) (a .count) (a .piece .now) (length (a .list .now)) (slots .result) (slots .ensures)
+    (verdict .given .0 .0) (sym (verdict .given .1) ∙ verdict-is before)) (refl, refl)
 
 enum-told : tie.Need-enum-told
 enum-told c = search needs
@@ -74,13 +92,23 @@ on-split-requires c κs =
 
 narrowed-requires : tie.Need-narrowed-requires
 narrowed-requires c κs =
-    let a = c .before .before .before .before .before .before .before .before .before .before .before .before .before .before .before .args in
-    let s = c .before .before .before .before .before .before .before .before .before .before .before .slots .result in
-    let start = c .before .before .before .before .before .before .before .before .before .before .widened .result in
+    let c3 = c .before .before .before in
+    let on-split = c3 .on-split in
+    let c4 = c3 .before in
+    let before = c4 .before in
+    let c10 = c4 .before .before .before .before .before .before in
+    let widened = c10 .widened in
+    let c11 = c10 .before in
+    let slots = c11 .slots in
+    let args = c11 .before .before .before .before .args in
+    let a = args in
+    let s = slots .result in
+    let start = widened .result in
     let o = read 1 s (a .table .now) start (a .count) (length (a .list .now) / 2) (a .piece .now) in
-    let at : c .before .before .before .on-split .result .place ≡ o .place = ap (λ (r : Went). r .place) (c .before .before .before .on-split .ensures .0) in
-    let b : allBelow s start ≡ true = rw (c .before .before .before .before .before .before .before .before .before .before .widened .ensures) (goes (c .before .before .before .before .before) .0) in
-    λ i l. rw at (states-fit 1 s (a .table .now) start (a .count) (length (a .list .now) / 2) (a .piece .now) (slots-few 1 8 (length (a .table .now)) s (c .before .before .before .before .before .before .before .before .before .before .before .slots .ensures)) b i (omega arith))
+    let at : on-split .result .place ≡ o .place = ap (λ (r : Went). r .place) (on-split .ensures .0) in
+    let b : allBelow s start ≡ true = rw (widened .ensures) (goes before .0) in
+    λ i l. rw at (states-fit 1 s (a .table .now) start (a .count) (length (a .list .now) / 2) (a .piece .now)
+    (slots-few 1 8 (length (a .table .now)) s (slots .ensures)) b i (omega arith))
 
 same-length : tie.Need-same-length
 same-length c =
@@ -89,11 +117,21 @@ same-length c =
 
 returns-2 : tie.Need-returns-2
 returns-2 c =
-    let a = c .before .before .before .before .before .before .before .before .before .before .before .before .before .before .before .before .args in
-    let g = goes (c .before .before .before .before .before .before) in
-    let reads = read-goes 1 8 (a .table .now) (a .place) (a .count) (a .piece .now) (length (a .list .now)) _ (c .before .before .before .before .before .before .before .before .before .before .before .before .slots .ensures) (g .0) (g .1) in
-    split-read _ _ (a .place) (c .before .before .before .before .on-split .result) _ (a .list .now) _ reads
-    (rw (c .before .before .before .before .before .before .before .before .before .before .before .widened .ensures) at (c .before .before .before .before .on-split .ensures .0)) (c .narrowed .ensures) (rw (c .before .before .before .before .before .before .before .before .before .before .before .widened .ensures) at (c .before .before .before .before .on-split .ensures .1))
+    let c4 = c .before .before .before .before in
+    let on-split = c4 .on-split in
+    let c5 = c4 .before in
+    let before = c5 .before in
+    let c11 = c5 .before .before .before .before .before .before in
+    let widened = c11 .widened in
+    let c12 = c11 .before in
+    let slots = c12 .slots in
+    let args = c12 .before .before .before .before .args in
+    let a = args in
+    let g = goes before in
+    let reads = read-goes 1 8 (a .table .now) (a .place) (a .count) (a .piece .now) (length (a .list .now)) _ (slots .ensures) (g .0)
+    (g .1) in
+    split-read _ _ (a .place) (on-split .result) _ (a .list .now) _ reads
+    (rw (widened .ensures) at (on-split .ensures .0)) (c .narrowed .ensures) (rw (widened .ensures) at (on-split .ensures .1))
 
 pub read-split-spec : {M : Type 1} → statement M
 read-split-spec =

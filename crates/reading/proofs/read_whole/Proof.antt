@@ -33,14 +33,23 @@ judge-requires c κs = search needs
 
 -- the verdict by what is refused
 verdict-is : (c : tie.After-judge)
-    → c .judge .result
-    ≡ firstOf (not (allBelow (c .before .before .before .slots .result) (c .before .before .before .before .before .before .before .args .place ∷ []))) Place (ltb 4294967295 (c .before .before .before .before .before .before .before .args .count + length (c .before .before .before .before .before .before .before .args .piece .now))) Long
+    → let args = c .before .before .before .before .before .before .before .args in
+    c .judge .result
+    ≡ firstOf (not (allBelow (c .before .before .before .slots .result) (args .place ∷ []))) Place
+    (ltb 4294967295 (args .count + length (args .piece .now))) Long
 verdict-is c =
-    rw (below-only (c .before .before .before .slots .result) (c .before .before .before .before .before .before .before .args .place)) (rw (c .before .before .wide .ensures, c .before .too-long .ensures) at (c .judge .ensures))
+    let c2 = c .before .before in
+    let wide = c2 .wide in
+    let c3 = c2 .before in
+    let slots = c3 .slots in
+    let args = c3 .before .before .before .before .args in
+    rw (below-only (slots .result) (args .place)) (rw (wide .ensures, c .before .too-long .ensures) at (c .judge .ensures))
 
 -- where it is to go, the state is below s and the count has room
 goes : (c : tie.After-enum-told)
-    → (allBelow (c .before .before .before .before .before .slots .result) (c .before .before .before .before .before .before .before .before .before .args .place ∷ []) ≡ true) × (ltb 4294967295 (c .before .before .before .before .before .before .before .before .before .args .count + length (c .before .before .before .before .before .before .before .before .before .args .piece .now)) ≡ false)
+    → let args = c .before .before .before .before .before .before .before .before .before .args in
+    (allBelow (c .before .before .before .before .before .slots .result) (args .place ∷ []) ≡ true)
+    × (ltb 4294967295 (args .count + length (args .piece .now)) ≡ false)
 goes c = first-none _ _ (sym (c .enum-told .given .1) ∙ verdict-is (c .before .before))
 
 enum-known-verdict : tie.Need-enum-known-verdict
@@ -48,30 +57,55 @@ enum-known-verdict c = search needs
 
 returns : tie.Need-returns
 returns c =
-    let a = c .before .before .before .before .before .before .before .before .before .before .args in
-    rw (read-refused 8 1 (a .table .now) (a .place ∷ []) (a .count) (a .piece .now) (length (a .list .now)) (c .before .before .before .before .before .before .slots .result) (c .before .before .before .before .before .before .slots .ensures) (c .before .verdict .given .0 .0) (sym (c .before .verdict .given .1) ∙ verdict-is (c .before .before .before))) (refl, refl)
+    let c1 = c .before in
+    let verdict = c1 .verdict in
+    let c2 = c1 .before in
+    let before = c2 .before in
+    let c6 = c2 .before .before .before .before in
+    let slots = c6 .slots in
+    let args = c6 .before .before .before .before .args in
+    let a = args in
+    rw (read-refused 8 1 (a .table .now) (a .place ∷ []) (a .count) (a .piece .now) (length (a .list .now)) (slots .result) (slots .ensures)
+    (verdict .given .0 .0) (sym (verdict .given .1) ∙ verdict-is before)) (refl, refl)
 
 enum-told : tie.Need-enum-told
 enum-told c = search needs
 
 on-whole-requires : tie.Need-on-whole-requires
 on-whole-requires c κs =
-    let a = c .before .before .before .before .before .before .before .before .before .before .args in
-    let s = c .before .before .before .before .before .before .slots .result in
+    let c5 = c .before .before .before .before .before in
+    let wide = c5 .wide in
+    let c6 = c5 .before in
+    let slots = c6 .slots in
+    let args = c6 .before .before .before .before .args in
+    let a = args in
+    let s = slots .result in
     let g = goes (c .before) in
-    let l = ltb-false 4294967295 (a .count + length (a .piece .now)) (g .1) in
-    (rw one-mul at (slots-room 8 1 (length (a .table .now)) s (c .before .before .before .before .before .before .slots .ensures)), (rw (c .before .before .before .before .before .wide .ensures) (one-below s (a .place) (g .0)), omega (arith, l)))
+    let l = ltb-false 4294967295 (a .count + length (a .piece .now)) (g .1) in (
+      rw one-mul at (slots-room 8 1 (length (a .table .now)) s (slots .ensures)),
+      (rw (wide .ensures) (one-below s (a .place) (g .0)), omega (arith, l)),
+    )
 
 cast-at : tie.Need-cast-at
 cast-at c =
-    let a = c .before .before .before .before .before .before .before .before .before .before .before .before .before .before .args in
-    let s = c .before .before .before .before .before .before .before .before .before .before .slots .result in
-    let q = c .before .before .before .before .before .before .before .before .before .wide .result in
+    let c3 = c .before .before .before in
+    let on-whole = c3 .on-whole in
+    let c4 = c3 .before in
+    let before = c4 .before in
+    let c9 = c4 .before .before .before .before .before in
+    let wide = c9 .wide in
+    let c10 = c9 .before in
+    let slots = c10 .slots in
+    let args = c10 .before .before .before .before .args in
+    let a = args in
+    let s = slots .result in
+    let q = wide .result in
     let o = read 8 s (a .table .now) (q ∷ []) (a .count) (length (a .list .now) / 2) (a .piece .now) in
-    let at : c .before .before .before .on-whole .result .state ≡ getD (o .place) 0 0 = ap (λ (r : WentOne). r .state) (c .before .before .before .on-whole .ensures .0) in
-    let b : allBelow s (q ∷ []) ≡ true = rw (c .before .before .before .before .before .before .before .before .before .wide .ensures) (goes (c .before .before .before .before .before) .0) in
+    let at : on-whole .result .state ≡ getD (o .place) 0 0 = ap (λ (r : WentOne). r .state) (on-whole .ensures .0) in
+    let b : allBelow s (q ∷ []) ≡ true = rw (wide .ensures) (goes before .0) in
     let fit : getD (o .place) 0 0 < 65536 =
-    states-fit 8 s (a .table .now) (q ∷ []) (a .count) (length (a .list .now) / 2) (a .piece .now) (slots-few 8 1 (length (a .table .now)) s (c .before .before .before .before .before .before .before .before .before .before .slots .ensures)) b 0 (omega arith) in
+    states-fit 8 s (a .table .now) (q ∷ []) (a .count) (length (a .list .now) / 2) (a .piece .now)
+    (slots-few 8 1 (length (a .table .now)) s (slots .ensures)) b 0 (omega arith) in
     omega arith
 
 same-length : tie.Need-same-length
@@ -81,11 +115,21 @@ same-length c =
 
 returns-2 : tie.Need-returns-2
 returns-2 c =
-    let a = c .before .before .before .before .before .before .before .before .before .before .before .before .before .before .args in
-    let g = goes (c .before .before .before .before .before) in
-    let reads = read-goes 8 1 (a .table .now) (a .place ∷ []) (a .count) (a .piece .now) (length (a .list .now)) _ (c .before .before .before .before .before .before .before .before .before .before .slots .ensures) (g .0) (g .1) in
-    whole-read _ _ (a .place) (c .before .before .before .on-whole .result) (a .list .now) _ reads
-    (rw (c .before .before .before .before .before .before .before .before .before .wide .ensures) at (c .before .before .before .on-whole .ensures .0)) (rw (c .before .before .before .before .before .before .before .before .before .wide .ensures) at (c .before .before .before .on-whole .ensures .1))
+    let c3 = c .before .before .before in
+    let on-whole = c3 .on-whole in
+    let c4 = c3 .before in
+    let before = c4 .before in
+    let c9 = c4 .before .before .before .before .before in
+    let wide = c9 .wide in
+    let c10 = c9 .before in
+    let slots = c10 .slots in
+    let args = c10 .before .before .before .before .args in
+    let a = args in
+    let g = goes before in
+    let reads = read-goes 8 1 (a .table .now) (a .place ∷ []) (a .count) (a .piece .now) (length (a .list .now)) _ (slots .ensures) (g .0)
+    (g .1) in
+    whole-read _ _ (a .place) (on-whole .result) (a .list .now) _ reads
+    (rw (wide .ensures) at (on-whole .ensures .0)) (rw (wide .ensures) at (on-whole .ensures .1))
 
 pub read-whole-spec : {M : Type 1} → statement M
 read-whole-spec =

@@ -22,12 +22,23 @@ loop-holds : tie.Need-loop-holds Inv-loop μ-loop
 loop-holds c = (omega arith, refl)
 
 repeats-requires : tie.Need-repeats-requires Inv-loop μ-loop
-repeats-requires c κs = omega (arith, cutAt-length (c .before .before .before .before .before .args .set .now) (c .before .before .before .before .before .args .from .now) (c .before .before .before .before .before .args .to .now) (c .before .before .before .before .before .pre))
+repeats-requires c κs =
+    let c5 = c .before .before .before .before .before in
+    let args = c5 .args in
+    let asked = c5 .pre in
+    omega (arith, cutAt-length (args .set .now) (args .from .now) (args .to .now) asked)
 
 returns : tie.Need-returns Inv-loop μ-loop
 returns c =
-    let ts = cutAt (c .before .before .before .before .before .before .before .args .set .now) (c .before .before .before .before .before .before .before .args .from .now) (c .before .before .before .before .before .before .before .args .to .now) in
-    sym (ap verdictOf (c .before .before .before .loop .inv .1 ∙ distinct-hit ts (c .before .before .before .loop .t) (omega (arith, cutAt-length (c .before .before .before .before .before .before .before .args .set .now) (c .before .before .before .before .before .before .before .args .from .now) (c .before .before .before .before .before .before .before .args .to .now) (c .before .before .before .before .before .before .before .pre))) (sym (c .before .repeats .ensures) ∙ c .if1 .taken)))
+    let c3 = c .before .before .before in
+    let loop = c3 .loop in
+    let c7 = c3 .before .before .before .before in
+    let args = c7 .args in
+    let asked = c7 .pre in
+    let ts = cutAt (args .set .now) (args .from .now) (args .to .now) in
+    sym (ap verdictOf (loop .inv .1 ∙ distinct-hit ts (loop .t)
+    (omega (arith, cutAt-length (args .set .now) (args .from .now) (args .to .now) asked))
+    (sym (c .before .repeats .ensures) ∙ c .if1 .taken)))
 
 add-t : tie.Need-add-t Inv-loop μ-loop
 add-t c = omega arith
@@ -37,13 +48,28 @@ loop-less c = omega arith
 
 loop-again : tie.Need-loop-again Inv-loop μ-loop
 loop-again c =
-    let ts = cutAt (c .before .before .before .before .before .before .before .args .set .now) (c .before .before .before .before .before .before .before .args .from .now) (c .before .before .before .before .before .before .before .args .to .now) in
-    (omega arith, c .before .before .before .loop .inv .1 ∙ rw (add-one (c .before .before .before .loop .t)) (distinct-miss ts (c .before .before .before .loop .t) (omega (arith, cutAt-length (c .before .before .before .before .before .before .before .args .set .now) (c .before .before .before .before .before .before .before .args .from .now) (c .before .before .before .before .before .before .before .args .to .now) (c .before .before .before .before .before .before .before .pre))) (sym (c .before .repeats .ensures) ∙ c .if1 .left)))
+    let c3 = c .before .before .before in
+    let loop = c3 .loop in
+    let c7 = c3 .before .before .before .before in
+    let args = c7 .args in
+    let asked = c7 .pre in
+    let ts = cutAt (args .set .now) (args .from .now) (args .to .now) in (
+      omega arith,
+      loop .inv .1 ∙ rw (add-one (loop .t)) (distinct-miss ts (loop .t)
+          (omega (arith, cutAt-length (args .set .now) (args .from .now) (args .to .now) asked))
+          (sym (c .before .repeats .ensures) ∙ c .if1 .left)),
+    )
 
 returns-2 : tie.Need-returns-2 Inv-loop μ-loop
 returns-2 c =
-    let ts = cutAt (c .before .before .before .before .before .args .set .now) (c .before .before .before .before .before .args .from .now) (c .before .before .before .before .before .args .to .now) in
-    sym (ap verdictOf (c .before .loop .inv .1 ∙ distinct-end ts (c .before .loop .t) (omega (arith, cutAt-length (c .before .before .before .before .before .args .set .now) (c .before .before .before .before .before .args .from .now) (c .before .before .before .before .before .args .to .now) (c .before .before .before .before .before .pre)))))
+    let c1 = c .before in
+    let loop = c1 .loop in
+    let c5 = c1 .before .before .before .before in
+    let args = c5 .args in
+    let asked = c5 .pre in
+    let ts = cutAt (args .set .now) (args .from .now) (args .to .now) in
+    sym (ap verdictOf (loop .inv .1 ∙ distinct-end ts (loop .t)
+    (omega (arith, cutAt-length (args .set .now) (args .from .now) (args .to .now) asked))))
 
 pub distinct-tags-spec : {M : Type 1} → statement M
 distinct-tags-spec =

@@ -24,7 +24,11 @@ mul-result : tie.Need-mul-result
 mul-result c = omega (arith, c .before .shared-slice-known3 .given (c .before .before .before .before .before .args .at + 1))
 
 add-result : tie.Need-add-result
-add-result c = omega (arith, c .before .shared-slice-known3 .given (c .before .before .before .before .before .args .at + 1), c .before .before .before .shared-slice-known2 .given (c .before .before .before .before .before .args .at))
+add-result c =
+    let c3 = c .before .before .before in
+    let shared-slice-known2 = c3 .shared-slice-known2 in
+    let args = c3 .before .before .args in
+    omega (arith, c .before .shared-slice-known3 .given (args .at + 1), shared-slice-known2 .given (args .at))
 
 returns : tie.Need-returns
 returns c = search needs

@@ -20,7 +20,13 @@ part-result-end : tie.Need-part-result-end
 part-result-end c = search needs
 
 returns : tie.Need-returns
-returns c = part-cut (c .before .before .before .before .args .set .now) (c .before .before .before .before .args .a) (c .before .before .before .before .args .e) (c .before .before .lower .result) (c .before .lower2 .result) (c .before .before .lower .ensures) (c .before .lower2 .ensures)
+returns c =
+    let c1 = c .before in
+    let lower2 = c1 .lower2 in
+    let c2 = c1 .before in
+    let lower = c2 .lower in
+    let args = c2 .before .before .args in
+    part-cut (args .set .now) (args .a) (args .e) (lower .result) (lower2 .result) (lower .ensures) (lower2 .ensures)
 
 pub part-spec : {M : Type 1} → statement M
 part-spec =

@@ -30,28 +30,71 @@ passed-up-requires : tie.Need-passed-up-requires Inv-loop μ-loop
 passed-up-requires c κs = search needs
 
 returns : tie.Need-returns Inv-loop μ-loop
-returns c = c .passed-up .ensures ∙ gone-fails (c .before .before .before .before .before .loop .inv) (c .before .before .before .before .loop-test .taken) (c .before .before .before .read-entry .result) (c .before .before .before .read-entry .ensures) (c .before .enum-told .given .1)
+returns c =
+    let c3 = c .before .before .before in
+    let read-entry = c3 .read-entry in
+    let c4 = c3 .before in
+    let loop-test = c4 .loop-test in
+    let loop = c4 .before .loop in
+    c .passed-up .ensures ∙ gone-fails (loop .inv) (loop-test .taken) (read-entry .result) (read-entry .ensures)
+    (c .before .enum-told .given .1)
 
 mul-from : tie.Need-mul-from Inv-loop μ-loop
-mul-from c = omega (arith, gone-more (c .before .before .before .before .before .loop .inv) (c .before .before .before .before .loop-test .taken) (c .before .before .before .read-entry .result) (c .before .before .before .read-entry .ensures) (c .before .entry .given .1) .few)
+mul-from c =
+    let c3 = c .before .before .before in
+    let read-entry = c3 .read-entry in
+    let c4 = c3 .before in
+    let loop-test = c4 .loop-test in
+    let loop = c4 .before .loop in
+    omega (arith, gone-more (loop .inv) (loop-test .taken) (read-entry .result) (read-entry .ensures) (c .before .entry .given .1) .few)
 
 array-write-from : tie.Need-array-write-from Inv-loop μ-loop
-array-write-from c = omega (arith, gone-more (c .before .before .before .before .before .loop .inv) (c .before .before .before .before .loop-test .taken) (c .before .before .before .read-entry .result) (c .before .before .before .read-entry .ensures) (c .before .entry .given .1) .few)
+array-write-from c =
+    let c3 = c .before .before .before in
+    let read-entry = c3 .read-entry in
+    let c4 = c3 .before in
+    let loop-test = c4 .loop-test in
+    let loop = c4 .before .loop in
+    omega (arith, gone-more (loop .inv) (loop-test .taken) (read-entry .result) (read-entry .ensures) (c .before .entry .given .1) .few)
 
 mul-to : tie.Need-mul-to Inv-loop μ-loop
-mul-to c = omega (arith, gone-more (c .before .before .before .before .before .loop .inv) (c .before .before .before .before .loop-test .taken) (c .before .before .before .read-entry .result) (c .before .before .before .read-entry .ensures) (c .before .entry .given .1) .few)
+mul-to c =
+    let c3 = c .before .before .before in
+    let read-entry = c3 .read-entry in
+    let c4 = c3 .before in
+    let loop-test = c4 .loop-test in
+    let loop = c4 .before .loop in
+    omega (arith, gone-more (loop .inv) (loop-test .taken) (read-entry .result) (read-entry .ensures) (c .before .entry .given .1) .few)
 
 array-write-to : tie.Need-array-write-to Inv-loop μ-loop
-array-write-to c = omega (arith, gone-more (c .before .before .before .before .before .loop .inv) (c .before .before .before .before .loop-test .taken) (c .before .before .before .read-entry .result) (c .before .before .before .read-entry .ensures) (c .before .entry .given .1) .few)
+array-write-to c =
+    let c3 = c .before .before .before in
+    let read-entry = c3 .read-entry in
+    let c4 = c3 .before in
+    let loop-test = c4 .loop-test in
+    let loop = c4 .before .loop in
+    omega (arith, gone-more (loop .inv) (loop-test .taken) (read-entry .result) (read-entry .ensures) (c .before .entry .given .1) .few)
 
 add-k : tie.Need-add-k Inv-loop μ-loop
 add-k c = omega (arith, gone-few (c .before .before .before .before .before .loop .inv))
 
 loop-less : tie.Need-loop-less Inv-loop μ-loop
-loop-less c = omega (arith, gone-more (c .before .before .before .before .before .loop .inv) (c .before .before .before .before .loop-test .taken) (c .before .before .before .read-entry .result) (c .before .before .before .read-entry .ensures) (c .before .entry .given .1) .on)
+loop-less c =
+    let c3 = c .before .before .before in
+    let read-entry = c3 .read-entry in
+    let c4 = c3 .before in
+    let loop-test = c4 .loop-test in
+    let loop = c4 .before .loop in
+    omega (arith, gone-more (loop .inv) (loop-test .taken) (read-entry .result) (read-entry .ensures) (c .before .entry .given .1) .on)
 
 loop-again : tie.Need-loop-again Inv-loop μ-loop
-loop-again c = gone-more (c .before .before .before .before .before .loop .inv) (c .before .before .before .before .loop-test .taken) (c .before .before .before .read-entry .result) (c .before .before .before .read-entry .ensures) (c .before .entry .given .1) .gone
+loop-again c =
+    let c3 = c .before .before .before in
+    let read-entry = c3 .read-entry in
+    let c4 = c3 .before in
+    let loop-test = c4 .loop-test in
+    let loop = c4 .before .loop in
+    gone-more (loop .inv) (loop-test .taken) (read-entry .result) (read-entry .ensures) (c .before .entry .given .1) .gone
 
 returns-2 : tie.Need-returns-2 Inv-loop μ-loop
 returns-2 c = gone-all (c .before .loop .inv) (c .loop-test .left)

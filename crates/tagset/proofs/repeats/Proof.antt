@@ -30,7 +30,22 @@ same-bytes-requires : tie.Need-same-bytes-requires Inv-loop μ-loop
 same-bytes-requires c κs = search needs
 
 returns : tie.Need-returns Inv-loop μ-loop
-returns c = among-here (getD (cutAt (c .before .before .before .before .before .before .before .before .before .args .set .now) (c .before .before .before .before .before .before .before .before .before .args .from .now) (c .before .before .before .before .before .before .before .before .before .args .to .now)) (c .before .before .before .before .before .before .before .before .before .args .t) []) (cutAt (c .before .before .before .before .before .before .before .before .before .args .set .now) (c .before .before .before .before .before .before .before .before .before .args .from .now) (c .before .before .before .before .before .before .before .before .before .args .to .now)) (c .before .before .before .before .before .before .before .before .before .args .t) (c .before .before .before .before .loop .i) (c .before .before .before .before .before .before .before .before .before .pre) (c .before .before .before .loop-test .taken) (c .before .before .tag-bytes2 .result .now) (c .before .before .tag-bytes2 .ensures) (ap (λ (w : Word). same w (c .before .before .tag-bytes2 .result .now)) (sym (c .before .before .before .before .before .tag-bytes .ensures)) ∙ sym (c .before .same-bytes .ensures) ∙ c .if1 .taken) ∙ sym (c .before .before .before .before .loop .inv .1)
+returns c =
+    let c2 = c .before .before in
+    let tag-bytes2 = c2 .tag-bytes2 in
+    let c3 = c2 .before in
+    let loop-test = c3 .loop-test in
+    let c4 = c3 .before in
+    let loop = c4 .loop in
+    let c5 = c4 .before in
+    let tag-bytes = c5 .tag-bytes in
+    let c9 = c5 .before .before .before .before in
+    let args = c9 .args in
+    let asked = c9 .pre in
+    among-here (getD (cutAt (args .set .now) (args .from .now) (args .to .now)) (args .t) [])
+    (cutAt (args .set .now) (args .from .now) (args .to .now)) (args .t) (loop .i) asked (loop-test .taken) (tag-bytes2 .result .now)
+    (tag-bytes2 .ensures) (ap (λ (w : Word). same w (tag-bytes2 .result .now)) (sym (tag-bytes .ensures)) ∙ sym
+    (c .before .same-bytes .ensures) ∙ c .if1 .taken) ∙ sym (loop .inv .1)
 
 add-i : tie.Need-add-i Inv-loop μ-loop
 add-i c = omega arith
@@ -39,10 +54,32 @@ loop-less : tie.Need-loop-less Inv-loop μ-loop
 loop-less c = omega arith
 
 loop-again : tie.Need-loop-again Inv-loop μ-loop
-loop-again c = (omega arith, c .before .before .before .before .loop .inv .1 ∙ among-later (getD (cutAt (c .before .before .before .before .before .before .before .before .before .args .set .now) (c .before .before .before .before .before .before .before .before .before .args .from .now) (c .before .before .before .before .before .before .before .before .before .args .to .now)) (c .before .before .before .before .before .before .before .before .before .args .t) []) (cutAt (c .before .before .before .before .before .before .before .before .before .args .set .now) (c .before .before .before .before .before .before .before .before .before .args .from .now) (c .before .before .before .before .before .before .before .before .before .args .to .now)) (c .before .before .before .before .before .before .before .before .before .args .t) (c .before .before .before .before .loop .i) (c .before .before .before .before .before .before .before .before .before .pre) (c .before .before .before .loop-test .taken) (c .before .before .tag-bytes2 .result .now) (c .before .before .tag-bytes2 .ensures) (ap (λ (w : Word). same w (c .before .before .tag-bytes2 .result .now)) (sym (c .before .before .before .before .before .tag-bytes .ensures)) ∙ sym (c .before .same-bytes .ensures) ∙ c .if1 .left))
+loop-again c =
+    let c2 = c .before .before in
+    let tag-bytes2 = c2 .tag-bytes2 in
+    let c3 = c2 .before in
+    let loop-test = c3 .loop-test in
+    let c4 = c3 .before in
+    let loop = c4 .loop in
+    let c5 = c4 .before in
+    let tag-bytes = c5 .tag-bytes in
+    let c9 = c5 .before .before .before .before in
+    let args = c9 .args in
+    let asked = c9 .pre in (
+      omega arith,
+      loop .inv .1 ∙ among-later (getD (cutAt (args .set .now) (args .from .now) (args .to .now)) (args .t) [])
+          (cutAt (args .set .now) (args .from .now) (args .to .now)) (args .t) (loop .i) asked (loop-test .taken) (tag-bytes2 .result .now)
+          (tag-bytes2 .ensures) (ap (λ (w : Word). same w (tag-bytes2 .result .now)) (sym (tag-bytes .ensures)) ∙ sym
+          (c .before .same-bytes .ensures) ∙ c .if1 .left),
+    )
 
 returns-2 : tie.Need-returns-2 Inv-loop μ-loop
-returns-2 c = among-end (getD (cutAt (c .before .before .before .before .before .before .args .set .now) (c .before .before .before .before .before .before .args .from .now) (c .before .before .before .before .before .before .args .to .now)) (c .before .before .before .before .before .before .args .t) []) (cutAt (c .before .before .before .before .before .before .args .set .now) (c .before .before .before .before .before .before .args .from .now) (c .before .before .before .before .before .before .args .to .now)) (c .before .before .before .before .before .before .args .t) (c .before .loop .i) (c .loop-test .left) ∙ sym (c .before .loop .inv .1)
+returns-2 c =
+    let c1 = c .before in
+    let loop = c1 .loop in
+    let args = c1 .before .before .before .before .before .args in
+    among-end (getD (cutAt (args .set .now) (args .from .now) (args .to .now)) (args .t) [])
+    (cutAt (args .set .now) (args .from .now) (args .to .now)) (args .t) (loop .i) (c .loop-test .left) ∙ sym (loop .inv .1)
 
 pub repeats-spec : {M : Type 1} → statement M
 repeats-spec =

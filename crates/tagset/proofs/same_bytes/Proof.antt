@@ -28,7 +28,15 @@ shared-slice-read-if2-2 : tie.Need-shared-slice-read-if2-2 Inv-loop μ-loop
 shared-slice-read-if2-2 c = omega (arith, c .before .before .before .before .if1 .left)
 
 returns-2 : tie.Need-returns-2 Inv-loop μ-loop
-returns-2 c = same-differ (c .before .before .before .before .before .before .args .v .now) (c .before .before .before .before .before .before .args .w .now) (c .before .before .before .before .loop .i) (c .before .before .before .before .before .if1 .left) (c .before .before .before .loop-test .taken) (c .if2 .taken) ∙ sym (c .before .before .before .before .loop .inv .1)
+returns-2 c =
+    let c3 = c .before .before .before in
+    let loop-test = c3 .loop-test in
+    let c4 = c3 .before in
+    let loop = c4 .loop in
+    let c5 = c4 .before in
+    let if1 = c5 .if1 in
+    let args = c5 .before .args in
+    same-differ (args .v .now) (args .w .now) (loop .i) (if1 .left) (loop-test .taken) (c .if2 .taken) ∙ sym (loop .inv .1)
 
 add-i : tie.Need-add-i Inv-loop μ-loop
 add-i c = omega arith
@@ -37,10 +45,24 @@ loop-less : tie.Need-loop-less Inv-loop μ-loop
 loop-less c = omega arith
 
 loop-again : tie.Need-loop-again Inv-loop μ-loop
-loop-again c = (omega arith, c .before .before .before .before .loop .inv .1 ∙ same-agree (c .before .before .before .before .before .before .args .v .now) (c .before .before .before .before .before .before .args .w .now) (c .before .before .before .before .loop .i) (c .before .before .before .before .before .if1 .left) (c .before .before .before .loop-test .taken) (c .if2 .left))
+loop-again c =
+    let c3 = c .before .before .before in
+    let loop-test = c3 .loop-test in
+    let c4 = c3 .before in
+    let loop = c4 .loop in
+    let c5 = c4 .before in
+    let if1 = c5 .if1 in
+    let args = c5 .before .args in
+    (omega arith, loop .inv .1 ∙ same-agree (args .v .now) (args .w .now) (loop .i) (if1 .left) (loop-test .taken) (c .if2 .left))
 
 returns-3 : tie.Need-returns-3 Inv-loop μ-loop
-returns-3 c = same-end (c .before .before .before .args .v .now) (c .before .before .before .args .w .now) (c .before .loop .i) (c .before .before .if1 .left) (c .loop-test .left) ∙ sym (c .before .loop .inv .1)
+returns-3 c =
+    let c1 = c .before in
+    let loop = c1 .loop in
+    let c2 = c1 .before in
+    let if1 = c2 .if1 in
+    let args = c2 .before .args in
+    same-end (args .v .now) (args .w .now) (loop .i) (if1 .left) (c .loop-test .left) ∙ sym (loop .inv .1)
 
 pub same-bytes-spec : {M : Type 1} → statement M
 same-bytes-spec =

@@ -10,13 +10,17 @@ part-requires : tie.Need-part-requires
 part-requires c κs = search needs
 
 returns : tie.Need-returns
-returns c = c .part .ensures ∙ sym (cutAt-none (c .before .before .before .before .before .args .set .now) (c .before .before .before .before .before .args .from .now) (c .before .before .before .before .before .args .to .now) (c .before .before .before .before .before .args .t) (inl (c .before .if1 .taken)))
+returns c =
+    let args = c .before .before .before .before .before .args in
+    c .part .ensures ∙ sym (cutAt-none (args .set .now) (args .from .now) (args .to .now) (args .t) (inl (c .before .if1 .taken)))
 
 part-requires-2 : tie.Need-part-requires-2
 part-requires-2 c κs = search needs
 
 returns-2 : tie.Need-returns-2
-returns-2 c = c .part2 .ensures ∙ sym (cutAt-none (c .before .before .before .before .before .before .args .set .now) (c .before .before .before .before .before .before .args .from .now) (c .before .before .before .before .before .before .args .to .now) (c .before .before .before .before .before .before .args .t) (inr (c .before .if2 .taken)))
+returns-2 c =
+    let args = c .before .before .before .before .before .before .args in
+    c .part2 .ensures ∙ sym (cutAt-none (args .set .now) (args .from .now) (args .to .now) (args .t) (inr (c .before .if2 .taken)))
 
 mul-a : tie.Need-mul-a
 mul-a c = search needs
@@ -34,7 +38,13 @@ part-requires-3 : tie.Need-part-requires-3
 part-requires-3 c κs = search needs
 
 returns-3 : tie.Need-returns-3
-returns-3 c = c .part3 .ensures ∙ sym (cutAt-at (c .before .before .before .before .before .before .before .before .args .set .now) (c .before .before .before .before .before .before .before .before .args .from .now) (c .before .before .before .before .before .before .before .before .args .to .now) (c .before .before .before .before .before .before .before .before .args .t) (c .before .before .before .before .if1 .left) (c .before .before .before .if2 .left))
+returns-3 c =
+    let c3 = c .before .before .before in
+    let if2 = c3 .if2 in
+    let c4 = c3 .before in
+    let if1 = c4 .if1 in
+    let args = c4 .before .before .before .before .args in
+    c .part3 .ensures ∙ sym (cutAt-at (args .set .now) (args .from .now) (args .to .now) (args .t) (if1 .left) (if2 .left))
 
 pub tag-bytes-spec : {M : Type 1} → statement M
 tag-bytes-spec =

@@ -21,7 +21,11 @@ first-room-requires c κs = search needs
 
 returns-3 : tie.Need-returns-3
 unfolding openOf
-returns-3 c = simp (ne-eqb _ _ (c .before .before .before .before .before .if1 .left), ne-eqb _ _ (c .before .before .before .if2 .left), ← c .before .first-room .ensures, le-ltb _ _ (c .if3 .taken))
+returns-3 c =
+    let c3 = c .before .before .before in
+    let if2 = c3 .if2 in
+    let if1 = c3 .before .before .if1 in
+    simp (ne-eqb _ _ (if1 .left), ne-eqb _ _ (if2 .left), ← c .before .first-room .ensures, le-ltb _ _ (c .if3 .taken))
 
 add-t13 : tie.Need-add-t13
 add-t13 c = search needs
@@ -37,7 +41,15 @@ element-set-from-desk c = search needs
 
 returns-4 : tie.Need-returns-4
 unfolding openOf
-returns-4 c = simp (ne-eqb _ _ (c .before .before .before .before .before .before .before .if1 .left), ne-eqb _ _ (c .before .before .before .before .before .if2 .left), ← c .before .before .before .first-room .ensures, lt-ltb _ _ (c .before .before .if3 .left), c .new-ticket .ensures)
+returns-4 c =
+    let c2 = c .before .before in
+    let if3 = c2 .if3 in
+    let c3 = c2 .before in
+    let first-room = c3 .first-room in
+    let c5 = c3 .before .before in
+    let if2 = c5 .if2 in
+    let if1 = c5 .before .before .if1 in
+    simp (ne-eqb _ _ (if1 .left), ne-eqb _ _ (if2 .left), ← first-room .ensures, lt-ltb _ _ (if3 .left), c .new-ticket .ensures)
 
 pub open-spec : {M : Type 1} → statement M
 open-spec =

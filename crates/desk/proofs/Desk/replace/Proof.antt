@@ -23,8 +23,14 @@ same-length c = search needs
 
 returns : tie.Need-returns
 returns c =
-    let a = c .before .before .before .before .before .before .before .before .before .before .args in
-    replaced-is (a .self) (a .set .now) (a .table .now) _ _ _ _ _ (c .before .before .before .before .before .before .slots .ensures) (c .before .before .before .build-split-if .ensures .0) refl (c .before .before .before .build-split-if .ensures .1) (c .replaced .ensures)
+    let c3 = c .before .before .before in
+    let build-split-if = c3 .build-split-if in
+    let c6 = c3 .before .before .before in
+    let slots = c6 .slots in
+    let args = c6 .before .before .before .before .args in
+    let a = args in
+    replaced-is (a .self) (a .set .now) (a .table .now) _ _ _ _ _ (slots .ensures) (build-split-if .ensures .0) refl
+    (build-split-if .ensures .1) (c .replaced .ensures)
 
 pub replace-spec : {M : Type 1} → statement M
 replace-spec =

@@ -17,7 +17,13 @@ same-length : tie.Need-same-length
 same-length c = search needs
 
 returns : tie.Need-returns
-returns c = taken-many (c .before .before .before .before .before .before .before .args .self) (c .before .before .before .before .before .before .before .args .list .now) _ _ _ (c .before .before .before .before .least .ensures) (c .before .before .hand-out .ensures .0) (c .before .before .hand-out .ensures .1)
+returns c =
+    let c2 = c .before .before in
+    let hand-out = c2 .hand-out in
+    let c4 = c2 .before .before in
+    let least = c4 .least in
+    let args = c4 .before .before .before .args in
+    taken-many (args .self) (args .list .now) _ _ _ (least .ensures) (hand-out .ensures .0) (hand-out .ensures .1)
 
 pub take-many-spec : {M : Type 1} → statement M
 take-many-spec = tie.close (tie.spec least-requires hand-out-requires same-length returns)

@@ -27,32 +27,47 @@ damaged-requires c κs = search needs
 
 returns : tie.Need-returns
 returns c =
-    let r = c .before .before .before .before .before in
+    let before = c .before .before .before .before .before in
+    let r = before in
     let a = r .before .before .before .before .before .before .args in
-    on-refused (a .desk) (a .i) (a .t) (a .table .now) (a .piece .now) (r .before .before .before .before .before .before .pre .1) _ (r .before .room-left .ensures) (r .read-for .result) (r .read-for .ensures) _ (c .before .enum-told .given .1) _ (c .damaged .ensures)
+    on-refused (a .desk) (a .i) (a .t) (a .table .now) (a .piece .now) (r .before .before .before .before .before .before .pre .1) _
+    (r .before .room-left .ensures) (r .read-for .result) (r .read-for .ensures) _ (c .before .enum-told .given .1) _
+    (c .damaged .ensures)
 
 slice-aggregate-append : tie.Need-slice-aggregate-append
 slice-aggregate-append c = search needs
 
 append-requires : tie.Need-append-requires
 append-requires c κs =
-    let r = c .before .before .before .before .before .before .before .before .before in
+    let c5 = c .before .before .before .before .before in
+    let ending = c5 .ending in
+    let before = c5 .before .before .before .before in
+    let r = before in
     let a = r .before .before .before .before .before .before .args in
-    let w = on-stopped (a .desk) (a .i) (a .t) (a .table .now) (a .piece .now) (r .before .before .before .before .before .before .pre .1) _ (r .before .room-left .ensures) (r .read-for .result) (r .read-for .ensures) _ (c .before .before .before .before .before .ending .given .1) in
+    let w = on-stopped (a .desk) (a .i) (a .t) (a .table .now) (a .piece .now) (r .before .before .before .before .before .before .pre .1) _
+    (r .before .room-left .ensures) (r .read-for .result) (r .read-for .ensures) _ (ending .given .1) in
     (w .fits, omega (arith, w .fits, r .read-for .ensures .long))
 
 cast-t22 : tie.Need-cast-t22
 cast-t22 c =
-    let r = c .before .before .before .before .before .before .before .before .before .before .before in
+    let c7 = c .before .before .before .before .before .before .before in
+    let ending = c7 .ending in
+    let before = c7 .before .before .before .before in
+    let r = before in
     let a = r .before .before .before .before .before .before .args in
-    let w = on-stopped (a .desk) (a .i) (a .t) (a .table .now) (a .piece .now) (r .before .before .before .before .before .before .pre .1) _ (r .before .room-left .ensures) (r .read-for .result) (r .read-for .ensures) _ (c .before .before .before .before .before .before .before .ending .given .1) in
+    let w = on-stopped (a .desk) (a .i) (a .t) (a .table .now) (a .piece .now) (r .before .before .before .before .before .before .pre .1) _
+    (r .before .room-left .ensures) (r .read-for .result) (r .read-for .ensures) _ (ending .given .1) in
     omega (arith, w .part, r .before .before .before .before .before .before .pre .1)
 
 add-t23 : tie.Need-add-t23
 add-t23 c =
-    let r = c .before .before .before .before .before .before .before .before .before .before .before .before in
+    let c8 = c .before .before .before .before .before .before .before .before in
+    let ending = c8 .ending in
+    let before = c8 .before .before .before .before in
+    let r = before in
     let a = r .before .before .before .before .before .before .args in
-    let w = on-stopped (a .desk) (a .i) (a .t) (a .table .now) (a .piece .now) (r .before .before .before .before .before .before .pre .1) _ (r .before .room-left .ensures) (r .read-for .result) (r .read-for .ensures) _ (c .before .before .before .before .before .before .before .before .ending .given .1) in
+    let w = on-stopped (a .desk) (a .i) (a .t) (a .table .now) (a .piece .now) (r .before .before .before .before .before .before .pre .1) _
+    (r .before .room-left .ensures) (r .read-for .result) (r .read-for .ensures) _ (ending .given .1) in
     omega (arith, w .part, r .before .before .before .before .before .before .pre .1)
 
 mul-t25 : tie.Need-mul-t25
@@ -63,10 +78,17 @@ element-set-from-fed c = search needs
 
 returns-2 : tie.Need-returns-2
 returns-2 c =
-    let r = c .before .before .before .before .before .before .before .before .before .before .before .before in
+    let c2 = c .before .before in
+    let append = c2 .append in
+    let c8 = c2 .before .before .before .before .before .before in
+    let ending = c8 .ending in
+    let before = c8 .before .before .before .before in
+    let r = before in
     let a = r .before .before .before .before .before .before .args in
-    let w = on-stopped (a .desk) (a .i) (a .t) (a .table .now) (a .piece .now) (r .before .before .before .before .before .before .pre .1) _ (r .before .room-left .ensures) (r .read-for .result) (r .read-for .ensures) _ (c .before .before .before .before .before .before .before .before .ending .given .1) in
-    read-on-is (a .desk) (a .i) (a .t) (a .table .now) (a .piece .now) (r .before .before .before .before .before .before .pre .1) _ (r .before .room-left .ensures) (r .read-for .result) (r .read-for .ensures) _ w _ (c .before .before .append .ensures)
+    let w = on-stopped (a .desk) (a .i) (a .t) (a .table .now) (a .piece .now) (r .before .before .before .before .before .before .pre .1) _
+    (r .before .room-left .ensures) (r .read-for .result) (r .read-for .ensures) _ (ending .given .1) in
+    read-on-is (a .desk) (a .i) (a .t) (a .table .now) (a .piece .now) (r .before .before .before .before .before .before .pre .1) _
+    (r .before .room-left .ensures) (r .read-for .result) (r .read-for .ensures) _ w _ (append .ensures)
 
 pub read-on-spec : {M : Type 1} → statement M
 read-on-spec =

@@ -20,7 +20,11 @@ under-next-requires : tie.Need-under-next-requires
 under-next-requires c κs = one-left _ _ (c .before .before .before .before .pre) (c .if1 .taken)
 
 returns : tie.Need-returns
-returns c = by-tags _ _ _ _ (c .before .before .before .before .before .pre) _ (c .before .before .before .built3 .given .1) (c .before .if1 .taken) _ (c .under-next .ensures)
+returns c =
+    let c3 = c .before .before .before in
+    let built3 = c3 .built3 in
+    let asked = c3 .before .before .pre in
+    by-tags _ _ _ _ asked _ (built3 .given .1) (c .before .if1 .taken) _ (c .under-next .ensures)
 
 returns-2 : tie.Need-returns-2
 returns-2 c = by-fault _ _ _ _ _ (c .before .built .given .1)

@@ -31,9 +31,12 @@ is-wanted-requires c κs = search needs
 
 returns : tie.Need-returns Inv-loop μ-loop
 returns c =
-    let a = c .before .before .before .before .before in
+    let c4 = c .before .before .before .before in
+    let before = c4 .before in
+    let loop = c4 .loop in
+    let a = before in
     let h : length (a .args .t1) ≡ 16 = a .good .0 .1 .0 .1 in
-    sought-here (isWanted (a .args .wanted)) (a .args .t1) (c .before .before .before .before .loop .i) (c .before .before .before .before .loop .inv .1) (omega arith)
+    sought-here (isWanted (a .args .wanted)) (a .args .t1) (loop .i) (loop .inv .1) (omega arith)
     (sym (c .before .is-wanted .ensures) ∙ c .if1 .taken)
 
 add-i : tie.Need-add-i Inv-loop μ-loop
@@ -44,10 +47,13 @@ loop-less c = search needs
 
 loop-again : tie.Need-loop-again Inv-loop μ-loop
 loop-again c =
-    let a = c .before .before .before .before .before in
+    let c4 = c .before .before .before .before in
+    let before = c4 .before in
+    let loop = c4 .loop in
+    let a = before in
     let h : length (a .args .t1) ≡ 16 = a .good .0 .1 .0 .1 in (
       omega arith,
-      sought-on (isWanted (a .args .wanted)) (a .args .t1) (c .before .before .before .before .loop .i) (c .before .before .before .before .loop .inv .1) (omega arith)
+      sought-on (isWanted (a .args .wanted)) (a .args .t1) (loop .i) (loop .inv .1) (omega arith)
           (sym (c .before .is-wanted .ensures) ∙ c .if1 .left),
     )
 

@@ -31,11 +31,19 @@ read-split-requires c κs = search needs
 
 returns : tie.Need-returns
 returns c =
-    let a = c .before .before .before .before .before .before .args in
-    let z = c .before .before .before .zeros .result in
+    let c1 = c .before in
+    let read-split = c1 .read-split in
+    let c3 = c1 .before .before in
+    let zeros = c3 .zeros in
+    let c6 = c3 .before .before .before in
+    let args = c6 .args in
+    let asked = c6 .pre in
+    let a = args in
+    let z = zeros .result in
     let h : 2 * a .room ≤ length z = omega arith in
     let e = length-take-le (2 * a .room) z h in
-    scanned (a .table .now) (a .place) (a .count) (a .piece .now) (a .room) _ z _ _ (c .before .before .before .before .before .before .pre) (c .before .before .before .zeros .ensures) e (c .before .read-split .ensures .0) (c .before .read-split .ensures .1) (c .before .read-split .kept .1 .1 .1 .1 .0)
+    scanned (a .table .now) (a .place) (a .count) (a .piece .now) (a .room) _ z _ _ asked (zeros .ensures) e (read-split .ensures .0)
+    (read-split .ensures .1) (read-split .kept .1 .1 .1 .1 .0)
 
 pub read-for-spec : {M : Type 1} → statement M
 read-for-spec =

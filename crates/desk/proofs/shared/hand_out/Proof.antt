@@ -79,9 +79,15 @@ loop-less c = search needs
 
 loop-again : tie.Need-loop-again Inv-loop μ-loop
 loop-again c =
-    let l = c .before .before .before .before .before .before .loop in
-    let a = c .before .before .before .before .before .before .before .before .args in
-    rw (c .wide .ensures) (handing-more (a .records) (a .n) (a .list .now) (l .q) (l .list) (l .j) (omega arith) (omega (arith, l .inv .count, c .before .before .before .before .before .before .before .before .pre)) (l .inv))
+    let c6 = c .before .before .before .before .before .before in
+    let loop = c6 .loop in
+    let c8 = c6 .before .before in
+    let args = c8 .args in
+    let asked = c8 .pre in
+    let l = loop in
+    let a = args in
+    rw (c .wide .ensures) (handing-more (a .records) (a .n) (a .list .now) (l .q) (l .list) (l .j) (omega arith)
+    (omega (arith, l .inv .count, asked)) (l .inv))
 
 same-length : tie.Need-same-length Inv-loop μ-loop
 same-length c = search needs

@@ -22,7 +22,11 @@ tag-bytes-requires : tie.Need-tag-bytes-requires Inv-loop μ-loop
 tag-bytes-requires c κs = search needs
 
 loop-holds : tie.Need-loop-holds Inv-loop μ-loop
-loop-holds c = (omega arith, known-start (cutAt (c .before .before .before .before .args .letters .now) (c .before .before .before .before .args .from .now) (c .before .before .before .before .args .to .now)) (c .before .before .before .before .args .t) (c .before .before .before .before .pre))
+loop-holds c =
+    let c4 = c .before .before .before .before in
+    let args = c4 .args in
+    let asked = c4 .pre in
+    (omega arith, known-start (cutAt (args .letters .now) (args .from .now) (args .to .now)) (args .t) asked)
 
 tag-bytes-requires-2 : tie.Need-tag-bytes-requires-2 Inv-loop μ-loop
 tag-bytes-requires-2 c κs = search needs
@@ -41,17 +45,36 @@ loop-less c = omega arith
 
 loop-again : tie.Need-loop-again Inv-loop μ-loop
 loop-again c =
-    let ts = cutAt (c .before .before .before .before .before .before .before .before .before .args .letters .now) (c .before .before .before .before .before .before .before .before .before .args .from .now) (c .before .before .before .before .before .before .before .before .before .args .to .now) in (
+    let c1 = c .before in
+    let shared-front = c1 .shared-front in
+    let c2 = c1 .before in
+    let tag-bytes2 = c2 .tag-bytes2 in
+    let c3 = c2 .before in
+    let loop-test = c3 .loop-test in
+    let c4 = c3 .before in
+    let loop = c4 .loop in
+    let c5 = c4 .before in
+    let tag-bytes = c5 .tag-bytes in
+    let c9 = c5 .before .before .before .before in
+    let args = c9 .args in
+    let asked = c9 .pre in
+    let ts = cutAt (args .letters .now) (args .from .now) (args .to .now) in (
       omega arith,
-      c .before .before .before .before .loop .inv .1
-          ∙ known-more ts (c .before .before .before .before .before .before .before .before .before .args .t) (c .before .before .before .before .before .before .before .before .before .pre) (c .before .before .before .before .loop .i) (c .before .before .before .before .loop .most) (c .before .shared-front .result) (c .before .before .before .before .before .tag-bytes .result .now) (c .before .before .tag-bytes2 .result .now) (c .before .before .before .loop-test .taken) (c .before .before .before .before .before .tag-bytes .ensures) (c .before .before .tag-bytes2 .ensures) (c .before .shared-front .ensures)
-          ∙ ap (λ (n : ℕ). max n (known (drop (c .before .before .before .before .loop .i + 1) (take (c .before .before .before .before .before .before .before .before .before .args .t) ts)) (getD ts (c .before .before .before .before .before .before .before .before .before .args .t) []))) (sym (c .larger .ensures)),
+      loop .inv .1
+          ∙ known-more ts (args .t) asked (loop .i) (loop .most) (shared-front .result) (tag-bytes .result .now) (tag-bytes2 .result .now)
+          (loop-test .taken) (tag-bytes .ensures) (tag-bytes2 .ensures) (shared-front .ensures)
+          ∙ ap (λ (n : ℕ). max n (known (drop (loop .i + 1) (take (args .t) ts)) (getD ts (args .t) []))) (sym (c .larger .ensures)),
     )
 
 returns : tie.Need-returns Inv-loop μ-loop
 returns c =
-    let ts = cutAt (c .before .before .before .before .before .before .args .letters .now) (c .before .before .before .before .before .before .args .from .now) (c .before .before .before .before .before .before .args .to .now) in
-    sym (c .before .loop .inv .1 ∙ known-end ts (c .before .before .before .before .before .before .args .t) (c .before .before .before .before .before .before .pre) (c .before .loop .i) (c .before .loop .most) (c .loop-test .left))
+    let c1 = c .before in
+    let loop = c1 .loop in
+    let c6 = c1 .before .before .before .before .before in
+    let args = c6 .args in
+    let asked = c6 .pre in
+    let ts = cutAt (args .letters .now) (args .from .now) (args .to .now) in
+    sym (loop .inv .1 ∙ known-end ts (args .t) asked (loop .i) (loop .most) (c .loop-test .left))
 
 pub known-front-spec : {M : Type 1} → statement M
 known-front-spec =

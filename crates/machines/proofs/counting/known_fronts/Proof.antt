@@ -36,8 +36,15 @@ loop-less c = omega arith
 
 loop-again : tie.Need-loop-again Inv-loop μ-loop
 loop-again c =
-    let ts = cutAt (c .before .before .before .before .before .before .args .letters .now) (c .before .before .before .before .before .before .args .from .now) (c .before .before .before .before .before .before .args .to .now) in
-    (omega arith, simp length-set (c .before .before .loop .inv .1), each-more (λ u. known (take u ts) (getD ts u [])) (c .before .before .loop .fronts) (c .before .before .loop .t) (c .known-front .result) (c .before .before .loop .inv .2) (omega arith) (c .known-front .ensures))
+    let c2 = c .before .before in
+    let loop = c2 .loop in
+    let args = c2 .before .before .before .before .args in
+    let ts = cutAt (args .letters .now) (args .from .now) (args .to .now) in (
+      omega arith,
+      simp length-set (loop .inv .1),
+      each-more (λ u. known (take u ts) (getD ts u [])) (loop .fronts) (loop .t)
+          (c .known-front .result) (loop .inv .2) (omega arith) (c .known-front .ensures),
+    )
 
 returns : tie.Need-returns Inv-loop μ-loop
 returns c = λ u h. c .before .loop .inv .2 u (omega arith)

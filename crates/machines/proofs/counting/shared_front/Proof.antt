@@ -27,13 +27,36 @@ loop-less : tie.Need-loop-less Inv-loop μ-loop
 loop-less c = omega arith
 
 loop-again : tie.Need-loop-again Inv-loop μ-loop
-loop-again c = (omega arith, c .before .before .before .loop .inv .1 ∙ shared-more (c .before .before .before .before .before .before .args .v .now) (c .before .before .before .before .before .before .args .w .now) (c .before .before .before .loop .i) (c .before .before .loop-test .taken) (sym (c .before .alike .ensures) ∙ c .if1 .taken))
+loop-again c =
+    let c2 = c .before .before in
+    let loop-test = c2 .loop-test in
+    let c3 = c2 .before in
+    let loop = c3 .loop in
+    let args = c3 .before .before .before .args in (
+      omega arith,
+      loop .inv .1 ∙ shared-more (args .v .now) (args .w .now) (loop .i) (loop-test .taken)
+          (sym (c .before .alike .ensures) ∙ c .if1 .taken),
+    )
 
 returns : tie.Need-returns Inv-loop μ-loop
-returns c = sym (c .before .before .before .loop .inv .1 ∙ omega (arith, shared-stop (c .before .before .before .before .before .before .args .v .now) (c .before .before .before .before .before .before .args .w .now) (c .before .before .before .loop .i) (c .before .before .loop-test .taken) (sym (c .before .alike .ensures) ∙ c .if1 .left)))
+returns c =
+    let c2 = c .before .before in
+    let loop-test = c2 .loop-test in
+    let c3 = c2 .before in
+    let loop = c3 .loop in
+    let args = c3 .before .before .before .args in
+    sym (loop .inv .1 ∙ omega (
+      arith,
+      shared-stop (args .v .now) (args .w .now) (loop .i) (loop-test .taken)
+          (sym (c .before .alike .ensures) ∙ c .if1 .left),
+    ))
 
 returns-2 : tie.Need-returns-2 Inv-loop μ-loop
-returns-2 c = sym (c .before .loop .inv .1 ∙ omega (arith, shared-end (c .before .before .before .before .args .v .now) (c .before .before .before .before .args .w .now) (c .before .loop .i) (c .loop-test .left)))
+returns-2 c =
+    let c1 = c .before in
+    let loop = c1 .loop in
+    let args = c1 .before .before .before .args in
+    sym (loop .inv .1 ∙ omega (arith, shared-end (args .v .now) (args .w .now) (loop .i) (c .loop-test .left)))
 
 pub shared-front-spec : {M : Type 1} → statement M
 shared-front-spec =

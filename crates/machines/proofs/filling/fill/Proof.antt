@@ -29,13 +29,28 @@ mul-part : tie.Need-mul-part Inv-loop μ-loop
 mul-part c = omega (arith, c .before .before .before .before .before .before .before .pre .1 .small)
 
 slice-write-part : tie.Need-slice-write-part Inv-loop μ-loop
-slice-write-part c = root-room (c .before .before .before .before .before .before .before .pre .0) (c .before .before .before .before .before .before .before .pre .1)
+slice-write-part c =
+    let asked = c .before .before .before .before .before .before .before .pre in
+    root-room (asked .0) (asked .1)
 
 loop-holds : tie.Need-loop-holds Inv-loop μ-loop
-loop-holds c = (refl, fill-start (c .before .before .before .before .before .before .before .pre .0) (c .before .before .before .before .before .before .before .pre .1) (c .before .before .before .before .before .before .before .pre .2) refl (c .vector-of .result) (c .vector-of .ensures) refl refl)
+loop-holds c =
+    let asked = c .before .before .before .before .before .before .before .pre in
+    (refl, fill-start (asked .0) (asked .1) (asked .2) refl (c .vector-of .result) (c .vector-of .ensures) refl refl)
 
 level-requires : tie.Need-level-requires Inv-loop μ-loop
-level-requires c κs = filling-on (c .before .before .before .before .before .before .before .before .before .before .before .before .before .pre .0) (c .before .before .before .before .before .before .before .before .before .before .before .before .before .pre .1) {l = c .before .before .before .before .before .loop .part} (c .before .before .before .before .before .loop .inv .0 ∙ length-set (c .before .before .before .before .before .before .before .before .before .before .before .before .before .args .part .now) (c .before .before .before .before .before .before .before .before .before .before .before .before .before .args .m) (c .before .before .before .before .before .before .vector-of .result)) (c .before .before .before .before .before .before .before .before .known-fronts .ensures) (c .before .before .before .before .before .loop .inv .1)
+level-requires c κs =
+    let c5 = c .before .before .before .before .before in
+    let loop = c5 .loop in
+    let c6 = c5 .before in
+    let vector-of = c6 .vector-of in
+    let c8 = c6 .before .before in
+    let known-fronts = c8 .known-fronts in
+    let c13 = c8 .before .before .before .before .before in
+    let args = c13 .args in
+    let asked = c13 .pre in
+    filling-on (asked .0) (asked .1) {l = loop .part} (loop .inv .0 ∙ length-set (args .part .now) (args .m) (vector-of .result))
+    (known-fronts .ensures) (loop .inv .1)
 
 add-d : tie.Need-add-d Inv-loop μ-loop
 add-d c = omega arith
@@ -44,13 +59,23 @@ loop-less : tie.Need-loop-less Inv-loop μ-loop
 loop-less c = omega arith
 
 loop-again : tie.Need-loop-again Inv-loop μ-loop
-loop-again c = (c .before .before .level .kept .1 .1 .1 .1 .1 .1 .1 .1 .0 ∙ c .before .before .before .before .before .before .before .before .loop .inv .0, c .before .before .level .ensures)
+loop-again c =
+    let c2 = c .before .before in
+    let level = c2 .level in
+    let loop = c2 .before .before .before .before .before .before .loop in
+    (level .kept .1 .1 .1 .1 .1 .1 .1 .1 .0 ∙ loop .inv .0, level .ensures)
 
 same-length : tie.Need-same-length Inv-loop μ-loop
-same-length c = c .before .loop .inv .0 ∙ length-set (c .before .before .before .before .before .before .before .before .before .args .part .now) (c .before .before .before .before .before .before .before .before .before .args .m) (c .before .before .vector-of .result)
+same-length c =
+    let c2 = c .before .before in
+    let vector-of = c2 .vector-of in
+    let args = c2 .before .before .before .before .before .before .before .args in
+    c .before .loop .inv .0 ∙ length-set (args .part .now) (args .m) (vector-of .result)
 
 returns : tie.Need-returns Inv-loop μ-loop
-returns c = fill-end (c .before .before .before .before .before .before .before .before .before .pre .0) (c .before .before .before .before .before .before .before .before .before .pre .1) (c .loop-test .left) (c .before .loop .inv .1)
+returns c =
+    let asked = c .before .before .before .before .before .before .before .before .before .pre in
+    fill-end (asked .0) (asked .1) (c .loop-test .left) (c .before .loop .inv .1)
 
 pub fill-spec : {M : Type 1} → statement M
 fill-spec =

@@ -20,7 +20,11 @@ loop-holds : tie.Need-loop-holds Inv-loop μ-loop
 loop-holds c = (omega arith, refl, c .before .before .before .before .pre .level)
 
 deepen-requires : tie.Need-deepen-requires Inv-loop μ-loop
-deepen-requires c κs = (omega (arith, c .before .before .before .before .before .before .before .before .before .pre .fit .many), filling-again (c .before .before .before .before .before .before .before .before .before .pre) (c .before .before .before .before .loop .inv .1) (c .before .before .before .before .loop .inv .2))
+deepen-requires c κs =
+    let c4 = c .before .before .before .before in
+    let loop = c4 .loop in
+    let asked = c4 .before .before .before .before .before .pre in
+    (omega (arith, asked .fit .many), filling-again asked (loop .inv .1) (loop .inv .2))
 
 add-t : tie.Need-add-t Inv-loop μ-loop
 add-t c = omega arith
@@ -29,13 +33,24 @@ loop-less : tie.Need-loop-less Inv-loop μ-loop
 loop-less c = omega arith
 
 loop-again : tie.Need-loop-again Inv-loop μ-loop
-loop-again c = (omega arith, c .before .before .deepen .kept .1 .1 .1 .1 .1 .1 .1 .1 .1 .0 ∙ c .before .before .before .before .before .before .before .loop .inv .1, c .before .before .deepen .ensures)
+loop-again c =
+    let c2 = c .before .before in
+    let deepen = c2 .deepen in
+    let loop = c2 .before .before .before .before .before .loop in
+    (omega arith, deepen .kept .1 .1 .1 .1 .1 .1 .1 .1 .1 .0 ∙ loop .inv .1, deepen .ensures)
 
 same-length : tie.Need-same-length Inv-loop μ-loop
 same-length c = c .before .loop .inv .1
 
 returns : tie.Need-returns Inv-loop μ-loop
-returns c = level-next (cutAt (c .before .before .before .before .before .before .args .letters .now) (c .before .before .before .before .before .before .args .from .now) (c .before .before .before .before .before .before .args .to .now)) (c .before .before .before .before .before .before .args .m) (c .before .before .before .before .before .before .args .d) (c .before .loop .t) (c .before .loop .at) (c .before .loop .fail) (c .before .loop .part) (c .before .loop .inv .2) (omega (arith, c .before .before .before .before .before .before .pre .fit .many))
+returns c =
+    let c1 = c .before in
+    let loop = c1 .loop in
+    let c6 = c1 .before .before .before .before .before in
+    let args = c6 .args in
+    let asked = c6 .pre in
+    level-next (cutAt (args .letters .now) (args .from .now) (args .to .now)) (args .m) (args .d) (loop .t) (loop .at) (loop .fail)
+    (loop .part) (loop .inv .2) (omega (arith, asked .fit .many))
 
 pub level-spec : {M : Type 1} → statement M
 level-spec =

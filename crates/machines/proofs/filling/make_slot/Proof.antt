@@ -35,13 +35,21 @@ add-j : tie.Need-add-j Inv-loop μ-loop
 add-j c = omega (arith, cell-small (c .before .before .before .args .m) (c .before .before .before .args .x) (c .before .before .before .pre .0) (omega arith))
 
 mul-pick : tie.Need-mul-pick Inv-loop μ-loop
-mul-pick c = omega (arith, cell-small (c .before .before .before .args .m) (c .before .before .before .args .q) (c .before .before .before .pre .0) (omega arith))
+mul-pick c =
+    let c3 = c .before .before .before in
+    let args = c3 .args in
+    let asked = c3 .pre in
+    omega (arith, cell-small (args .m) (args .q) (asked .0) (omega arith))
 
 slice-read-pick : tie.Need-slice-read-pick Inv-loop μ-loop
 slice-read-pick c = omega arith
 
 mul-pick-2 : tie.Need-mul-pick-2 Inv-loop μ-loop
-mul-pick-2 c = omega (arith, cell-small (c .before .before .before .before .args .m) (c .before .before .before .before .args .x) (c .before .before .before .before .pre .0) (omega arith))
+mul-pick-2 c =
+    let c4 = c .before .before .before .before in
+    let args = c4 .args in
+    let asked = c4 .pre in
+    omega (arith, cell-small (args .m) (args .x) (asked .0) (omega arith))
 
 slice-read-pick-2 : tie.Need-slice-read-pick-2 Inv-loop μ-loop
 slice-read-pick-2 c = omega arith
@@ -50,7 +58,11 @@ pick-requires : tie.Need-pick-requires Inv-loop μ-loop
 pick-requires c κs = search needs
 
 mul-part : tie.Need-mul-part Inv-loop μ-loop
-mul-part c = omega (arith, cell-small (c .before .before .before .before .before .before .args .m) (c .before .before .before .before .before .before .args .q) (c .before .before .before .before .before .before .pre .0) (omega arith))
+mul-part c =
+    let c6 = c .before .before .before .before .before .before in
+    let args = c6 .args in
+    let asked = c6 .pre in
+    omega (arith, cell-small (args .m) (args .q) (asked .0) (omega arith))
 
 slice-write-part : tie.Need-slice-write-part Inv-loop μ-loop
 slice-write-part c = omega arith
@@ -62,13 +74,25 @@ loop-less : tie.Need-loop-less Inv-loop μ-loop
 loop-less c = omega arith
 
 loop-again : tie.Need-loop-again Inv-loop μ-loop
-loop-again c = (omega arith, simp length-set (c .before .before .before .before .loop .inv .1), row-more (c .before .before .before .before .loop .inv .2) _ (c .before .before .before .loop-test .taken) (omega arith) (c .pick .ensures))
+loop-again c =
+    let c3 = c .before .before .before in
+    let loop-test = c3 .loop-test in
+    let loop = c3 .before .loop in
+    (omega arith, simp length-set (loop .inv .1), row-more (loop .inv .2) _ (loop-test .taken) (omega arith) (c .pick .ensures))
 
 add-i-2 : tie.Need-add-i-2 Inv-loop μ-loop
-add-i-2 c = omega (arith, cell-small (c .before .before .before .args .m) (c .before .before .before .args .q) (c .before .before .before .pre .0) (omega arith))
+add-i-2 c =
+    let c3 = c .before .before .before in
+    let args = c3 .args in
+    let asked = c3 .pre in
+    omega (arith, cell-small (args .m) (args .q) (asked .0) (omega arith))
 
 mul-part-2 : tie.Need-mul-part-2 Inv-loop μ-loop
-mul-part-2 c = omega (arith, cell-small (c .before .before .before .args .m) (c .before .before .before .args .q) (c .before .before .before .pre .0) (omega arith))
+mul-part-2 c =
+    let c3 = c .before .before .before in
+    let args = c3 .args in
+    let asked = c3 .pre in
+    omega (arith, cell-small (args .m) (args .q) (asked .0) (omega arith))
 
 slice-write-part-2 : tie.Need-slice-write-part-2 Inv-loop μ-loop
 slice-write-part-2 c = omega arith

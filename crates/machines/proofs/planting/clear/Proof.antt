@@ -30,7 +30,13 @@ loop-less : tie.Need-loop-less Inv-loop μ-loop
 loop-less c = simp length-set (omega arith)
 
 loop-again : tie.Need-loop-again Inv-loop μ-loop
-loop-again c = (simp length-set (omega arith), simp length-set (c .before .loop .inv .1), each-more (λ u. 0) (c .before .loop .part) (c .before .loop .i) 0 (c .before .loop .inv .2) (c .loop-test .taken) refl)
+loop-again c =
+    let loop = c .before .loop in (
+      simp length-set (omega arith),
+      simp length-set (loop .inv .1),
+      each-more (λ u. 0) (loop .part) (loop .i) 0 (loop .inv .2)
+          (c .loop-test .taken) refl,
+    )
 
 same-length : tie.Need-same-length Inv-loop μ-loop
 same-length c = c .before .loop .inv .1

@@ -19,7 +19,11 @@ loop-holds : tie.Need-loop-holds Inv-loop μ-loop
 loop-holds c = (omega arith, refl, c .before .before .before .before .pre .planted)
 
 plant-tag-requires : tie.Need-plant-tag-requires Inv-loop μ-loop
-plant-tag-requires c κs = (omega (arith, c .before .before .before .before .before .before .before .pre .fit .many), plant-again (c .before .before .before .before .before .before .before .pre) (c .before .before .loop .inv .1) (c .before .before .loop .inv .2))
+plant-tag-requires c κs =
+    let c2 = c .before .before in
+    let loop = c2 .loop in
+    let asked = c2 .before .before .before .before .before .pre in
+    (omega (arith, asked .fit .many), plant-again asked (loop .inv .1) (loop .inv .2))
 
 add-t : tie.Need-add-t Inv-loop μ-loop
 add-t c = omega arith
@@ -28,13 +32,23 @@ loop-less : tie.Need-loop-less Inv-loop μ-loop
 loop-less c = omega arith
 
 loop-again : tie.Need-loop-again Inv-loop μ-loop
-loop-again c = (omega arith, c .before .before .plant-tag .kept .1 .1 .1 .1 .1 .1 .0 ∙ c .before .before .before .before .before .loop .inv .1, c .before .before .plant-tag .ensures)
+loop-again c =
+    let c2 = c .before .before in
+    let plant-tag = c2 .plant-tag in
+    let loop = c2 .before .before .before .loop in
+    (omega arith, plant-tag .kept .1 .1 .1 .1 .1 .1 .0 ∙ loop .inv .1, plant-tag .ensures)
 
 same-length : tie.Need-same-length Inv-loop μ-loop
 same-length c = c .before .loop .inv .1
 
 returns : tie.Need-returns Inv-loop μ-loop
-returns c = plant-all (cutAt (c .before .before .before .before .before .before .args .letters .now) (c .before .before .before .before .before .before .args .from .now) (c .before .before .before .before .before .before .args .to .now)) (c .before .loop .t) (omega (arith, c .before .before .before .before .before .before .pre .fit .many)) (c .before .loop .inv .2)
+returns c =
+    let c1 = c .before in
+    let loop = c1 .loop in
+    let c6 = c1 .before .before .before .before .before in
+    let args = c6 .args in
+    let asked = c6 .pre in
+    plant-all (cutAt (args .letters .now) (args .from .now) (args .to .now)) (loop .t) (omega (arith, asked .fit .many)) (loop .inv .2)
 
 pub plant-spec : {M : Type 1} → statement M
 plant-spec =

@@ -28,7 +28,10 @@ same-length : tie.Need-same-length
 same-length c = search needs
 
 returns : tie.Need-returns
-returns c = rw (eq-eqb (getD (c .before .before .before .before .args .part .now) (c .before .before .before .before .args .i) 0) 0 (c .before .if1 .taken)) (refl, ap (set (c .before .before .before .before .args .part .now) (c .before .before .before .before .args .i)) (c .narrow .ensures))
+returns c =
+    let args = c .before .before .before .before .args in
+    rw (eq-eqb (getD (args .part .now) (args .i) 0) 0 (c .before .if1 .taken))
+    (refl, ap (set (args .part .now) (args .i)) (c .narrow .ensures))
 
 returns-2 : tie.Need-returns-2
 returns-2 c = rw (ne-eqb (getD (c .before .before .before .args .part .now) (c .before .before .before .args .i) 0) 0 (c .if1 .left)) (refl, refl)

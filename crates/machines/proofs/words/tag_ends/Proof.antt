@@ -32,10 +32,23 @@ loop-less : tie.Need-loop-less Inv-loop μ-loop
 loop-less c = omega arith
 
 loop-again : tie.Need-loop-again Inv-loop μ-loop
-loop-again c = (omega arith, c .both .ensures ∙ ap₂ _&&_ (c .before .before .before .loop .inv .1) (c .before .agrees .ensures) ∙ sym (ends-back (c .before .before .before .before .before .before .args .word .now) (c .before .before .before .before .before .before .args .tag .now) (c .before .before .before .loop .i) (c .before .before .loop-test .taken)))
+loop-again c =
+    let c2 = c .before .before in
+    let loop-test = c2 .loop-test in
+    let c3 = c2 .before in
+    let loop = c3 .loop in
+    let args = c3 .before .before .before .args in (
+      omega arith,
+      c .both .ensures ∙ ap₂ _&&_ (loop .inv .1) (c .before .agrees .ensures) ∙ sym
+          (ends-back (args .word .now) (args .tag .now) (loop .i) (loop-test .taken)),
+    )
 
 returns : tie.Need-returns Inv-loop μ-loop
-returns c = c .before .loop .inv .1 ∙ ends-whole (c .before .before .before .before .args .word .now) (c .before .before .before .before .args .tag .now) (c .before .loop .i) (c .loop-test .left)
+returns c =
+    let c1 = c .before in
+    let loop = c1 .loop in
+    let args = c1 .before .before .before .args in
+    loop .inv .1 ∙ ends-whole (args .word .now) (args .tag .now) (loop .i) (c .loop-test .left)
 
 pub tag-ends-spec : {M : Type 1} → statement M
 tag-ends-spec =

@@ -16,9 +16,15 @@ loop-holds c = putting-start _ _ _ _
 
 put-bit-requires : tie.Need-put-bit-requires Inv-loop μ-loop
 put-bit-requires c κs =
-    let a = c .before .before .before .before .args in
-    let l = c .before .before .loop in
-    putting-room (a .list .now) (a .from) (a .end) (a .hits) (l .list) (l .w) (l .rest) (l .tag) (l .inv) (c .before .loop-test .taken) (c .before .before .before .before .pre)
+    let c2 = c .before .before in
+    let loop = c2 .loop in
+    let c4 = c2 .before .before in
+    let args = c4 .args in
+    let asked = c4 .pre in
+    let a = args in
+    let l = loop in
+    putting-room (a .list .now) (a .from) (a .end) (a .hits) (l .list) (l .w) (l .rest) (l .tag) (l .inv) (c .before .loop-test .taken)
+    asked
 
 add-tag : tie.Need-add-tag Inv-loop μ-loop
 add-tag c = search needs
@@ -28,9 +34,17 @@ loop-less c = search needs
 
 loop-again : tie.Need-loop-again Inv-loop μ-loop
 loop-again c =
-    let a = c .before .before .before .before .before .before .before .args in
-    let l = c .before .before .before .before .before .loop in
-    putting-more (a .list .now) (a .from) (a .end) (a .hits) (l .list) (l .w) (l .rest) (l .tag) (l .inv) (c .before .before .before .before .loop-test .taken) _ _ (c .before .before .put-bit .ensures .0) (c .before .before .put-bit .ensures .1)
+    let c2 = c .before .before in
+    let put-bit = c2 .put-bit in
+    let c4 = c2 .before .before in
+    let loop-test = c4 .loop-test in
+    let c5 = c4 .before in
+    let loop = c5 .loop in
+    let args = c5 .before .before .args in
+    let a = args in
+    let l = loop in
+    putting-more (a .list .now) (a .from) (a .end) (a .hits) (l .list) (l .w) (l .rest) (l .tag) (l .inv) (loop-test .taken) _ _
+    (put-bit .ensures .0) (put-bit .ensures .1)
 
 same-length : tie.Need-same-length Inv-loop μ-loop
 same-length c = c .before .loop .inv .long

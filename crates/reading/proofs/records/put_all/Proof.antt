@@ -29,8 +29,14 @@ same-length c = search needs
 
 returns-3 : tie.Need-returns-3
 returns-3 c =
-    let a = c .before .before .before .before .before .before .before .args in
-    emit-room (a .list .now) (a .w) (a .end) (a .hits) (omega (arith, onesOf-count (a .hits) (c .before .before .before .before .before .before .before .fits .hits .fits))) _ _ (c .before .before .put .ensures .0) (c .before .before .put .ensures .1)
+    let c2 = c .before .before in
+    let put = c2 .put in
+    let c7 = c2 .before .before .before .before .before in
+    let args = c7 .args in
+    let fits = c7 .fits in
+    let a = args in
+    emit-room (a .list .now) (a .w) (a .end) (a .hits) (omega (arith, onesOf-count (a .hits) (fits .hits .fits))) _ _ (put .ensures .0)
+    (put .ensures .1)
 
 pub put-all-spec : {M : Type 1} → statement M
 put-all-spec =

@@ -38,9 +38,17 @@ same-length c = going-long _ _ _ _ _ _ _ _ _ _ _ (c .before .before .before .bef
 
 returns : tie.Need-returns Inv-loop μ-loop
 returns c =
-    let a = c .before .before .before .before .before .before .before .before .before .args in
-    let l = c .before .before .before .before .before .loop in
-    let z = whole-damaged (a .s) (a .table .now) (a .count) (a .piece .now) (a .list .now) (a .start) (l .list) (l .q) (l .w) (l .i) (l .inv) (c .before .before .before .before .loop-test .taken) (c .before .before .next-of .result) (c .before .before .next-of .ensures _) (c .before .if1 .taken) in
+    let c2 = c .before .before in
+    let next-of = c2 .next-of in
+    let c4 = c2 .before .before in
+    let loop-test = c4 .loop-test in
+    let c5 = c4 .before in
+    let loop = c5 .loop in
+    let args = c5 .before .before .before .before .args in
+    let a = args in
+    let l = loop in
+    let z = whole-damaged (a .s) (a .table .now) (a .count) (a .piece .now) (a .list .now) (a .start) (l .list) (l .q) (l .w) (l .i)
+    (l .inv) (loop-test .taken) (next-of .result) (next-of .ensures _) (c .before .if1 .taken) in
     (c .stopped-one .ensures ∙ z .0, z .1)
 
 vector-of-requires : tie.Need-vector-of-requires Inv-loop μ-loop
@@ -57,8 +65,11 @@ add-put-all-2 c = search needs
 
 put-all-requires : tie.Need-put-all-requires Inv-loop μ-loop
 put-all-requires c κs =
-    let l : length (c .before .before .before .before .before .before .loop .list) ≡ length (c .before .before .before .before .before .before .before .before .before .before .args .list .now) = going-long _ _ _ _ _ _ _ _ _ _ _ (c .before .before .before .before .before .before .loop .inv) in
-    omega (arith, c .before .before .before .before .before .before .loop .inv .fits)
+    let c6 = c .before .before .before .before .before .before in
+    let loop = c6 .loop in
+    let args = c6 .before .before .before .before .args in
+    let l : length (loop .list) ≡ length (args .list .now) = going-long _ _ _ _ _ _ _ _ _ _ _ (loop .inv) in
+    omega (arith, loop .inv .fits)
 
 enum-known-x : tie.Need-enum-known-x Inv-loop μ-loop
 enum-known-x c = search needs
@@ -71,35 +82,77 @@ stopped-one-requires-2 c κs = search needs
 
 same-length-2 : tie.Need-same-length-2 Inv-loop μ-loop
 same-length-2 c =
-    let l = c .before .before .before .before .before .before .before .before .before .before .before .before .loop in
-    emitted-long (l .list) (l .w) (c .before .before .before .before .before .before .before .before .before .before .before .before .before .before .before .before .args .count + l .i + 1) (onesOf 0 16 (c .before .before .before .before .before .before .before .vector-of .result)) _ (c .before .before .before .before .before .put-all .ensures .1) ∙ going-long _ _ _ _ _ _ _ _ _ _ _ (l .inv)
+    let c5 = c .before .before .before .before .before in
+    let put-all = c5 .put-all in
+    let c7 = c5 .before .before in
+    let vector-of = c7 .vector-of in
+    let c12 = c7 .before .before .before .before .before in
+    let loop = c12 .loop in
+    let args = c12 .before .before .before .before .args in
+    let l = loop in
+    emitted-long (l .list) (l .w) (args .count + l .i + 1) (onesOf 0 16 (vector-of .result)) _ (put-all .ensures .1) ∙ going-long _ _ _ _ _
+    _ _ _ _ _ _ (l .inv)
 
 returns-2 : tie.Need-returns-2 Inv-loop μ-loop
 returns-2 c =
-    let a = c .before .before .before .before .before .before .before .before .before .before .before .before .before .before .before .before .args in
-    let l = c .before .before .before .before .before .before .before .before .before .before .before .before .loop in
-    let z = whole-full (a .s) (a .table .now) (a .count) (a .piece .now) (a .list .now) (a .start) (l .list) (l .q) (l .w) (l .i) (l .inv) (c .before .before .before .before .before .before .before .before .before .before .before .loop-test .taken) (c .before .before .before .before .before .before .before .before .before .next-of .result) (c .before .before .before .before .before .before .before .before .before .next-of .ensures _) (c .before .before .before .before .before .before .before .before .if1 .left)
-    (c .before .before .before .before .before .before .before .vector-of .result) (c .before .before .before .before .before .before .before .vector-of .ensures _) (sym (c .before .enum-told .given .1) ∙ c .before .before .before .before .before .put-all .ensures .0) (c .before .before .before .before .before .put-all .last .0) (c .before .before .before .before .before .put-all .ensures .1) in
+    let c5 = c .before .before .before .before .before in
+    let put-all = c5 .put-all in
+    let c7 = c5 .before .before in
+    let vector-of = c7 .vector-of in
+    let c8 = c7 .before in
+    let if1 = c8 .if1 in
+    let c9 = c8 .before in
+    let next-of = c9 .next-of in
+    let c11 = c9 .before .before in
+    let loop-test = c11 .loop-test in
+    let c12 = c11 .before in
+    let loop = c12 .loop in
+    let args = c12 .before .before .before .before .args in
+    let a = args in
+    let l = loop in
+    let z = whole-full (a .s) (a .table .now) (a .count) (a .piece .now) (a .list .now) (a .start) (l .list) (l .q) (l .w) (l .i) (l .inv)
+    (loop-test .taken) (next-of .result) (next-of .ensures _) (if1 .left)
+    (vector-of .result) (vector-of .ensures _) (sym (c .before .enum-told .given .1) ∙ put-all .ensures .0) (put-all .last .0)
+    (put-all .ensures .1) in
     (c .stopped-one2 .ensures ∙ z .0, z .1)
 
 -- the byte is taken, and its records written
 took : (c : tie.After-known-told Inv-loop μ-loop)
-    → Going 8 (c .before .before .before .before .before .before .before .before .before .before .before .before .before .before .before .before .args .s) (c .before .before .before .before .before .before .before .before .before .before .before .before .before .before .before .before .args .table .now) (c .before .before .before .before .before .before .before .before .before .before .before .before .before .before .before .before .args .count) (c .before .before .before .before .before .before .before .before .before .before .before .before .before .before .before .before .args .piece .now) (c .before .before .before .before .before .before .before .before .before .before .before .before .before .before .before .before .args .list .now) (c .before .before .before .before .before .before .before .before .before .before .before .before .before .before .before .before .args .start ∷ [])
-    (c .before .before .before .before .before .put-all .last .0) (c .before .before .before .before .before .before .before .before .before .next-of .result ∷ []) (c .before .x .given .0 .0) (c .before .before .before .before .before .before .before .before .before .before .before .before .loop .i + 1)
+    → let c5 = c .before .before .before .before .before in
+    let c9 = c5 .before .before .before .before in
+    let c12 = c9 .before .before .before in
+    let args = c12 .before .before .before .before .args in
+    Going 8 (args .s) (args .table .now) (args .count) (args .piece .now) (args .list .now) (args .start ∷ [])
+    (c5 .put-all .last .0) (c9 .next-of .result ∷ []) (c .before .x .given .0 .0) (c12 .loop .i + 1)
 took c =
-    let a = c .before .before .before .before .before .before .before .before .before .before .before .before .before .before .before .before .args in
-    let l = c .before .before .before .before .before .before .before .before .before .before .before .before .loop in
-    whole-took (a .s) (a .table .now) (a .count) (a .piece .now) (a .list .now) (a .start) (l .list) (l .q) (l .w) (l .i) (l .inv) (c .before .before .before .before .before .before .before .before .before .before .before .loop-test .taken)
-    (c .before .before .before .before .before .before .before .before .before .next-of .result) (c .before .before .before .before .before .before .before .before .before .next-of .ensures _) (c .before .before .before .before .before .before .before .before .if1 .left) (c .before .before .before .before .before .before .before .vector-of .result) (c .before .before .before .before .before .before .before .vector-of .ensures _)
-    _ (sym (c .before .x .given .1) ∙ c .before .before .before .before .before .put-all .ensures .0) _ (c .before .before .before .before .before .put-all .ensures .1)
+    let c5 = c .before .before .before .before .before in
+    let put-all = c5 .put-all in
+    let c7 = c5 .before .before in
+    let vector-of = c7 .vector-of in
+    let c8 = c7 .before in
+    let if1 = c8 .if1 in
+    let c9 = c8 .before in
+    let next-of = c9 .next-of in
+    let c11 = c9 .before .before in
+    let loop-test = c11 .loop-test in
+    let c12 = c11 .before in
+    let loop = c12 .loop in
+    let args = c12 .before .before .before .before .args in
+    let a = args in
+    let l = loop in
+    whole-took (a .s) (a .table .now) (a .count) (a .piece .now) (a .list .now) (a .start) (l .list) (l .q) (l .w) (l .i) (l .inv)
+    (loop-test .taken)
+    (next-of .result) (next-of .ensures _) (if1 .left) (vector-of .result) (vector-of .ensures _)
+    _ (sym (c .before .x .given .1) ∙ put-all .ensures .0) _ (put-all .ensures .1)
 
 add-i : tie.Need-add-i Inv-loop μ-loop
 add-i c = search needs
 
 pass-whole-requires : tie.Need-pass-whole-requires Inv-loop μ-loop
 pass-whole-requires c κs =
+    let asked = c .before .before .before .before .before .before .before .before .before .before .before .before .before .before .before .before .before .pre in
     let g = took (c .before) in
-    (c .before .before .before .before .before .before .before .before .before .before .before .before .before .before .before .before .before .pre .0, (one-below _ _ (g .below), g .most))
+    (asked .0, (one-below _ _ (g .below), g .most))
 
 loop-less : tie.Need-loop-less Inv-loop μ-loop
 loop-less c = omega (arith, c .pass-whole .ensures .low)
@@ -121,9 +174,13 @@ same-length-3 c = going-long _ _ _ _ _ _ _ _ _ _ _ (c .before .before .loop .inv
 
 returns-3 : tie.Need-returns-3 Inv-loop μ-loop
 returns-3 c =
-    let a = c .before .before .before .before .before .before .args in
-    let l = c .before .before .loop in
-    let z = whole-all (a .s) (a .table .now) (a .count) (a .piece .now) (a .list .now) (a .start) (l .list) (l .q) (l .w) (l .i) (l .inv) (c .before .loop-test .left) in
+    let c2 = c .before .before in
+    let loop = c2 .loop in
+    let args = c2 .before .before .before .before .args in
+    let a = args in
+    let l = loop in
+    let z = whole-all (a .s) (a .table .now) (a .count) (a .piece .now) (a .list .now) (a .start) (l .list) (l .q) (l .w) (l .i) (l .inv)
+    (c .before .loop-test .left) in
     (c .stopped-one3 .ensures ∙ z .0, z .1)
 
 pub on-whole-spec : {M : Type 1} → statement M
