@@ -1,0 +1,43 @@
+#!/usr/bin/env bash
+# What the pages say is there, is there: each `name` before a (`file`) stands in that file, each must-fail edit has its row
+# in docs/WRONG.md and each row its edit, and each link of a page leads to a file.
+set -euo pipefail
+cd "$(dirname "$0")/.."
+
+bad=0
+say() { printf 'pages: %s\n' "$1" >&2; bad=1; }
+
+# names and the file they are said to stand in, one pair a line
+cited() {
+  perl -ne '
+    my @names;
+    while (/\(`([^`]*\.(?:antt|rt|rs|h|sh))`|`([^`]+)`|([;|)])/g) {
+      if (defined $1) { print "$_\t$1\n" for @names; print "\t$1\n" unless @names }
+      elsif (defined $2) { my $n = $2; $n =~ s/^.*:://; $n =~ s/^\.//; push @names, $n if $n =~ /^[\w-]+$/ }
+      else { @names = () }
+    }' "$@"
+}
+
+while IFS=$'\t' read -r name file; do
+  path=$file
+  [[ -f $path ]] || path=crates/$file
+  if [[ ! -f $path ]]; then
+    say "no file $file"
+  elif [[ -n $name ]] && ! grep -qF -- "$name" "$path"; then
+    say "no $name in $file"
+  fi
+done < <(cited docs/PROMISES.md docs/WRONG.md docs/ARCHITECTURE.md docs/DECISIONS.md)
+
+for edit in crates/*/must-fail/*.edit; do
+  name=$(basename "$edit" .edit)
+  grep -qF "\`$name\`" docs/WRONG.md || say "no row for $edit in docs/WRONG.md"
+done
+
+for page in README.md docs/*.md; do
+  while read -r link; do
+    [[ -e $(dirname "$page")/$link ]] || say "$page links to $link, which is not there"
+  done < <(perl -ne 'print "$1\n" while /\]\(([^)#:]+)\)/g' "$page")
+done
+
+((bad == 0))
+printf 'pages: every name, edit and link is there\n'
