@@ -1,52 +1,46 @@
--- The bench samples of document 01 that are to be proved, together, each by its number; all are computed from the definitions.
-use Prim.Native.Nat.{_%_, ℕ}
-use mathlib.Core.List.{List, [], _∷_, map}
+-- The bench samples of document 01, together, each by its number; all are computed from the definitions.
+use Rattle.matching.specs.declared.Stop.the-variants as S
+use Rattle.desk.specs.declared.CloseAnswer.the-variants as C
+use Rattle.desk.specs.declared.FeedAnswer.the-variants as F
+use Rattle.tables.specs.declared.Built.the-variants as B
+use Rattle.tagset.specs.declared.SetFault.the-variants as D
+use Prim.Native.Nat.{_%_, _*_, ℕ}
+use mathlib.Core.List.{List, [], _++_, _∷_, map}
 use mathlib.Core.Path.{_≡_, refl}
-use lib.ListN.{getD, replicate}
+use lib.ListN.{getD}
+use Rattle.desk.specs.Calls.{closeOf, openOf, takeOf}
+use Rattle.desk.specs.Feed.{feedOf}
+use Rattle.desk.specs.Replace.{replaceOf, replacedRun}
+use Rattle.desk.specs.Rooms.{editionOf, firstRoom, roomOf, serialOf}
+use Rattle.desk.specs.Shared.{pushAll, round}
+use Rattle.history.specs.History.{actFeed, actOpen, onSerial, run, start, stream}
 use Rattle.matching.specs.Machine.{longest, next, prefixes, states, vector, vectorBy, walk, withPrefixes, withTags, withWord}
-use Rattle.matching.specs.Occurrence.{Occurrence, numbersWhere, occurAt, occurrences, occurrencesFrom, tagsEnding}
+use Rattle.matching.specs.Occurrence.{numbersWhere, occurAt, occurrences, occurrencesFrom, tagsEnding}
 use Rattle.matching.specs.Reading.{allBelow, flagged, halted, nexts, onesOf, read, tookByte, vectorsAt}
 use Rattle.matching.specs.Slicing.{anded, reduced, slice}
-use Rattle.matching.specs.Table.{built, enoughSlots, laid, roomFrom, shortOfSlots, slot, slots, spot, tagsFor}
-use Rattle.matching.specs.Words.{Word, among, ends, indexOf, same}
-use Rattle.matching.specs.declared.Stop.the-variants.{All, Full}
-
--- he, she, his, hers
-abbrev pub tags : List Word
-tags = (104 ∷ 101 ∷ []) ∷ (115 ∷ 104 ∷ 101 ∷ []) ∷ (104 ∷ 105 ∷ 115 ∷ []) ∷ (104 ∷ 101 ∷ 114 ∷ 115 ∷ []) ∷ []
-
--- a, aa
-abbrev pub one-two : List Word
-one-two = (97 ∷ []) ∷ (97 ∷ 97 ∷ []) ∷ []
-
--- aa
-abbrev pub two : List Word
-two = (97 ∷ 97 ∷ []) ∷ []
-
--- the records with these ends and tags
-abbrev pub at : ℕ → ℕ → Occurrence
-at end tag = record { end = end; tag = tag }
-
--- the split table that building leaves of tags, with s slots a machine, and where reading starts
-abbrev pub split : ℕ → List Word → List ℕ
-split s ts = built 1 8 s ts
-
-abbrev pub startPlace : List ℕ
-startPlace = replicate 8 0
+use Rattle.matching.specs.Table.{built, laid, roomFrom, slot, slots, spot, tagsFor}
+use Rattle.matching.specs.Words.{among, ends, indexOf, same}
+use Rattle.samples.specs.Sets.{a-record, acts-254, acts-255, acts-closed, acts-half, acts-open, asSet, at, ers, hishers, hx, later, long, one-two, singles, split, startPlace, tags, two, ush, ushers}
+use Rattle.tables.specs.Building.{builtOf, tableOf}
+use Rattle.tagset.specs.Grammar.{distinct, entriesFrom, entryOf, goodSet, badSet, setOf}
 
 -- after "hx" each bit machine is in a state: that state's vector, as the table has it, for machines 0 to 7
 abbrev pub vectorsAfter-hx : List ℕ
-vectorsAfter-hx = vectorsAt 1 10 (split 10 tags) 0 (read 1 10 (split 10 tags) startPlace 0 0 (104 ∷ 120 ∷ []) .place)
+vectorsAfter-hx = vectorsAt 1 10 (split 10 tags) 0 (read 1 10 (split 10 tags) startPlace 0 0 hx .place)
 
-pub record Samples : Type 0 where
+-- of the machines and of reading
+pub record OfReading : Type 0 where
+  -- the tag "he" as a set
+  pub example : asSet ((104 ∷ 101 ∷ []) ∷ []) ≡ 2 ∷ 0 ∷ 1 ∷ 0 ∷ 104 ∷ 101 ∷ []
   -- 1: the whole-byte machine has 10 states, and "hxhe" goes 0, 1, 0, 1, 2
   pub sample-1-states : states tags ≡ 10
-  pub sample-1-walk : map (walk (prefixes tags) 0) ([] ∷ (104 ∷ []) ∷ (104 ∷ 120 ∷ []) ∷ (104 ∷ 120 ∷ 104 ∷ []) ∷ (104 ∷ 120 ∷ 104 ∷ 101 ∷ []) ∷ []) ≡ 0 ∷ 1 ∷ 0 ∷ 1 ∷ 2 ∷ []
+  pub sample-1-walk : map (walk (prefixes tags) 0) ([] ∷ (104 ∷ []) ∷ hx ∷ (104 ∷ 120 ∷ 104 ∷ []) ∷ (104 ∷ 120 ∷ 104 ∷ 101 ∷ []) ∷ [])
+      ≡ 0 ∷ 1 ∷ 0 ∷ 1 ∷ 2 ∷ []
   -- 2: the states of bit machines 0 to 7
   pub sample-2 : map (λ m. states (tagsFor 1 tags m)) (0 ∷ 1 ∷ 2 ∷ 3 ∷ 4 ∷ 5 ∷ 6 ∷ 7 ∷ []) ≡ 9 ∷ 8 ∷ 8 ∷ 10 ∷ 8 ∷ 5 ∷ 5 ∷ 5 ∷ []
   -- 3: the occurrences in "hishers", and what reading it gives
-  pub sample-3 : occurrences tags (104 ∷ 105 ∷ 115 ∷ 104 ∷ 101 ∷ 114 ∷ 115 ∷ []) ≡ at 3 2 ∷ at 5 0 ∷ at 5 1 ∷ at 7 3 ∷ []
-  pub sample-3-read : read 1 10 (split 10 tags) startPlace 0 4 (104 ∷ 105 ∷ 115 ∷ 104 ∷ 101 ∷ 114 ∷ 115 ∷ []) .found ≡ at 3 2 ∷ at 5 0 ∷ at 5 1 ∷ at 7 3 ∷ []
+  pub sample-3 : occurrences tags hishers ≡ at 3 2 ∷ at 5 0 ∷ at 5 1 ∷ at 7 3 ∷ []
+  pub sample-3-read : read 1 10 (split 10 tags) startPlace 0 4 hishers .found ≡ at 3 2 ∷ at 5 0 ∷ at 5 1 ∷ at 7 3 ∷ []
   -- 4: after "hx", machine 7 flags tag 0, machine 3 doesn't, and the AND is empty
   pub sample-4-seven : getD vectorsAfter-hx 7 0 % 2 ≡ 1
   pub sample-4-three : getD vectorsAfter-hx 3 0 % 2 ≡ 0
@@ -58,32 +52,91 @@ pub record Samples : Type 0 where
   pub sample-6 : occurrences two (97 ∷ 97 ∷ 97 ∷ 97 ∷ []) ≡ at 2 0 ∷ at 3 0 ∷ at 4 0 ∷ []
   pub sample-6-read : read 1 3 (split 3 two) startPlace 0 3 (97 ∷ 97 ∷ 97 ∷ 97 ∷ []) .found ≡ at 2 0 ∷ at 3 0 ∷ at 4 0 ∷ []
   -- 7: an empty piece, over any table, from any place and count
-  pub sample-7 : (n s : ℕ) (table place : List ℕ) (count room : ℕ) → read n s table place count room [] ≡ record { taken = 0; place = place; stop = All; found = [] }
+  pub sample-7 : (n s : ℕ) (table place : List ℕ) (count room : ℕ) → read n s table place count room []
+      ≡ record { taken = 0; place = place; stop = S.All; found = [] }
   -- 8: nine slots are one too few for machine 3, ten are enough
-  pub sample-8-short : roomFrom 1 9 tags 0 8 ≡ shortOfSlots 3 10
-  pub sample-8-enough : roomFrom 1 10 tags 0 8 ≡ enoughSlots
-  -- 9: tags a, aa on "aa", with room for two records
-  pub sample-9-read : read 1 3 (split 3 one-two) startPlace 0 2 (97 ∷ 97 ∷ []) ≡ record { taken = 1; place = replicate 8 1; stop = Full; found = at 1 0 ∷ [] }
+  pub sample-8-short : builtOf 1 8 (asSet tags) (9 * 24) ≡ B.Table 3 10
+  pub sample-8-enough : builtOf 1 8 (asSet tags) (10 * 24) ≡ B.Tags 4
+  -- 11: 16 tags and a length of 32 are accepted, a 17th is MANY and 33 LENGTH
+  pub sample-11-tags : setOf (asSet (singles 16)) ≡ goodSet (singles 16)
+  pub sample-11-many : setOf (asSet (singles 17)) ≡ badSet (D.Many 16)
+  pub sample-11-length : setOf (asSet (long 32)) ≡ goodSet (long 32)
+  pub sample-11-long : setOf (asSet (long 33)) ≡ badSet (D.Length 0)
+
+-- of the desk
+pub record OfDesk : Type 0 where
+  -- 9: 254 records held, tags a, aa, piece "aa"
+  pub sample-9-held : run start acts-254 .desk .records .count ≡ 254
+  pub sample-9 : feedOf (run start acts-254 .desk) (serialOf 3) (run start acts-254 .table) (97 ∷ 97 ∷ []) .answer ≡ F.Fed 1 1 S.Full
+  -- 10: with 255 held a byte with one match is taken, and one with two is not
+  pub sample-10-held : run start acts-255 .desk .records .count ≡ 255
+  pub sample-10-one : feedOf (run start acts-255 .desk) (serialOf 3) (run start acts-255 .table) (97 ∷ []) .answer ≡ F.Fed 1 1 S.All
+  pub sample-10-two : feedOf (run start acts-255 .desk) (serialOf 4) (run start acts-255 .table) (97 ∷ []) .answer ≡ F.Fed 0 0 S.Full
+  -- 12: "ush" then "ers" gives the records of "ushers"
+  pub sample-12 : stream (run start (acts-open ++ actFeed (serialOf 1) ush ∷ actFeed (serialOf 1) ers ∷ []))
+      ≡ stream (run start (acts-open ++ actFeed (serialOf 1) ushers ∷ []))
+  pub sample-12-records : stream (run start (acts-open ++ actFeed (serialOf 1) ushers ∷ []))
+      ≡ a-record 1 1 4 0 ∷ a-record 1 1 4 1 ∷ a-record 1 1 6 3 ∷ []
+  -- 13: replaced by the same set again, the old ticket is STALE
+  pub sample-13 : feedOf (run start (acts-half tags) .desk) (serialOf 1) (run start (acts-half tags) .table) ers .answer ≡ F.Stale (editionOf 1)
+  -- 14: a closed serial is NO TICKET, and its room serves the next opening
+  pub sample-14-feed : feedOf (run start acts-closed .desk) (serialOf 1) (run start acts-closed .table) ush .answer ≡ F.NoTicket
+  pub sample-14-close : closeOf (run start acts-closed .desk) (serialOf 1) .answer ≡ C.NoTicket
+  pub sample-14-room : roomOf (run start acts-closed .desk .tickets) (serialOf 2) ≡ 0
+
+-- the incident: another set comes while an approval is half read
+pub record Incident : Type 0 where
+  -- the rest of it is refused, with the edition of its ticket
+  pub refused : feedOf (run start (acts-half later) .desk) (serialOf 1) (run start (acts-half later) .table) ers .answer ≡ F.Stale (editionOf 1)
+  -- read again from its opening, it gives the records of the new set, under the new edition, and none under the old ticket
+  pub again : stream (run start (acts-half later ++ actFeed (serialOf 1) ers ∷ actOpen ∷ actFeed (serialOf 2) ushers ∷ []))
+      ≡ a-record 2 2 2 0 ∷ a-record 2 2 2 1 ∷ a-record 2 2 6 0 ∷ []
+
+pub record Samples : Type 0 where
+  pub of-reading : OfReading
+  pub of-desk : OfDesk
+  pub incident : Incident
 
 -- THE SAMPLES
 pub samples : Samples
-unfolding same among ends indexOf withWord withPrefixes withTags prefixes states longest next walk vectorBy vector slice reduced anded
+unfolding asSet singles same among ends indexOf withWord withPrefixes withTags prefixes states longest next walk vectorBy vector slice reduced anded
     spot laid slot slots built roomFrom numbersWhere tagsEnding occurAt occurrencesFrom nexts vectorsAt onesOf flagged allBelow halted tookByte read
+    entryOf entriesFrom distinct setOf builtOf tableOf firstRoom pushAll openOf closeOf takeOf replaceOf replacedRun feedOf onSerial run round
 samples = record {
-  sample-1-states = refl;
-  sample-1-walk = refl;
-  sample-2 = refl;
-  sample-3 = refl;
-  sample-3-read = refl;
-  sample-4-seven = refl;
-  sample-4-three = refl;
-  sample-4-and = refl;
-  sample-5 = refl;
-  sample-5-read = refl;
-  sample-6 = refl;
-  sample-6-read = refl;
-  sample-7 = λ n s table place count room. refl;
-  sample-8-short = refl;
-  sample-8-enough = refl;
-  sample-9-read = refl;
+  of-reading = record {
+    example = refl;
+    sample-1-states = refl;
+    sample-1-walk = refl;
+    sample-2 = refl;
+    sample-3 = refl;
+    sample-3-read = refl;
+    sample-4-seven = refl;
+    sample-4-three = refl;
+    sample-4-and = refl;
+    sample-5 = refl;
+    sample-5-read = refl;
+    sample-6 = refl;
+    sample-6-read = refl;
+    sample-7 = λ n s table place count room. refl;
+    sample-8-short = refl;
+    sample-8-enough = refl;
+    sample-11-tags = refl;
+    sample-11-many = refl;
+    sample-11-length = refl;
+    sample-11-long = refl;
+  };
+  of-desk = record {
+    sample-9-held = refl;
+    sample-9 = refl;
+    sample-10-held = refl;
+    sample-10-one = refl;
+    sample-10-two = refl;
+    sample-12 = refl;
+    sample-12-records = refl;
+    sample-13 = refl;
+    sample-14-feed = refl;
+    sample-14-close = refl;
+    sample-14-room = refl;
+  };
+  incident = record { refused = refl; again = refl };
 }
