@@ -7,18 +7,18 @@ cd "$(dirname "$0")/.."
 bad=0
 say() { printf 'pages: %s\n' "$1" >&2; bad=1; }
 
-# names and the file they are said to stand in, one pair a line
+# each file and a name that is said to stand in it, one pair a line
 cited() {
   perl -ne '
     my @names;
     while (/\(`([^`]*\.(?:antt|rt|rs|h|sh))`|`([^`]+)`|([;|)])/g) {
-      if (defined $1) { print "$_\t$1\n" for @names; print "\t$1\n" unless @names }
+      if (defined $1) { print "$1\t$_\n" for @names; print "$1\t\n" unless @names }
       elsif (defined $2) { my $n = $2; $n =~ s/^.*:://; $n =~ s/^\.//; push @names, $n if $n =~ /^[\w-]+$/ }
       else { @names = () }
     }' "$@"
 }
 
-while IFS=$'\t' read -r name file; do
+while IFS=$'\t' read -r file name; do
   path=$file
   [[ -f $path ]] || path=crates/$file
   if [[ ! -f $path ]]; then
@@ -26,7 +26,7 @@ while IFS=$'\t' read -r name file; do
   elif [[ -n $name ]] && ! grep -qF -- "$name" "$path"; then
     say "no $name in $file"
   fi
-done < <(cited docs/PROMISES.md docs/WRONG.md docs/ARCHITECTURE.md docs/DECISIONS.md)
+done < <(cited docs/PROMISES.md docs/WRONG.md)
 
 for edit in crates/*/must-fail/*.edit; do
   name=$(basename "$edit" .edit)
