@@ -1,6 +1,6 @@
 -- Refusals in their order (document 01, 'When the desk says no'): each is given exactly if its condition holds and none earlier does.
 use Prim.Native.Nat.{ℕ}
-use mathlib.Core.Bool.{Bool, true, false, cond}
+use mathlib.Core.Bool.{Bool, cond}
 use mathlib.Core.List.{List, [], _∷_}
 
 -- a ground for refusing: its number in the document's table, and whether its condition holds

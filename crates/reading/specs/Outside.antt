@@ -1,16 +1,15 @@
 -- A read outside the desk: over any table, from any place and count, into a lent list of numbers.
-use Prim.Native.Nat.{ℕ, zero, suc, _+_, _/_}
+use Prim.Native.Nat.{ℕ, _+_, _/_}
 use mathlib.Core.Bool.{Bool, true, false}
-use mathlib.Core.List.{List, [], _∷_, _++_}
+use mathlib.Core.List.{List, [], _++_}
 use lib.Dec.{ltb}
 use lib.ListN.{length, getD, drop}
 use Rattle.matching.specs.Words.{Word}
 use Rattle.matching.specs.Table.{slotsIn}
-use Rattle.matching.specs.Occurrence.{Occurrence, flat}
+use Rattle.matching.specs.Occurrence.{flat}
 use Rattle.matching.specs.Reading.{Outcome, read, allBelow}
 use Rattle.reading.specs.declared.ReadRefusal.{ReadRefusal}
 use Rattle.reading.specs.declared.ReadRefusal.the-variants.{Place, Long}
-use Rattle.reading.specs.declared.Ending.{Ending}
 use Rattle.reading.specs.declared.Ending.the-variants.{Stopped, Refused}
 use Rattle.reading.specs.declared.SplitAnswer.{SplitAnswer}
 use Rattle.reading.specs.declared.WholeAnswer.{WholeAnswer}

@@ -1,6 +1,6 @@
 -- Building a table for a slicing of n bits and k machines, from the bytes of a set, over a lent run of numbers.
 use Prim.Native.Nat.{ℕ, zero, suc, _*_, max}
-use mathlib.Core.Bool.{Bool, true, false, cond}
+use mathlib.Core.Bool.{cond}
 use mathlib.Core.List.{List, [], _∷_, _++_}
 use lib.Dec.{eqb}
 use lib.ListN.{length, drop}
@@ -9,7 +9,6 @@ use Rattle.matching.specs.Machine.{states}
 use Rattle.matching.specs.Table.{slotSize, slotsIn, tagsFor, built, Room, enoughSlots, shortOfSlots, roomFrom}
 use Rattle.tagset.specs.Grammar.{SetOf, goodSet, badSet, setOf}
 use Rattle.tagset.specs.Answer.{faultNumber, faultValues}
-use Rattle.tagset.specs.declared.SetFault.{SetFault}
 use Rattle.tables.specs.declared.Built.{Built}
 use Rattle.tables.specs.declared.Built.the-variants as B
 use Rattle.tables.specs.declared.Needed.{Needed}

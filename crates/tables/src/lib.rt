@@ -6,7 +6,7 @@ ghost use Prim.Native.Nat.{ℕ, _+_, _*_, _<_, _≤_};
 ghost use lib.ListN.{length, drop};
 ghost use Rattle.matching.specs.Words.{Word};
 ghost use Rattle.matching.specs.Machine.{states};
-ghost use Rattle.matching.specs.Table.{slotSize, slotsIn, tagsFor, built, roomFrom};
+ghost use Rattle.matching.specs.Table.{slotSize, tagsFor, built, roomFrom};
 ghost use Rattle.tagset.specs.Answer.{cutAt};
 ghost use Rattle.tables.specs.Building.{machineName, builtBy, builtOf, tableOf, mostStates, neededOf};
 ghost use Rattle.machines.specs.Rows.{Filled};

@@ -1,9 +1,9 @@
 -- What reading a set answers, and the document's number and values of each fault.
-use Prim.Native.Nat.{ℕ, zero, suc, _+_, _-_}
+use Prim.Native.Nat.{ℕ, _+_, _-_}
 use mathlib.Core.List.{List, [], _∷_, _++_}
 use lib.ListN.{length, replicate, take, drop}
 use Rattle.matching.specs.Words.{Word}
-use Rattle.tagset.specs.Grammar.{EntryOf, wholeTag, atFault, SetOf, goodSet, badSet, setOf}
+use Rattle.tagset.specs.Grammar.{EntryOf, wholeTag, atFault, SetOf, goodSet, badSet}
 use Rattle.tagset.specs.declared.SetFault.{SetFault}
 use Rattle.tagset.specs.declared.SetFault.the-variants.{Cut, Many, Kind, Length, Empty, Repeat}
 use Rattle.tagset.specs.declared.Tags.{Tags}
