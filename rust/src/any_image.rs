@@ -76,7 +76,7 @@ impl Random {
             _ if self.below(100) == 0 => self.next() as u16,
             _ => self.below(slots.max(1)) as u16,
         };
-        (0..length).map(|at| number(at)).collect()
+        (0..length).map(&mut number).collect()
     }
 }
 

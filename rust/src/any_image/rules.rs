@@ -127,7 +127,7 @@ fn stepped(table: &[u16], place: [u16; 8], byte: u8) -> Option<([u16; 8], u16)> 
         }
     }
     let lawful = after.iter().all(|next| usize::from(*next) < slots);
-    lawful.then(|| (after, vector))
+    lawful.then_some((after, vector))
 }
 
 fn push(image: &mut Image, room: usize, tag: u8) {
