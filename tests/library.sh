@@ -44,6 +44,9 @@ fi
 grep -q "there is no archive at $out/nowhere/libsleet.a" <<<"$said"
 grep -q 'Run ./library' <<<"$said"
 
+note 'docs/EMBEDDING.md, followed as a new user would'
+env -u CARGO_TARGET_DIR SLEETBARLEY="$PWD" tests/library/follow.sh docs/EMBEDDING.md
+
 note "generated scripts: the library's answers and the second program's"
 cargo build --quiet --release --manifest-path second/Cargo.toml
 cargo test --quiet --release --manifest-path tests/replay/Cargo.toml
