@@ -1,14 +1,16 @@
 //! Links libsleet.a: from the folder that SLEET_LIB_DIR names, else from where `./library` puts it.
 
 use std::env::{var, var_os};
-use std::path::{Path, PathBuf};
+use std::path::PathBuf;
 
 fn main() {
     println!("cargo:rerun-if-changed=build.rs");
     println!("cargo:rerun-if-env-changed=SLEET_LIB_DIR");
+    // This crate stands in the repository's folder rust, beside target.
+    let crate_folder = PathBuf::from(var_os("CARGO_MANIFEST_DIR").unwrap_or_default());
     let folder = match var_os("SLEET_LIB_DIR") {
-        Some(named) => PathBuf::from(named),
-        None => Path::new(env!("CARGO_MANIFEST_DIR")).join("../target/library/lib"),
+        Some(named) => crate_folder.join(named),
+        None => crate_folder.with_file_name("target").join("library/lib"),
     };
     let archive = folder.join("libsleet.a");
     println!("cargo:rerun-if-changed={}", archive.display());
@@ -18,7 +20,7 @@ fn main() {
     if !archive.is_file() {
         give_up(&format!(
             "there is no archive at {}.\nRun ./library at the root of the Sleetbarley repository, \
-             which proves and builds it,\nor set SLEET_LIB_DIR to the folder that has libsleet.a.",
+             which proves and builds it,\nor set SLEET_LIB_DIR to the full path of the folder that has libsleet.a.",
             archive.display()
         ));
     }

@@ -23,6 +23,12 @@ for example in approvals replay; do
 done
 "$out/approvals-checked" | same examples/c/approvals.out 'the checked C example'
 
+note 'the header in C++'
+echo '#include <sleet.h>
+int main() { sleet_desk desk = sleet_desk_new(); return sleet_open(&desk).refusal != SLEET_REFUSED_NO_SET; }' |
+  c++ -x c++ -std=c++11 -Wall -Wextra -Wpedantic -Wconversion -Werror - -x none $flags -o "$out/in-cpp"
+"$out/in-cpp"
+
 note 'one version in the pkg-config file and the crate'
 version=$(PKG_CONFIG_PATH=$out/lib/pkgconfig pkg-config --modversion sleet)
 grep -qx "version = \"$version\"" rust/Cargo.toml

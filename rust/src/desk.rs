@@ -14,7 +14,7 @@ const MOST_SLOTS: usize = 513;
 /// all, and the table of the set in force.
 ///
 /// The table is the desk's own, and only an accepted replacement writes it, so every feed reads
-/// over the table of the set in force. Hence, by theorems about the archive's code:
+/// over the table of the set in force. Hence, by the theorems that `docs/PROMISES.md` names:
 ///
 /// - a ticket's records are exactly the occurrences, in the bytes taken for it, of the tags of the
 ///   set under which it was opened, wherever its pieces are cut;
@@ -29,7 +29,7 @@ const MOST_SLOTS: usize = 513;
 /// assert_eq!((replaced.edition, replaced.tags), (Edition(1), 4));
 ///
 /// let serial = desk.open()?;
-/// desk.feed(serial, b"ush")?;
+/// assert_eq!(desk.feed(serial, b"ush")?.taken, 3);
 /// assert_eq!(desk.feed(serial, b"ers")?.stop, Stop::All);
 /// let ends: Vec<(u32, Tag)> = desk.drain().map(|r: Record| (r.end, r.tag)).collect();
 /// assert_eq!(ends, [(4, Tag(0)), (4, Tag(1)), (6, Tag(3))]);

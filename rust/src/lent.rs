@@ -24,7 +24,7 @@ pub const SPLIT_START: [u16; 8] = [0; 8];
 /// The place at which a reading over a whole-byte table starts.
 pub const WHOLE_START: u16 = 0;
 
-/// A desk that is lent its table at each call.
+/// A desk that is lent its table at each call. Two are equal where every number in them is.
 ///
 /// ```
 /// use sleetbarley::lent::{LentDesk, SPLIT_TABLE};
