@@ -1,0 +1,204 @@
+//! The desk that owns its table.
+
+use crate::lent::{LentDesk, SPLIT_SLOT, SPLIT_TABLE};
+use crate::numbers::{Edition, Fed, Record, Replaced, Serial, Stop, Tag, Ticket};
+use crate::refusal::Refusal;
+use std::fmt::{self, Debug, Formatter};
+
+/// Records that a desk holds at most.
+const MOST_RECORDS: usize = 256;
+/// Slots beyond these are never used.
+const MOST_SLOTS: usize = 513;
+
+/// A desk: up to 16 tickets that are read side by side, one list of up to 256 records shared by
+/// all, and the table of the set in force.
+///
+/// The table is the desk's own, and only an accepted replacement writes it, so every feed reads
+/// over the table of the set in force. Hence, by the theorems that `docs/PROMISES.md` names:
+///
+/// - a ticket's records are exactly the occurrences, in the bytes taken for it, of the tags of the
+///   set under which it was opened, wherever its pieces are cut;
+/// - after a replacement an older ticket takes no byte more;
+/// - with the list empty, a piece that isn't empty and isn't refused advances by a byte at least.
+///
+/// ```
+/// use sleetbarley::{Desk, Edition, Record, Refusal, Stop, Tag, TagSet};
+///
+/// let mut desk = Desk::new();
+/// let replaced = desk.replace(TagSet::new(["he", "she", "his", "hers"])?)?;
+/// assert_eq!((replaced.edition, replaced.tags), (Edition(1), 4));
+///
+/// let serial = desk.open()?;
+/// assert_eq!(desk.feed(serial, b"ush")?.taken, 3);
+/// assert_eq!(desk.feed(serial, b"ers")?.stop, Stop::All);
+/// let ends: Vec<(u32, Tag)> = desk.drain().map(|r: Record| (r.end, r.tag)).collect();
+/// assert_eq!(ends, [(4, Tag(0)), (4, Tag(1)), (6, Tag(3))]);
+///
+/// desk.replace(TagSet::new(["hers"])?)?;
+/// let refused = desk.feed(serial, b"hers").unwrap_err();
+/// assert_eq!(refused, Refusal::Stale { edition: Edition(1) });
+/// assert_eq!(refused.number(), 13);
+/// desk.close(serial)?;
+/// # Ok::<(), Refusal>(())
+/// ```
+#[derive(Clone)]
+pub struct Desk {
+    desk: LentDesk,
+    table: Box<[u16]>,
+}
+
+impl Default for Desk {
+    fn default() -> Desk {
+        Desk::new()
+    }
+}
+
+impl Desk {
+    /// A new desk with a table that is enough for every set: 22,992 bytes.
+    pub fn new() -> Desk {
+        Desk::with_slots(SPLIT_TABLE / SPLIT_SLOT)
+    }
+
+    /// A new desk with a table of so many slots, 48 bytes each. A set that needs more is refused as
+    /// [`Refusal::Table`]; [`TagSet::split_slots`](crate::TagSet::split_slots) says what it needs.
+    pub fn with_slots(slots: usize) -> Desk {
+        Desk {
+            desk: LentDesk::new(),
+            table: vec![0; slots.min(MOST_SLOTS) * SPLIT_SLOT].into(),
+        }
+    }
+
+    /// Puts a set in force. Every ticket opened before becomes stale; held records stay.
+    pub fn replace(&mut self, set: impl AsRef<[u8]>) -> Result<Replaced, Refusal> {
+        self.desk.replace(set.as_ref(), &mut self.table)
+    }
+
+    /// Opens a ticket.
+    pub fn open(&mut self) -> Result<Serial, Refusal> {
+        self.desk.open()
+    }
+
+    /// Reads a piece for a ticket, as far as its records find room.
+    pub fn feed(&mut self, serial: Serial, piece: &[u8]) -> Result<Fed, Refusal> {
+        self.desk.feed(serial, &self.table, piece)
+    }
+
+    /// Reads a piece for a ticket to its end, and hands out every record, oldest first: those held
+    /// before, of any ticket, and those of this piece. Where it is refused none is handed out.
+    ///
+    /// ```
+    /// use sleetbarley::{Desk, Refusal, TagSet};
+    ///
+    /// let mut desk = Desk::new();
+    /// desk.replace(TagSet::new(["aa"])?)?;
+    /// let serial = desk.open()?;
+    /// let mut last = 0;
+    /// desk.feed_all(serial, &[b'a'; 1000], |record| last = record.end)?;
+    /// assert_eq!((last, desk.held()), (1000, 0));
+    /// # Ok::<(), Refusal>(())
+    /// ```
+    pub fn feed_all(
+        &mut self,
+        serial: Serial,
+        piece: &[u8],
+        mut each: impl FnMut(Record),
+    ) -> Result<(), Refusal> {
+        let mut rest = piece;
+        loop {
+            let fed = self.feed(serial, rest)?;
+            rest = &rest[fed.taken..];
+            self.take_all().into_iter().for_each(&mut each);
+            // With the list empty the next feed takes a byte at least, so this ends.
+            if fed.stop != Stop::Full {
+                return Ok(());
+            }
+        }
+    }
+
+    /// Closes a ticket, open or stale. Its serial is never given again.
+    pub fn close(&mut self, serial: Serial) -> Result<(), Refusal> {
+        self.desk.close(serial)
+    }
+
+    /// Takes the oldest record.
+    pub fn take(&mut self) -> Result<Record, Refusal> {
+        self.desk.take()
+    }
+
+    /// Takes every record, oldest first, in one call of the archive.
+    pub fn take_all(&mut self) -> Vec<Record> {
+        if self.held() == 0 {
+            return Vec::new();
+        }
+        let mut list = [0; 4 * MOST_RECORDS];
+        let count = self.desk.take_many(&mut list);
+        let record = |numbers: &[u32]| Record {
+            serial: Serial(numbers[0]),
+            edition: Edition(numbers[1]),
+            end: numbers[2],
+            tag: Tag(numbers[3] as u8),
+        };
+        list.chunks_exact(4).take(count).map(record).collect()
+    }
+
+    /// Takes records one by one, oldest first. Those not asked for stay on the desk, so that an
+    /// iterator dropped early loses none.
+    pub fn drain(&mut self) -> Drain<'_> {
+        Drain { desk: self }
+    }
+
+    /// The edition of the set in force; 0 where there is none yet.
+    pub fn edition(&self) -> Edition {
+        self.desk.edition()
+    }
+
+    /// The last serial given; 0 where none was.
+    pub fn last_serial(&self) -> Serial {
+        self.desk.last_serial()
+    }
+
+    /// How many records are held.
+    pub fn held(&self) -> usize {
+        self.desk.held()
+    }
+
+    /// The tickets that aren't closed, by serial.
+    pub fn tickets(&self) -> Vec<Ticket> {
+        self.desk.tickets()
+    }
+
+    /// The numbers of the table.
+    pub fn table(&self) -> &[u16] {
+        &self.table
+    }
+}
+
+impl Debug for Desk {
+    fn fmt(&self, f: &mut Formatter) -> fmt::Result {
+        f.debug_struct("Desk")
+            .field("desk", &self.desk)
+            .field("slots", &(self.table.len() / SPLIT_SLOT))
+            .finish()
+    }
+}
+
+/// An iterator that takes records off a desk; see [`Desk::drain`].
+#[derive(Debug)]
+pub struct Drain<'d> {
+    desk: &'d mut Desk,
+}
+
+impl Iterator for Drain<'_> {
+    type Item = Record;
+
+    fn next(&mut self) -> Option<Record> {
+        self.desk.take().ok()
+    }
+
+    fn size_hint(&self) -> (usize, Option<usize>) {
+        (self.desk.held(), Some(self.desk.held()))
+    }
+}
+
+impl ExactSizeIterator for Drain<'_> {}
+impl std::iter::FusedIterator for Drain<'_> {}

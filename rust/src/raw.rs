@@ -1,0 +1,244 @@
+//! The archive's functions, as safe ones over slices: the one module with unsafe code.
+//!
+//! Each call below is safe for any arguments. The archive's contracts hold for every value of every
+//! argument, and a slice of Rust is just what it asks of a run: a pointer that isn't null and is
+//! aligned, readable for its length, and, where it is `&mut`, writable and overlapped by no other.
+#![allow(unsafe_code)]
+
+/// A number, 0 or a refusal's, and up to four values.
+#[repr(C)]
+#[derive(Clone, Copy, Debug, PartialEq, Eq)]
+pub struct Answer {
+    pub refusal: u64,
+    pub a: u64,
+    pub b: u64,
+    pub c: u64,
+    pub d: u64,
+}
+
+#[repr(C)]
+#[derive(Clone, Copy, PartialEq, Eq)]
+pub struct Ticket {
+    pub serial: u32,
+    pub edition: u32,
+    pub taken: u32,
+    pub place: [u16; 8],
+}
+
+#[repr(C)]
+#[derive(Clone, Copy, PartialEq, Eq)]
+pub struct Record {
+    pub serial: u32,
+    pub edition: u32,
+    pub end: u32,
+    pub tag: u8,
+}
+
+/// A desk's image: numbers alone, so that any value of them is a desk.
+#[repr(C)]
+#[derive(Clone, Copy, PartialEq, Eq)]
+pub struct Image {
+    pub tickets: [Ticket; 16],
+    pub ring: [Record; 256],
+    pub first: u64,
+    pub count: u64,
+    pub edition: u32,
+    pub serial: u32,
+    pub slots: u64,
+}
+
+#[repr(C)]
+struct Reply {
+    desk: Image,
+    answer: Answer,
+}
+
+#[repr(C)]
+struct TakenMany {
+    desk: Image,
+    count: u64,
+}
+
+#[repr(C)]
+struct SplitReply {
+    answer: Answer,
+    place: [u16; 8],
+}
+
+#[repr(C)]
+struct WholeReply {
+    answer: Answer,
+    place: u16,
+}
+
+mod archive {
+    use super::{Answer, Image, Reply, SplitReply, TakenMany, WholeReply};
+
+    extern "C" {
+        pub fn sleet_desk_new() -> Image;
+        pub fn sleet_desk_replace(
+            desk: Image,
+            set: *const u8,
+            set_length: usize,
+            table: *mut u16,
+            table_length: usize,
+        ) -> Reply;
+        pub fn sleet_desk_open(desk: Image) -> Reply;
+        pub fn sleet_desk_feed(
+            desk: Image,
+            serial: u32,
+            table: *const u16,
+            table_length: usize,
+            piece: *const u8,
+            piece_length: usize,
+        ) -> Reply;
+        pub fn sleet_desk_close(desk: Image, serial: u32) -> Reply;
+        pub fn sleet_desk_take(desk: Image) -> Reply;
+        pub fn sleet_desk_take_many(desk: Image, list: *mut u32, list_length: usize) -> TakenMany;
+        pub fn sleet_slots_needed(set: *const u8, set_length: usize) -> Answer;
+        pub fn sleet_build_split(
+            set: *const u8,
+            set_length: usize,
+            table: *mut u16,
+            table_length: usize,
+        ) -> Answer;
+        pub fn sleet_build_whole(
+            set: *const u8,
+            set_length: usize,
+            table: *mut u16,
+            table_length: usize,
+        ) -> Answer;
+        pub fn sleet_read_split(
+            table: *const u16,
+            table_length: usize,
+            place: *const u16,
+            count: u32,
+            piece: *const u8,
+            piece_length: usize,
+            list: *mut u32,
+            list_length: usize,
+        ) -> SplitReply;
+        pub fn sleet_read_whole(
+            table: *const u16,
+            table_length: usize,
+            place: u16,
+            count: u32,
+            piece: *const u8,
+            piece_length: usize,
+            list: *mut u32,
+            list_length: usize,
+        ) -> WholeReply;
+    }
+}
+
+impl Image {
+    pub fn new() -> Image {
+        unsafe { archive::sleet_desk_new() }
+    }
+
+    fn keep(&mut self, reply: Reply) -> Answer {
+        *self = reply.desk;
+        reply.answer
+    }
+
+    pub fn replace(&mut self, set: &[u8], table: &mut [u16]) -> Answer {
+        let (at, length) = (table.as_mut_ptr(), table.len());
+        self.keep(unsafe {
+            archive::sleet_desk_replace(*self, set.as_ptr(), set.len(), at, length)
+        })
+    }
+
+    pub fn open(&mut self) -> Answer {
+        self.keep(unsafe { archive::sleet_desk_open(*self) })
+    }
+
+    pub fn feed(&mut self, serial: u32, table: &[u16], piece: &[u8]) -> Answer {
+        let (at, length) = (table.as_ptr(), table.len());
+        self.keep(unsafe {
+            archive::sleet_desk_feed(*self, serial, at, length, piece.as_ptr(), piece.len())
+        })
+    }
+
+    pub fn close(&mut self, serial: u32) -> Answer {
+        self.keep(unsafe { archive::sleet_desk_close(*self, serial) })
+    }
+
+    pub fn take(&mut self) -> Answer {
+        self.keep(unsafe { archive::sleet_desk_take(*self) })
+    }
+
+    pub fn take_many(&mut self, list: &mut [u32]) -> u64 {
+        let taken = unsafe { archive::sleet_desk_take_many(*self, list.as_mut_ptr(), list.len()) };
+        *self = taken.desk;
+        taken.count
+    }
+}
+
+pub fn slots_needed(set: &[u8]) -> Answer {
+    unsafe { archive::sleet_slots_needed(set.as_ptr(), set.len()) }
+}
+
+pub fn build_split(set: &[u8], table: &mut [u16]) -> Answer {
+    let (at, length) = (table.as_mut_ptr(), table.len());
+    unsafe { archive::sleet_build_split(set.as_ptr(), set.len(), at, length) }
+}
+
+pub fn build_whole(set: &[u8], table: &mut [u16]) -> Answer {
+    let (at, length) = (table.as_mut_ptr(), table.len());
+    unsafe { archive::sleet_build_whole(set.as_ptr(), set.len(), at, length) }
+}
+
+pub fn read_split(
+    table: &[u16],
+    place: &mut [u16; 8],
+    count: u32,
+    piece: &[u8],
+    list: &mut [u32],
+) -> Answer {
+    let reply = unsafe {
+        archive::sleet_read_split(
+            table.as_ptr(),
+            table.len(),
+            place.as_ptr(),
+            count,
+            piece.as_ptr(),
+            piece.len(),
+            list.as_mut_ptr(),
+            list.len(),
+        )
+    };
+    *place = reply.place;
+    reply.answer
+}
+
+pub fn read_whole(
+    table: &[u16],
+    place: &mut u16,
+    count: u32,
+    piece: &[u8],
+    list: &mut [u32],
+) -> Answer {
+    let reply = unsafe {
+        archive::sleet_read_whole(
+            table.as_ptr(),
+            table.len(),
+            *place,
+            count,
+            piece.as_ptr(),
+            piece.len(),
+            list.as_mut_ptr(),
+            list.len(),
+        )
+    };
+    *place = reply.place;
+    reply.answer
+}
+
+// The layout of the archive, as include/sleet.h states it.
+const _: () = {
+    use std::mem::size_of;
+    assert!(size_of::<Answer>() == 40 && size_of::<Ticket>() == 28 && size_of::<Record>() == 16);
+    assert!(size_of::<Image>() == 4576 && size_of::<Reply>() == 4616);
+    assert!(size_of::<TakenMany>() == 4584);
+    assert!(size_of::<SplitReply>() == 56 && size_of::<WholeReply>() == 48);
+};

@@ -1,0 +1,176 @@
+//! Refusals, with their numbers and what is returned with them.
+
+use crate::numbers::Edition;
+use crate::raw::Answer;
+use std::fmt::{self, Display, Formatter};
+
+/// Why a call was refused. A refused call changes nothing.
+#[derive(Clone, Copy, Debug, PartialEq, Eq, Hash)]
+#[non_exhaustive]
+pub enum Refusal {
+    /// 1: an entry of the set isn't whole.
+    Cut { entry: usize },
+    /// 2: a 17th entry begins.
+    Many { entry: usize },
+    /// 3: an entry's kind isn't 1.
+    Kind { entry: usize },
+    /// 4: a length of 0 or above 32.
+    Length { entry: usize },
+    /// 5: the set has no bytes; the entry is 0.
+    Empty { entry: usize },
+    /// 6: a tag equals an earlier one.
+    Repeat { entry: usize },
+    /// 7: the table is too short. The lowest machine that lacks slots (254 for a whole-byte table),
+    /// and the states it needs.
+    Table { machine: usize, states: usize },
+    /// 8: the edition is the largest there is.
+    Edition,
+    /// 9: no replacement was accepted yet.
+    NoSet,
+    /// 10: the last serial is the largest there is.
+    Serial,
+    /// 11: 16 tickets are open or stale.
+    NoRoom,
+    /// 12: the serial was never given, or its ticket is closed.
+    NoTicket,
+    /// 13: the ticket is older than the set; its edition.
+    Stale { edition: Edition },
+    /// 14: bytes taken and the piece pass 4,294,967,295.
+    Long,
+    /// 15: a read outside the desk begins at a state that isn't below the slot count.
+    Place,
+    /// 16: no record is held.
+    Nothing,
+}
+
+impl Refusal {
+    /// The answer where it is accepted, or its refusal.
+    pub(crate) fn or(answer: Answer) -> Result<Answer, Refusal> {
+        let entry = answer.a as usize;
+        Err(match answer.refusal {
+            0 => return Ok(answer),
+            1 => Refusal::Cut { entry },
+            2 => Refusal::Many { entry },
+            3 => Refusal::Kind { entry },
+            4 => Refusal::Length { entry },
+            5 => Refusal::Empty { entry },
+            6 => Refusal::Repeat { entry },
+            7 => Refusal::Table {
+                machine: answer.a as usize,
+                states: answer.b as usize,
+            },
+            8 => Refusal::Edition,
+            9 => Refusal::NoSet,
+            10 => Refusal::Serial,
+            11 => Refusal::NoRoom,
+            12 => Refusal::NoTicket,
+            13 => Refusal::Stale {
+                edition: Edition(answer.a as u32),
+            },
+            14 => Refusal::Long,
+            15 => Refusal::Place,
+            16 => Refusal::Nothing,
+            other => panic!("the archive isn't the one this crate is for: it refused with {other}"),
+        })
+    }
+
+    /// Its number, 1 to 16.
+    pub fn number(self) -> u32 {
+        match self {
+            Refusal::Cut { .. } => 1,
+            Refusal::Many { .. } => 2,
+            Refusal::Kind { .. } => 3,
+            Refusal::Length { .. } => 4,
+            Refusal::Empty { .. } => 5,
+            Refusal::Repeat { .. } => 6,
+            Refusal::Table { .. } => 7,
+            Refusal::Edition => 8,
+            Refusal::NoSet => 9,
+            Refusal::Serial => 10,
+            Refusal::NoRoom => 11,
+            Refusal::NoTicket => 12,
+            Refusal::Stale { .. } => 13,
+            Refusal::Long => 14,
+            Refusal::Place => 15,
+            Refusal::Nothing => 16,
+        }
+    }
+
+    /// Its name in capitals.
+    pub fn name(self) -> &'static str {
+        const NAMES: [&str; 16] = [
+            "CUT",
+            "MANY",
+            "KIND",
+            "LENGTH",
+            "EMPTY",
+            "REPEAT",
+            "TABLE",
+            "EDITION",
+            "NO SET",
+            "SERIAL",
+            "NO ROOM",
+            "NO TICKET",
+            "STALE",
+            "LONG",
+            "PLACE",
+            "NOTHING",
+        ];
+        NAMES[self.number() as usize - 1]
+    }
+
+    /// The values returned with it, in their order.
+    pub fn values(self) -> Vec<u64> {
+        match self {
+            Refusal::Cut { entry }
+            | Refusal::Many { entry }
+            | Refusal::Kind { entry }
+            | Refusal::Length { entry }
+            | Refusal::Empty { entry }
+            | Refusal::Repeat { entry } => vec![entry as u64],
+            Refusal::Table { machine, states } => vec![machine as u64, states as u64],
+            Refusal::Stale { edition } => vec![u64::from(edition.0)],
+            _ => vec![],
+        }
+    }
+}
+
+impl Display for Refusal {
+    fn fmt(&self, f: &mut Formatter) -> fmt::Result {
+        write!(f, "refused with {}, {}: ", self.number(), self.name())?;
+        match self {
+            Refusal::Cut { entry } => write!(f, "entry {entry} of the set isn't whole"),
+            Refusal::Many { entry } => write!(f, "the set goes on with an entry {entry}"),
+            Refusal::Kind { entry } => write!(f, "the kind of entry {entry} isn't 1"),
+            Refusal::Length { entry } => {
+                write!(f, "the tag of entry {entry} has no byte, or over 32")
+            }
+            Refusal::Empty { .. } => write!(f, "the set has no bytes"),
+            Refusal::Repeat { entry } => {
+                write!(f, "the tag of entry {entry} equals an earlier one")
+            }
+            Refusal::Table { machine, states } => {
+                write!(
+                    f,
+                    "machine {machine} needs {states} states, more than the table has slots"
+                )
+            }
+            Refusal::Edition => write!(f, "no edition is left on this desk"),
+            Refusal::NoSet => write!(f, "the desk has no set yet"),
+            Refusal::Serial => write!(f, "no serial is left on this desk"),
+            Refusal::NoRoom => write!(f, "16 tickets are open or stale"),
+            Refusal::NoTicket => write!(f, "no ticket has this serial, or it is closed"),
+            Refusal::Stale { edition } => {
+                write!(
+                    f,
+                    "the ticket was opened under edition {edition}, which was replaced"
+                )
+            }
+            Refusal::Long => write!(f, "the bytes taken and the piece pass 4294967295"),
+            Refusal::Place => write!(f, "the place isn't one of this table"),
+            Refusal::Nothing => write!(f, "no record is held"),
+        }
+    }
+}
+
+impl std::error::Error for Refusal {}

@@ -1,0 +1,135 @@
+//! Tables built and read outside the desk.
+
+use crate::lent::{self, Reading, SPLIT_SLOT, SPLIT_START, WHOLE_SLOT, WHOLE_START};
+use crate::numbers::{Found, Stop};
+use crate::refusal::Refusal;
+use crate::set::TagSet;
+
+/// Numbers of the list that `find_all` reads into: room for any byte's matches, and many more.
+const LIST: usize = 512;
+
+/// A split table, as building left it: eight machines, each reading one bit of every byte.
+///
+/// ```
+/// use sleetbarley::{lent, Found, Refusal, SplitTable, Stop, Tag, TagSet};
+///
+/// let table = SplitTable::build(&TagSet::new(["a", "aa"])?)?;
+/// let found = table.find_all(b"aa")?;
+/// assert_eq!(found[2], Found { end: 2, tag: Tag(1) });
+///
+/// // The same in pieces, with a list of the caller's own.
+/// let mut list = [0; 4];
+/// let first = table.read(lent::SPLIT_START, 0, b"a", &mut list)?;
+/// let second = table.read(first.place, 1, b"a", &mut list)?;
+/// assert_eq!((second.taken, second.stop, second.records), (1, Stop::All, 2));
+/// assert_eq!(list, [2, 0, 2, 1]);
+/// # Ok::<(), Refusal>(())
+/// ```
+#[derive(Clone, Debug, PartialEq, Eq)]
+pub struct SplitTable {
+    numbers: Box<[u16]>,
+}
+
+impl SplitTable {
+    /// A table with just the slots that the set needs.
+    pub fn build(set: &TagSet) -> Result<SplitTable, Refusal> {
+        let mut numbers: Box<[u16]> = vec![0; set.split_slots() * SPLIT_SLOT].into();
+        lent::build_split(set.as_bytes(), &mut numbers)?;
+        Ok(SplitTable { numbers })
+    }
+
+    /// The table's numbers: machine 0 to 7, each with its slots of next on 0, next on 1, vector.
+    pub fn numbers(&self) -> &[u16] {
+        &self.numbers
+    }
+
+    /// Reads a piece from a place with so many bytes taken before it, into a list with two numbers
+    /// for each record: end, tag.
+    pub fn read(
+        &self,
+        place: [u16; 8],
+        count: u32,
+        piece: &[u8],
+        list: &mut [u32],
+    ) -> Result<Reading<[u16; 8]>, Refusal> {
+        lent::read_split(&self.numbers, place, count, piece, list)
+    }
+
+    /// Every occurrence in these bytes, by end, then by tag.
+    pub fn find_all(&self, bytes: &[u8]) -> Result<Vec<Found>, Refusal> {
+        let read =
+            |place, count, piece: &[u8], list: &mut [u32]| self.read(place, count, piece, list);
+        find_all(SPLIT_START, bytes, read)
+    }
+}
+
+/// A whole-byte table, as building left it: one machine that reads whole bytes.
+///
+/// It is larger than a [`SplitTable`], and finds the same.
+///
+/// ```
+/// use sleetbarley::{Refusal, SplitTable, TagSet, WholeTable};
+///
+/// let set = TagSet::new(["he", "she", "his", "hers"])?;
+/// let (whole, split) = (WholeTable::build(&set)?, SplitTable::build(&set)?);
+/// assert_eq!(whole.find_all(b"ushers")?, split.find_all(b"ushers")?);
+/// # Ok::<(), Refusal>(())
+/// ```
+#[derive(Clone, Debug, PartialEq, Eq)]
+pub struct WholeTable {
+    numbers: Box<[u16]>,
+}
+
+impl WholeTable {
+    /// A table with just the slots that the set needs.
+    pub fn build(set: &TagSet) -> Result<WholeTable, Refusal> {
+        let mut numbers: Box<[u16]> = vec![0; set.whole_slots() * WHOLE_SLOT].into();
+        lent::build_whole(set.as_bytes(), &mut numbers)?;
+        Ok(WholeTable { numbers })
+    }
+
+    /// The table's numbers: for each slot 256 nexts, then the vector.
+    pub fn numbers(&self) -> &[u16] {
+        &self.numbers
+    }
+
+    /// Reads a piece from a place with so many bytes taken before it, into a list with two numbers
+    /// for each record: end, tag.
+    pub fn read(
+        &self,
+        place: u16,
+        count: u32,
+        piece: &[u8],
+        list: &mut [u32],
+    ) -> Result<Reading<u16>, Refusal> {
+        lent::read_whole(&self.numbers, place, count, piece, list)
+    }
+
+    /// Every occurrence in these bytes, by end, then by tag.
+    pub fn find_all(&self, bytes: &[u8]) -> Result<Vec<Found>, Refusal> {
+        let read =
+            |place, count, piece: &[u8], list: &mut [u32]| self.read(place, count, piece, list);
+        find_all(WHOLE_START, bytes, read)
+    }
+}
+
+/// Reads bytes from a start place to their end, with the list emptied wherever it is full.
+fn find_all<Place>(
+    start: Place,
+    bytes: &[u8],
+    read: impl Fn(Place, u32, &[u8], &mut [u32]) -> Result<Reading<Place>, Refusal>,
+) -> Result<Vec<Found>, Refusal> {
+    let mut list = [0; LIST];
+    let mut found = Vec::new();
+    let (mut place, mut taken) = (start, 0);
+    loop {
+        let reading = read(place, taken as u32, &bytes[taken..], &mut list)?;
+        found.extend(reading.found(&list));
+        taken += reading.taken;
+        // A built table is never damaged, and the list has room for any one byte's matches.
+        if reading.stop != Stop::Full {
+            return Ok(found);
+        }
+        place = reading.place;
+    }
+}

@@ -1,0 +1,160 @@
+//! Replay scripts over the Rust crate: the calls are the crate's, the reading of lines is that of
+//! the second program.
+
+use second::script::{parse, Call, TABLE_BUFFER};
+use second::table::Layout;
+use sleetbarley::lent::{self, LentDesk, Reading, SPLIT_TABLE};
+use sleetbarley::{Fed, Refusal, Serial, Ticket};
+use std::fmt::Display;
+
+/// What a list holds before a read.
+const FILLING: u32 = 7;
+
+/// What the program holds.
+pub struct Replay {
+    desk: LentDesk,
+    set: Vec<u8>,
+    table: Vec<u16>,
+    lent: usize,
+    lines: u64,
+}
+
+impl Default for Replay {
+    fn default() -> Replay {
+        Replay {
+            desk: LentDesk::new(),
+            set: Vec::new(),
+            table: vec![0; TABLE_BUFFER],
+            lent: SPLIT_TABLE,
+            lines: 0,
+        }
+    }
+}
+
+impl Replay {
+    /// Makes the call of one line (without its end); gives the answer's lines.
+    pub fn line(&mut self, line: &[u8]) -> Vec<String> {
+        self.lines += 1;
+        let too_long = line.len() > second::replay::LONGEST_LINE;
+        if !too_long && (line.is_empty() || line.starts_with(b"#")) {
+            return vec![];
+        }
+        match parse(line).filter(|_| !too_long) {
+            None => vec![format!("line {}: not a call", self.lines)],
+            Some(call) => self.answer(call).unwrap_or_else(refused),
+        }
+    }
+
+    fn answer(&mut self, call: Call) -> Result<Vec<String>, Refusal> {
+        let lent = &mut self.table[..self.lent];
+        let said = match call {
+            Call::Set(set) => {
+                self.set = set;
+                format!("set {}", self.set.len())
+            }
+            Call::Lend(lent) => {
+                self.lent = lent;
+                format!("lent {lent}")
+            }
+            Call::Replace => {
+                let now = self.desk.replace(&self.set, lent)?;
+                format!("edition {} tags {}", now.edition, now.tags)
+            }
+            Call::Open => format!("serial {}", self.desk.open()?),
+            Call::Feed(serial, piece) => fed(self.desk.feed(Serial(serial), lent, &piece)?),
+            Call::Close(serial) => {
+                self.desk.close(Serial(serial))?;
+                format!("closed {serial}")
+            }
+            Call::Take => record(self.desk.take()?),
+            Call::Show => return Ok(self.show()),
+            Call::Build(Layout::Split) => format!("tags {}", lent::build_split(&self.set, lent)?),
+            Call::Build(Layout::Whole) => format!("tags {}", lent::build_whole(&self.set, lent)?),
+            Call::Read {
+                layout,
+                count,
+                room,
+                place,
+                piece,
+            } => return self.read(layout, count, room, &place, &piece),
+            Call::Poke { at, value } => {
+                self.table[at] = value;
+                format!("poked {at}")
+            }
+            Call::Peek { at, count } => numbers("numbers", &self.table[at..at + count]),
+        };
+        Ok(vec![said])
+    }
+
+    fn show(&self) -> Vec<String> {
+        let (edition, serial) = (self.desk.edition(), self.desk.last_serial());
+        shown(edition.0, serial.0, self.desk.held(), &self.desk.tickets())
+    }
+
+    fn read(
+        &self,
+        layout: Layout,
+        count: u32,
+        room: usize,
+        place: &[u16],
+        piece: &[u8],
+    ) -> Result<Vec<String>, Refusal> {
+        let table = &self.table[..self.lent];
+        let mut list = vec![FILLING; room];
+        let said = match layout {
+            Layout::Split => {
+                let start = place.try_into().expect("8 numbers");
+                let reading = lent::read_split(table, start, count, piece, &mut list)?;
+                told(&reading, &reading.place)
+            }
+            Layout::Whole => {
+                let reading = lent::read_whole(table, place[0], count, piece, &mut list)?;
+                told(&reading, &[reading.place])
+            }
+        };
+        Ok(vec![said, numbers("list", &list)])
+    }
+}
+
+pub fn fed(fed: Fed) -> String {
+    format!("taken {} stop {}", fed.taken, fed.stop)
+}
+
+pub fn record(record: sleetbarley::Record) -> String {
+    let (serial, edition) = (record.serial, record.edition);
+    format!("record {serial} {edition} {} {}", record.end, record.tag)
+}
+
+/// The desk's line, then a line for each ticket.
+pub fn shown(edition: u32, serial: u32, held: usize, tickets: &[Ticket]) -> Vec<String> {
+    let count = tickets.len();
+    let desk = format!("desk edition {edition} serial {serial} held {held} tickets {count}");
+    let line = |ticket: &Ticket| {
+        let status = if ticket.stale { "stale" } else { "open" };
+        let (serial, edition, taken) = (ticket.serial, ticket.edition, ticket.taken);
+        format!("ticket {serial} edition {edition} taken {taken} {status}")
+    };
+    std::iter::once(desk)
+        .chain(tickets.iter().map(line))
+        .collect()
+}
+
+fn told<P>(reading: &Reading<P>, place: &[u16]) -> String {
+    let (taken, stop, records) = (reading.taken, reading.stop, reading.records);
+    let place = numbers("place", place);
+    format!("taken {taken} stop {stop} records {records} {place}")
+}
+
+/// A word and numbers, each with one blank before it.
+fn numbers<N: Display>(word: &str, numbers: &[N]) -> String {
+    let each = numbers.iter().map(|number| format!(" {number}"));
+    std::iter::once(word.to_string()).chain(each).collect()
+}
+
+/// A refusal's line.
+pub fn refused(refusal: Refusal) -> Vec<String> {
+    vec![numbers(
+        &format!("refused {}", refusal.number()),
+        &refusal.values(),
+    )]
+}
