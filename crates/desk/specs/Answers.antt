@@ -54,37 +54,37 @@ module _ (d : Desk) (s : Serial) (table : List ℕ) (piece : Word) where
 
   -- a table whose slot count differs from that at replacement: DAMAGED with 0 taken, and the desk as it was
   pub other-slots : HasRoom d s → Current d s → (SameSlots d table → ⊥) → feedOf d s table piece ≡ record { desk = d; answer = F.Fed 0 0 Damaged }
-  other-slots room now′ other = go _ (feeds d s table piece)
+  other-slots room current other = go _ (feeds d s table piece)
     where
       go : (r : Feeding) → Feeds d (roomOf (d .tickets) s) table piece r → r ≡ record { desk = d; answer = F.Fed 0 0 Damaged }
       go r (feed-no-ticket h) = absurd (omega arith)
-      go r (feed-stale h x) = absurd (x now′)
+      go r (feed-stale h x) = absurd (x current)
       go r (feed-other-slots h x l) = refl
       go r (feed-long h x l m) = absurd (other l)
       go r (feed-no-place h x l m y) = absurd (other l)
       go r (feed-read h x l m) = absurd (other l)
 
-  -- else the piece is read over the lent table, from the ticket's place and its bytes taken, into the room that the list has left
+  -- over a table of that slot count, and not LONG: the piece is read over the lent table, from the ticket's place and its bytes taken, into the room that the list has left
   abbrev pub reading : Outcome
   reading = read 1 (slotsIn 1 8 (length table)) table (ticketOf d s .place) (ticketOf d s .taken) (256 - d .records .count) piece
 
-  module _ (reached : Reached d) (room : HasRoom d s) (now′ : Current d s) (same : SameSlots d table) (short : TooLong d s piece → ⊥) where
+  module _ (reached : Reached d) (room : HasRoom d s) (current : Current d s) (same : SameSlots d table) (short : TooLong d s piece → ⊥) where
     read-then : feedOf d s table piece ≡ fedBy d (roomOf (d .tickets) s) (ticketOf d s) reading
     read-then = go _ (feeds d s table piece)
       where
         go : (r : Feeding) → Feeds d (roomOf (d .tickets) s) table piece r → r ≡ fedBy d (roomOf (d .tickets) s) (ticketOf d s) reading
         go r (feed-no-ticket h) = absurd (omega arith)
-        go r (feed-stale h x) = absurd (x now′)
+        go r (feed-stale h x) = absurd (x current)
         go r (feed-other-slots h x l) = absurd (l same)
         go r (feed-long h x l m) = absurd (short m)
         go r (feed-no-place h x l m y) = absurd (on-place d s table (good reached) h x l y)
         go r (feed-read h x l m) = refl
 
-    -- and the answer is the reading's: the bytes taken, the number of records and the reason for stopping
+    -- the answer is the reading's: the bytes taken, the number of records and the reason for stopping
     pub feed-reads : feedOf d s table piece .answer ≡ F.Fed (reading .taken) (length (reading .found)) (reading .stop)
     feed-reads = ap (λ (f : Feeding). f .answer) read-then
 
-    -- as is what it leaves
+    -- and what it leaves is the reading's too
     pub feed-leaves : FedOn d s reading (feedOf d s table piece .desk)
     feed-leaves =
         let i = roomOf (d .tickets) s in

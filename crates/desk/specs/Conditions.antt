@@ -1,12 +1,16 @@
--- The conditions under which each call is refused, in the document's words, and for each number exactly when it is given: its condition holds
--- and none earlier in the order does.
+-- The conditions under which each call is refused, in the document's words; the grounds in their order; and for each number exactly when it
+-- is given: its condition holds and none earlier in the order does.
 use Prim.Native.Nat.{ℕ, _+_, _<_}
-use mathlib.Core.List.{List, _∷_}
+use mathlib.Core.Bool.{not}
+use mathlib.Core.List.{List, [], _∷_}
 use mathlib.Core.Logic.{_↔_}
 use mathlib.Core.Path.{_≡_}
+use lib.Dec.{eqb, ltb}
 use lib.ListN.{length}
+use Rattle.matching.specs.Refusal.{Ground, _if_}
 use Rattle.matching.specs.Words.{Word}
 use Rattle.matching.specs.Table.{slotsIn}
+use Rattle.tables.specs.Building.{builtNumber, builtOf}
 use Rattle.tables.specs.Refusals.{Answers, Builds}
 use Rattle.desk.specs.Rooms.{serialOf, editionOf, ticketIn, roomOf, ticketsHeld}
 use Rattle.desk.specs.Shared.{held}
@@ -65,7 +69,31 @@ TooLong d s piece = 4294967295 < ticketOf d s .taken + length piece
 abbrev pub NoneHeld : Desk → Type 0
 NoneHeld d = d .records .count ≡ 0
 
--- ---- each number
+-- ---- the grounds for refusing each call, in their order
+
+abbrev pub openGrounds : Desk → List Ground
+openGrounds d = (9 if eqb (d .edition .0) 0) ∷ (10 if eqb (d .serial .0) 4294967295) ∷ (11 if eqb (ticketsHeld (d .tickets)) 16) ∷ []
+
+-- a table of another slot count is a stop and no refusal, so it has number 0; but it comes before LONG
+abbrev pub feedGrounds : Desk → Serial → List ℕ → Word → List Ground
+feedGrounds d s table piece =
+    (12 if not (ltb (roomOf (d .tickets) s) 16))
+    ∷ (13 if not (eqb (ticketOf d s .edition .0) (d .edition .0)))
+    ∷ (0 if not (eqb (slotsIn 1 8 (length table)) (d .slots)))
+    ∷ (14 if ltb 4294967295 (ticketOf d s .taken + length piece))
+    ∷ []
+
+abbrev pub closeGrounds : Desk → Serial → List Ground
+closeGrounds d s = (12 if not (ltb (roomOf (d .tickets) s) 16)) ∷ []
+
+abbrev pub takeGrounds : Desk → List Ground
+takeGrounds d = (16 if eqb (d .records .count) 0) ∷ []
+
+-- what building refuses, and then the largest edition
+abbrev pub replaceGrounds : Desk → List ℕ → ℕ → List Ground
+replaceGrounds d bytes len = (builtNumber (builtOf 1 8 bytes len) if not (eqb (builtNumber (builtOf 1 8 bytes len)) 0)) ∷ (8 if eqb (d .edition .0) 4294967295) ∷ []
+
+-- ---- each number, exactly
 
 -- open: 9, 10, 11; else the next serial
 pub record OpenExact (d : Desk) (a : OpenAnswer) : Type 0 where

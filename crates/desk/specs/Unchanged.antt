@@ -9,6 +9,7 @@ use native.Mathlib.Nat.{pos-of-ne-zero}
 use native.Mathlib.Omega.{arith}
 use lib.Dec.{eqb}
 use lib.ListN.{length, set}
+use borrow.Author.Tests.{eq-eqb}
 use Rattle.desk.specs.Calls.{closeOf, openOf, takeOf}
 use Rattle.desk.specs.Feed.{fedBy, feedOf, readFor, readOn}
 use Rattle.desk.specs.Laws.Faults.{fault-numbers}
@@ -34,7 +35,6 @@ use Rattle.matching.specs.declared.Stop.{Stop}
 use Rattle.tables.specs.Building.{builtNumber, builtOf, tableOf}
 use Rattle.tables.specs.Laws.Left.{refused-kept}
 use Rattle.tables.specs.declared.Built.{Built}
-use borrow.Author.Tests.{eq-eqb}
 
 pub open-refused : (d : Desk) → (openNumber (openOf d .answer) ≡ 0 → ⊥) → openOf d .desk ≡ d
 open-refused d = go _ (opens d)

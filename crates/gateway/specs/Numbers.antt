@@ -5,12 +5,12 @@ use Rattle.reading.specs.declared.Ending.the-variants as E
 use Prim.Native.Nat.{ℕ}
 use mathlib.Core.List.{List, [], _∷_}
 use lib.ListN.{getD}
+use Rattle.desk.specs.Numbers.{closeNumber, closeValues, feedNumber, feedValues, openNumber, openValues, replaceNumber, replaceValues, stopNumber, takeNumber, takeValues}
 use Rattle.desk.specs.declared.CloseAnswer.{CloseAnswer}
 use Rattle.desk.specs.declared.FeedAnswer.{FeedAnswer}
 use Rattle.desk.specs.declared.OpenAnswer.{OpenAnswer}
 use Rattle.desk.specs.declared.ReplaceAnswer.{ReplaceAnswer}
 use Rattle.desk.specs.declared.TakeAnswer.{TakeAnswer}
-use Rattle.desk.specs.Numbers.{closeNumber, closeValues, feedNumber, feedValues, openNumber, openValues, replaceNumber, replaceValues, stopNumber, takeNumber, takeValues}
 use Rattle.gateway.specs.declared.answers.Answer.{Answer}
 use Rattle.reading.specs.Outside.{readNumber}
 use Rattle.reading.specs.declared.Ending.{Ending}
