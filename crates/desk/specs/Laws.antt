@@ -1,5 +1,6 @@
 -- The laws of the desk's definitions.
 pub mod Rooms
+pub mod Faults
 pub mod Shared
 pub mod Views
 pub mod Good

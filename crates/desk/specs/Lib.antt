@@ -9,5 +9,9 @@ pub mod Feed
 pub mod Scanned
 pub mod Reached
 pub mod Numbers
+pub mod Conditions
 pub mod Laws
 pub mod Refusals
+pub mod Exact
+pub mod Unchanged
+pub mod Answers

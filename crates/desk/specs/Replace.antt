@@ -3,7 +3,6 @@ use Prim.Native.Nat.{ℕ, _+_}
 use mathlib.Core.Bool.{Bool, true, false, not, cond}
 use mathlib.Core.List.{List}
 use lib.Dec.{eqb}
-use lib.ListN.{length}
 use Rattle.matching.specs.Table.{slotsIn}
 use Rattle.tables.specs.Building.{builtOf, tableOf}
 use Rattle.tables.specs.declared.Built.{Built}

@@ -14,7 +14,8 @@ ghost use mathlib.Core.Path.{_≡_};
 ghost use mathlib.Core.List.{[], _∷_};
 ghost use Rattle.tagset.specs.Answer.{faultNumber, faultValues};
 ghost use Rattle.reading.specs.Outside.{readNumber};
-ghost use Rattle.gateway.specs.Numbers.{answerOf, stopNumber, builtAnswer, neededAnswer, replaceAnswer, openAnswer, feedAnswer, closeAnswer, takeAnswer, readAnswer};
+ghost use Rattle.desk.specs.Numbers.{stopNumber};
+ghost use Rattle.gateway.specs.Numbers.{answerOf, builtAnswer, neededAnswer, replaceAnswer, openAnswer, feedAnswer, closeAnswer, takeAnswer, readAnswer};
 
 #[repr(C)]
 pub struct Answer {

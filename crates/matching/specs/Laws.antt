@@ -1,5 +1,6 @@
 -- The laws of the definitions, each file by what it speaks of.
 pub mod Bools
+pub mod Refusal
 pub mod Words
 pub mod Machine
 pub mod Prefixes

@@ -1,7 +1,9 @@
 -- Refusals in their order (document 01, 'When the desk says no'): each is given exactly if its condition holds and none earlier does.
-use Prim.Native.Nat.{ℕ}
-use mathlib.Core.Bool.{Bool, cond}
+use Prim.Native.Nat.{ℕ, _<_}
+use mathlib.Core.Bool.{Bool, true, false, cond}
 use mathlib.Core.List.{List, [], _∷_}
+use mathlib.Core.Path.{_≡_}
+use lib.ListN.{getD}
 
 -- a ground for refusing: its number in the document's table, and whether its condition holds
 pub record Ground : Type 0 where
@@ -16,3 +18,14 @@ _if_ n b = record { number = n; holds = b }
 unfoldable pub firstOf : List Ground → ℕ
 firstOf [] = 0
 firstOf (g ∷ gs) = cond (g .holds) (g .number) (firstOf gs)
+
+-- the ground in place i of the order; past the last, one that never holds
+abbrev pub groundAt : List Ground → ℕ → Ground
+groundAt gs i = getD gs i (0 if false)
+
+-- a ground numbered n holds, and none before it in the order does
+pub record First (gs : List Ground) (n : ℕ) : Type 0 where
+  pub place : ℕ
+  pub numbered : groundAt gs place .number ≡ n
+  pub holds : groundAt gs place .holds ≡ true
+  pub none-before : (i : ℕ) → i < place → groundAt gs i .holds ≡ false

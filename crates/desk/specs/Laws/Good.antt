@@ -1,5 +1,4 @@
 -- What holds of every desk that calls have made, whatever tables its feeds were lent.
-use Rattle.desk.specs.declared.ReplaceAnswer.the-variants as R
 use Rattle.tables.specs.declared.Built.the-variants as B
 use Prim.Native.Nat.{_+_, _-_, _<_, _≤_, suc, zero, zero-le, ℕ}
 use mathlib.Core.Bool.{false, false≢true, true}
@@ -9,7 +8,6 @@ use native.Mathlib.Nat.{lt-of-le-of-lt, lt-of-lt-of-le}
 use native.Mathlib.Omega.{arith}
 use lib.Dec.{ltb, lt→ltb}
 use lib.ListN.{length, length-replicate, length-set, replicate, set}
-use borrow.Author.Needs.{needs}
 use Rattle.desk.specs.Calls.{newDesk}
 use Rattle.desk.specs.Feed.{fedBy, readFor, readOn}
 use Rattle.desk.specs.Laws.Rooms.{firstRoom-holds, for-held}
@@ -29,7 +27,6 @@ use Rattle.desk.specs.declared.Ticket.{Ticket}
 use Rattle.matching.specs.Laws.AnyTable.{read-kept}
 use Rattle.matching.specs.Laws.Bools.{and-both, is-true, not-both}
 use Rattle.matching.specs.Laws.Built.{enough-iff}
-use Rattle.matching.specs.Laws.Counting.{after}
 use Rattle.matching.specs.Laws.Prefixes.{walk-lt}
 use Rattle.matching.specs.Reading.{allBelow}
 use Rattle.matching.specs.Table.{slotsIn, tagsFor}

@@ -3,7 +3,7 @@ use Prim.Native.Nat.{_+_, _<_, _≤_, suc, zero, ℕ}
 use mathlib.Core.Bool.{Bool, cond, false, false≢true, not, true}
 use mathlib.Core.List.{List, [], _∷_}
 use mathlib.Core.Logic.{_↔_}
-use mathlib.Core.Path.{_≡_, ap, refl}
+use mathlib.Core.Path.{_∙_, _≡_, ap, refl, sym}
 use native.Mathlib.Decide.{decLe}
 use native.Mathlib.Numerals.{add-one}
 use native.Mathlib.Omega.{arith}
@@ -170,6 +170,13 @@ full-iff (t ∷ rooms) = go (isFree t) (full-iff rooms)
         → (cond b 0 (suc (freeRoom rooms)) ≡ suc (length rooms)) ↔ (cond (not b) 1 0 + ticketsHeld rooms ≡ suc (length rooms))
     go false f = (λ e. omega (arith, f .0 (omega arith)), λ e. omega (arith, f .1 (omega arith)))
     go true f = (λ e. absurd (omega arith), λ e. absurd (omega (arith, held-le rooms)))
+
+-- of 16 rooms none is free exactly if 16 tickets are open or stale
+pub all-held-iff : (rooms : List Ticket) → length rooms ≡ 16 → (16 ≤ freeRoom rooms) ↔ (ticketsHeld rooms ≡ 16)
+all-held-iff rooms wide = (
+  λ h. let e : freeRoom rooms ≡ length rooms = omega (arith, firstRoom-le isFree rooms) in full-iff rooms .0 e ∙ wide,
+  λ e. omega (arith, full-iff rooms .1 (e ∙ sym wide)),
+)
 
 -- setting a room changes how many are held by what it changes there
 pub held-set : (rooms : List Ticket) (i : ℕ) (t : Ticket) → i < length rooms

@@ -12,7 +12,6 @@ use mathlib.Core.Path.{_≡_, refl}
 use native.Mathlib.Omega.{arith}
 use lib.Dec.{eqb, ltb}
 use lib.ListN.{getD, length}
-use borrow.Author.Needs.{needs}
 use borrow.Author.Tests.{eqb-false, eqb-true, ltb-false, ltb-true}
 use Rattle.desk.specs.Calls.{closeBy, closeOf, openBy, openOf, openedIn, takeBy, takeOf, withRecords, withTicket}
 use Rattle.desk.specs.Feed.{fedBy, feedBy, feedIn, feedOf, readFor}

@@ -3,7 +3,9 @@ use Rattle.gateway.proofs.answers.of_close.Tie as tie
 use Rattle.gateway.proofs.answers.of_close.Reads as reads
 use Rattle.gateway.proofs.answers.of_close.Lts as lts
 use Rattle.gateway.proofs.answers.with.Reads as with-reads
+use mathlib.Core.Path.{_∙_, ap, sym}
 use borrow.Author.Needs.{needs}
+use Rattle.gateway.specs.Numbers.{closeAnswer}
 
 -- src/answers.rt:117:32
 enum-told : tie.Need-enum-told
@@ -23,11 +25,11 @@ with-requires-2 c κs = search needs
 
 -- src/answers.rt:113:1
 returns : tie.Need-returns
-returns c = cc
+returns c = c .with .ensures ∙ sym (ap closeAnswer (c .before .enum-told .given .1))
 
 -- src/answers.rt:113:1
 returns-2 : tie.Need-returns-2
-returns-2 c = cc
+returns-2 c = c .with2 .ensures ∙ sym (ap closeAnswer (c .before .enum-told2 .given .1))
 
 pub of-close-spec : {M : Type 1} → statement M
 of-close-spec =

@@ -50,7 +50,7 @@ returns c = c .of-stopped .ensures ∙ sym (ap feedAnswer (c .before .before .sa
 
 -- src/answers.rt:106:1
 returns-2 : tie.Need-returns-2
-returns-2 c = cc
+returns-2 c = c .with .ensures ∙ sym (ap feedAnswer (c .before .enum-told .given .1))
 
 -- src/answers.rt:106:1
 returns-3 : tie.Need-returns-3
@@ -58,7 +58,7 @@ returns-3 c = c .with2 .ensures ∙ sym (ap feedAnswer (c .before .before .befor
 
 -- src/answers.rt:106:1
 returns-4 : tie.Need-returns-4
-returns-4 c = cc
+returns-4 c = c .with3 .ensures ∙ sym (ap feedAnswer (c .before .enum-told2 .given .1))
 
 pub of-feed-spec : {M : Type 1} → statement M
 of-feed-spec =

@@ -49,15 +49,15 @@ returns c = c .with .ensures ∙ sym (ap openAnswer (c .before .before .before .
 
 -- src/answers.rt:88:1
 returns-2 : tie.Need-returns-2
-returns-2 c = cc
+returns-2 c = c .with2 .ensures ∙ sym (ap openAnswer (c .before .enum-told .given .1))
 
 -- src/answers.rt:88:1
 returns-3 : tie.Need-returns-3
-returns-3 c = cc
+returns-3 c = c .with3 .ensures ∙ sym (ap openAnswer (c .before .enum-told2 .given .1))
 
 -- src/answers.rt:88:1
 returns-4 : tie.Need-returns-4
-returns-4 c = cc
+returns-4 c = c .with4 .ensures ∙ sym (ap openAnswer (c .before .enum-told3 .given .1))
 
 pub of-open-spec : {M : Type 1} → statement M
 of-open-spec =

@@ -58,7 +58,7 @@ returns-3 c = c .with2 .ensures ∙ sym (ap replaceAnswer (c .before .before .sa
 
 -- src/answers.rt:77:1
 returns-4 : tie.Need-returns-4
-returns-4 c = cc
+returns-4 c = c .with3 .ensures ∙ sym (ap replaceAnswer (c .before .enum-told .given .1))
 
 pub of-replace-spec : {M : Type 1} → statement M
 of-replace-spec =
