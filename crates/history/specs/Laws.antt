@@ -19,3 +19,4 @@ pub mod Serving
 pub mod ServingAll
 pub mod States
 pub mod Later
+pub mod Rows

@@ -1,6 +1,7 @@
 -- Histories of calls, and the theorems of the demands.
 pub mod History
 pub mod Served
+pub mod Readings
 pub mod Laws
 pub mod Demand2
 pub mod Demand3
