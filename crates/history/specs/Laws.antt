@@ -20,3 +20,4 @@ pub mod ServingAll
 pub mod States
 pub mod Later
 pub mod Rows
+pub mod Answering

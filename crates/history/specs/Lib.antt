@@ -4,6 +4,7 @@ pub mod Served
 pub mod Readings
 pub mod Laws
 pub mod Demand2
+pub mod Answers
 pub mod Demand3
 pub mod Stale
 pub mod Stream

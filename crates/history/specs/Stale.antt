@@ -17,7 +17,8 @@ use Rattle.desk.specs.Rooms.{editionOf, roomOf, serialOf, ticketIn}
 use Rattle.desk.specs.declared.Closing.{Closing}
 use Rattle.desk.specs.declared.Feeding.{Feeding}
 use Rattle.desk.specs.declared.Serial.{Serial}
-use Rattle.history.specs.History.{Account, Act, AllBytes, World, accountAt, run, start}
+use Rattle.history.specs.History.{Account, Act, AllBytes, Gone, World, accountAt, run, start}
+use Rattle.history.specs.Laws.Answering.{closed-room, gone-iff, open-room}
 use Rattle.history.specs.Laws.Invariant.{Inv, Stranger}
 use Rattle.history.specs.Laws.Later.{goes-run}
 use Rattle.history.specs.Laws.LedgerSteps.{sound, sound-run}
@@ -44,52 +45,37 @@ module _ (w : World) (v : Inv w) (k : ℕ) (hk : k < length (w .accounts)) where
   abbrev s : Serial
   s = serialOf (a .serial)
 
-  -- a closed serial has no room, over any later call
-  closed-room : a .closed ≡ true → 16 ≤ roomOf (w .desk .tickets) s
-  closed-room c = go (v .seats k hk)
-    where
-      go : Seat (w .desk .tickets) a → 16 ≤ roomOf (w .desk .tickets) s
-      go (no-seat q h) = h
-      go (seated q h g) = absurd (not-both c q)
-
-  open-room : a .closed ≡ false → (roomOf (w .desk .tickets) s < 16) × Agrees (ticketIn (w .desk .tickets) (roomOf (w .desk .tickets) s)) a
-  open-room c = go (v .seats k hk)
-    where
-      go : Seat (w .desk .tickets) a → (roomOf (w .desk .tickets) s < 16) × Agrees (ticketIn (w .desk .tickets) (roomOf (w .desk .tickets) s)) a
-      go (no-seat q h) = absurd (not-both q c)
-      go (seated q h g) = (h, g)
-
   -- NO TICKET for ever: a closed serial is refused by feed and close, over every table
   pub closed-feed-is : a .closed ≡ true → (table : List ℕ) (piece : Word) → feedOf (w .desk) s table piece ≡ record { desk = w .desk; answer = F.NoTicket }
   closed-feed-is c table piece = go _ (feeds (w .desk) s table piece)
     where
       go : (r : Feeding) → Feeds (w .desk) (roomOf (w .desk .tickets) s) table piece r → r ≡ record { desk = w .desk; answer = F.NoTicket }
       go r (feed-no-ticket h) = refl
-      go r (feed-stale h e) = absurd (omega (arith, h, closed-room c))
-      go r (feed-other-slots h e n) = absurd (omega (arith, h, closed-room c))
-      go r (feed-long h e l m) = absurd (omega (arith, h, closed-room c))
-      go r (feed-no-place h e l m n) = absurd (omega (arith, h, closed-room c))
-      go r (feed-read h e l m) = absurd (omega (arith, h, closed-room c))
+      go r (feed-stale h e) = absurd (omega (arith, h, closed-room w v k hk c))
+      go r (feed-other-slots h e n) = absurd (omega (arith, h, closed-room w v k hk c))
+      go r (feed-long h e l m) = absurd (omega (arith, h, closed-room w v k hk c))
+      go r (feed-no-place h e l m n) = absurd (omega (arith, h, closed-room w v k hk c))
+      go r (feed-read h e l m) = absurd (omega (arith, h, closed-room w v k hk c))
 
   pub closed-close-is : a .closed ≡ true → closeOf (w .desk) s ≡ record { desk = w .desk; answer = C.NoTicket }
   closed-close-is c = go _ (closes (w .desk) s)
     where
       go : (r : Closing) → Closes (w .desk) s r → r ≡ record { desk = w .desk; answer = C.NoTicket }
       go r (close-no-ticket h) = refl
-      go r (close-done i e h) = absurd (omega (arith, h, e, closed-room c))
+      go r (close-done i e h) = absurd (omega (arith, h, e, closed-room w v k hk c))
 
   pub open-close-is : a .closed ≡ false → closeOf (w .desk) s .answer ≡ C.Closed
   open-close-is c = go _ (closes (w .desk) s)
     where
       go : (r : Closing) → Closes (w .desk) s r → r .answer ≡ C.Closed
-      go r (close-no-ticket h) = absurd (omega (arith, h, open-room c .0))
+      go r (close-no-ticket h) = absurd (omega (arith, h, open-room w v k hk c .0))
       go r (close-done i e h) = refl
 
   stale-feed-is : a .closed ≡ false → a .edition < w .edition → (table : List ℕ) (piece : Word) → feedOf (w .desk) s table piece ≡ record { desk = w .desk; answer = F.Stale (editionOf (a .edition)) }
   stale-feed-is c old table piece = go _ (feeds (w .desk) s table piece)
     where
       room : (roomOf (w .desk .tickets) s < 16) × Agrees (ticketIn (w .desk .tickets) (roomOf (w .desk .tickets) s)) a
-      room = open-room c
+      room = open-room w v k hk c
 
       older : ticketIn (w .desk .tickets) (roomOf (w .desk .tickets) s) .edition .0 ≡ w .desk .edition .0 → ⊥
       older e = omega (arith, e, room .1 .edition, old, v .edition)
@@ -153,30 +139,6 @@ closed-for-ever acts more b c k h shut-now table piece =
       subst (λ (n : Serial). feedOf (v .desk) n table piece ≡ record { desk = v .desk; answer = F.NoTicket }) e (closed-feed-is v t k hk z table piece),
       subst (λ (n : Serial). closeOf (v .desk) n ≡ record { desk = v .desk; answer = C.NoTicket }) e (closed-close-is v t k hk z),
     )
-
--- a serial that no opening answered, or whose ticket was closed
-abbrev pub Gone : World → Serial → Type 0
-Gone w s = (k : ℕ) → k < length (w .accounts) → accountAt w k .serial ≡ s .0 → accountAt w k .closed ≡ true
-
--- such a serial has no room, and any other has one
-gone-iff : (w : World) → Inv w → (s : Serial) → (16 ≤ roomOf (w .desk .tickets) s) ↔ Gone w s
-gone-iff w v s = (there, back)
-  where
-    there : 16 ≤ roomOf (w .desk .tickets) s → Gone w s
-    there h k hk q = go (accountAt w k .closed) refl
-      where
-        go : (x : Bool) → accountAt w k .closed ≡ x → accountAt w k .closed ≡ true
-        go true c = c
-        go false c = absurd (omega (arith, h, subst (λ (n : Serial). roomOf (w .desk .tickets) n < 16) (λ d. record { 0 = q d }) (open-room w v k hk c .0)))
-
-    back : Gone w s → 16 ≤ roomOf (w .desk .tickets) s
-    back f = go (known-or-not w v (s .0))
-      where
-        go : ((k : ℕ) × (k < length (w .accounts)) × (s .0 ≡ suc k)) ⊎ Stranger (length (w .accounts)) (s .0) → 16 ≤ roomOf (w .desk .tickets) s
-        go (inl z) =
-            let q : accountAt w (z .0) .serial ≡ s .0 = v .numbered (z .0) (z .1) ∙ sym (z .2) in
-            subst (λ (n : Serial). 16 ≤ roomOf (w .desk .tickets) n) (λ d. record { 0 = q d }) (closed-room w v (z .0) (z .1) (f (z .0) (z .1) q))
-        go (inr z) = v .strangers s z
 
 -- NO TICKET, exactly: after any history a close of a serial, or a feed of it over any table, is refused so exactly if no opening answered the
 -- serial or its ticket was closed

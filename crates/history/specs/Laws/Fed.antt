@@ -76,10 +76,10 @@ module _ (w : World) (v : Inv w) (s : Serial) (k : ℕ) (hk : k < length (w .acc
   done = read-done w v s k hk ek hi same piece b
 
   fit : Agrees t a
-  fit = agrees w v s k hk ek hi same
+  fit = agrees w v s k hk ek hi
 
   for-s : isFor s t ≡ true
-  for-s = mine w v s k hk ek hi same
+  for-s = mine w v s k hk ek hi
 
   read-for : isFor s (readOn t r) ≡ true
   read-for = for-s
@@ -114,7 +114,7 @@ module _ (w : World) (v : Inv w) (s : Serial) (k : ℕ) (hk : k < length (w .acc
   seat =
       let q = seat-same rooms (wide w v) i (readOn t r) hi s refl read-for in
       subst (λ (n : ℕ). Seat (set rooms i (readOn t r)) (record { serial = n; edition = a .edition; tags = a .tags; bytes = a .bytes ++ more; closed = a .closed })) (ek ∙ sym (v .numbered k hk))
-      (seated (live w v s k hk ek hi same) (omega (arith, q .0))
+      (seated (live w v s k hk ek hi) (omega (arith, q .0))
       (subst (λ (x : Ticket). Agrees x (record { serial = s .0; edition = a .edition; tags = a .tags; bytes = a .bytes ++ more; closed = a .closed })) (sym (q .1))
       (record {
         edition = fit .edition;

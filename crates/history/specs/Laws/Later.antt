@@ -102,7 +102,7 @@ goes-feeds w s piece v = go _ (feeds (w .desk) s (w .table) piece)
     }
       where
         no : (accountAt w k .closed ≡ true) ⊎ (accountAt w k .edition < w .edition) → ⊥
-        no (inl c) = not-both c (live w v s k hk ek h e)
+        no (inl c) = not-both c (live w v s k hk ek h)
         no (inr c) = omega (arith, c, now w v s k hk ek h e)
 
     go : (r : Feeding) → Feeds (w .desk) (roomOf (w .desk .tickets) s) (w .table) piece r → Goes w (feeding w s piece (r .desk) (r .answer))

@@ -20,11 +20,10 @@ use Rattle.desk.specs.declared.Feeding.{Feeding}
 use Rattle.desk.specs.declared.Opening.{Opening}
 use Rattle.desk.specs.declared.Serial.{Serial}
 use Rattle.desk.specs.declared.Taking.{Taking}
-use Rattle.history.specs.History.{Account, World, accountAt, actClose, actFeed, actOpen, actTake, closing, feeding, grown, newAccount, noAccount, onSerial, opening, run, shut, step}
+use Rattle.history.specs.History.{Account, World, accountAt, actClose, actFeed, actOpen, actTake, closing, feeding, grown, lives, newAccount, noAccount, onSerial, opening, run, shut, step}
 use Rattle.history.specs.Laws.Becomes.{Becomes, becomes-append, becomes-nothing, becomes-one}
 use Rattle.history.specs.Laws.Feeding.{force, now, read-due}
 use Rattle.history.specs.Laws.Invariant.{changed-is, wide}
-use Rattle.history.specs.Laws.Ledger.{lives}
 use Rattle.history.specs.Laws.LedgerSteps.{Sound}
 use Rattle.history.specs.Laws.Seats.{Agrees, Seat, no-seat, seated}
 use Rattle.history.specs.Laws.Snoc.{snoc-last, snoc-length}
