@@ -18,7 +18,7 @@ use Rattle.desk.specs.declared.Feeding.{Feeding}
 use Rattle.desk.specs.declared.OpenAnswer.{OpenAnswer}
 use Rattle.desk.specs.declared.Serial.{Serial}
 use Rattle.history.specs.History.{Account, Act, AllBytes, Gone, OpenOrStale, OpenTicket, StaleTicket, World, accountAt, actFeed, feeding, lives, run, start, step, stream}
-use Rattle.history.specs.Laws.Answering.{FeedsFor, feeds-for, for-gone, for-long, for-read, for-stale}
+use Rattle.history.specs.Laws.Answering.{FeedsFor, OpensFor, feeds-for, for-gone, for-long, for-read, for-stale, opens-for, opens-next, opens-no-room, opens-no-set, opens-serial-end}
 use Rattle.history.specs.Laws.Invariant.{Inv}
 use Rattle.history.specs.Laws.LedgerSteps.{sound}
 use Rattle.history.specs.Readings.{Demanded}
@@ -102,4 +102,47 @@ feed-answers acts b s piece c = go _ (feeds-for w v s piece c) refl
       fed = λ m n t e. (j, o, l);
       reads = λ k u m. same (λ i. FedAsDemanded w s (accountAt w i) piece (F.Fed (x .taken) (length (x .found)) (x .stop))) j k (o .0) (u .0)
           (record { outcome = x; demanded = d; answered = refl; added = ap (λ (z : Feeding). stream (feeding w s piece (z .desk) (z .answer))) q ∙ a });
+    }
+
+-- ---- an opening
+
+pub record OpenAnswers (w : World) (answer : OpenAnswer) : Type 0 where
+  pub no-set : (answer ≡ O.NoSet) ↔ (length (w .orders) ≡ 0)
+  pub serial-end : (answer ≡ O.SerialEnd) ↔ ((0 < length (w .orders)) × (length (w .accounts) ≡ 4294967295))
+  pub no-room : (answer ≡ O.NoRoom) ↔ ((0 < length (w .orders)) × (length (w .accounts) < 4294967295) × (lives (w .accounts) ≡ 16))
+  pub opened : (s : Serial) → (answer ≡ O.Opened s)
+      ↔ ((0 < length (w .orders)) × (length (w .accounts) < 4294967295) × (lives (w .accounts) < 16) × (s .0 ≡ suc (length (w .accounts))))
+
+-- WHAT AN OPENING ANSWERS, over any history: NO SET exactly if no replacement was accepted; then SERIAL exactly if 4,294,967,295 tickets were
+-- opened; then NO ROOM exactly if 16 are not closed, so that a closed ticket's room is used again; else the serial one above the number opened
+pub open-answers : (acts : List Act) → AllBytes acts → OpenAnswers (run start acts) (openOf (run start acts .desk) .answer)
+open-answers acts b = go _ (opens-for w (sound acts b))
+  where
+    w : World
+    w = run start acts
+
+    go : (a : OpenAnswer) → OpensFor w a → OpenAnswers w a
+    go a (opens-no-set h) = record {
+      no-set = (λ e. h, λ e. refl);
+      serial-end = (λ e. absurd (let z : _≡_ {A = ℕ} 0 1 = cc in omega arith), λ z. absurd (omega (arith, h, z .0)));
+      no-room = (λ e. absurd (let z : _≡_ {A = ℕ} 0 1 = cc in omega arith), λ z. absurd (omega (arith, h, z .0)));
+      opened = λ s. (λ e. absurd (let z : _≡_ {A = ℕ} 0 1 = cc in omega arith), λ z. absurd (omega (arith, h, z .0)));
+    }
+    go a (opens-serial-end h l) = record {
+      no-set = (λ e. absurd (let z : _≡_ {A = ℕ} 0 1 = cc in omega arith), λ z. absurd (omega (arith, h, z)));
+      serial-end = (λ e. (h, l), λ z. refl);
+      no-room = (λ e. absurd (let z : _≡_ {A = ℕ} 0 1 = cc in omega arith), λ z. absurd (omega (arith, l, z .1)));
+      opened = λ s. (λ e. absurd (let z : _≡_ {A = ℕ} 0 1 = cc in omega arith), λ z. absurd (omega (arith, l, z .1)));
+    }
+    go a (opens-no-room h l f) = record {
+      no-set = (λ e. absurd (let z : _≡_ {A = ℕ} 0 1 = cc in omega arith), λ z. absurd (omega (arith, h, z)));
+      serial-end = (λ e. absurd (let z : _≡_ {A = ℕ} 0 1 = cc in omega arith), λ z. absurd (omega (arith, l, z .1)));
+      no-room = (λ e. (h, l, f), λ z. refl);
+      opened = λ s. (λ e. absurd (let z : _≡_ {A = ℕ} 0 1 = cc in omega arith), λ z. absurd (omega (arith, f, z .2)));
+    }
+    go a (opens-next h l f) = record {
+      no-set = (λ e. absurd (let z : _≡_ {A = ℕ} 0 1 = cc in omega arith), λ z. absurd (omega (arith, h, z)));
+      serial-end = (λ e. absurd (let z : _≡_ {A = ℕ} 0 1 = cc in omega arith), λ z. absurd (omega (arith, l, z .1)));
+      no-room = (λ e. absurd (let z : _≡_ {A = ℕ} 0 1 = cc in omega arith), λ z. absurd (omega (arith, f, z .2)));
+      opened = λ s. (λ e. (h, l, f, cc), λ z d. O.Opened (record { 0 = sym (z .3) d }));
     }

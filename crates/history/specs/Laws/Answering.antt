@@ -1,5 +1,6 @@
 -- What a feed answers after any history, by the account of its serial.
 use Rattle.desk.specs.declared.FeedAnswer.the-variants as F
+use Rattle.desk.specs.declared.OpenAnswer.the-variants as O
 use Prim.Native.Nat.{_+_, _-_, _<_, _≤_, suc, ℕ}
 use mathlib.Core.Bool.{Bool, false, true}
 use mathlib.Core.List.{List, _++_}
@@ -8,22 +9,26 @@ use mathlib.Core.Path.{_∙_, _≡_, ap, refl, subst, sym}
 use native.Mathlib.Decide.{decLe}
 use native.Mathlib.Omega.{arith}
 use lib.ListN.{length}
+use Rattle.desk.specs.Calls.{openOf}
 use Rattle.desk.specs.Feed.{fedBy, feedOf, readFor}
 use Rattle.desk.specs.Laws.Good.{good, on-place}
-use Rattle.desk.specs.Laws.Rooms.{for-held}
+use Rattle.desk.specs.Laws.Rooms.{firstRoom-le, for-held, full-iff, held-le}
 use Rattle.desk.specs.Laws.Shared.{held-length}
-use Rattle.desk.specs.Laws.Views.{Feeds, feed-long, feed-no-place, feed-no-ticket, feed-other-slots, feed-read, feed-stale, feeds}
-use Rattle.desk.specs.Rooms.{editionOf, roomOf, serialOf, ticketIn}
+use Rattle.desk.specs.Laws.Views.{Feeds, Opens, feed-long, feed-no-place, feed-no-ticket, feed-other-slots, feed-read, feed-stale, feeds, open-done, open-no-room, open-no-set, open-serial-end, opens}
+use Rattle.desk.specs.Rooms.{editionOf, freeRoom, isFree, roomOf, serialOf, ticketIn}
 use Rattle.desk.specs.Shared.{held, recordsOf}
 use Rattle.desk.specs.declared.Desk.{Desk}
 use Rattle.desk.specs.declared.Feeding.{Feeding}
+use Rattle.desk.specs.declared.OpenAnswer.{OpenAnswer}
+use Rattle.desk.specs.declared.Opening.{Opening}
 use Rattle.desk.specs.declared.Record.{Record}
 use Rattle.desk.specs.declared.Serial.{Serial}
 use Rattle.desk.specs.declared.Ticket.{Ticket}
-use Rattle.history.specs.History.{Account, Gone, OpenOrStale, OpenTicket, StaleTicket, World, accountAt, stream}
+use Rattle.history.specs.History.{Account, Gone, OpenOrStale, OpenTicket, StaleTicket, World, accountAt, lives, stream}
 use Rattle.history.specs.Laws.Fed.{stream-fed}
 use Rattle.history.specs.Laws.Feeding.{agrees, force, live, mine, now, read-done}
-use Rattle.history.specs.Laws.Invariant.{Inv, Stranger, given}
+use Rattle.history.specs.Laws.Invariant.{Inv, Stranger, given, wide}
+use Rattle.history.specs.Laws.LedgerSteps.{Sound}
 use Rattle.history.specs.Laws.Rows.{done-demanded}
 use Rattle.history.specs.Laws.Seats.{Agrees, Seat, no-seat, seated}
 use Rattle.history.specs.Laws.States.{known-or-not}
@@ -140,3 +145,41 @@ feeds-for w v s piece b = go _ (feeds (w .desk) s (w .table) piece)
     go r (feed-long h e l m) = let g = given w v s h in long-case w v s piece h (g .0) (g .1) (g .2) b e m
     go r (feed-no-place h e l m n) = absurd (on-place (w .desk) s (w .table) (good (v .reached)) h e l n)
     go r (feed-read h e l m) = let g = given w v s h in read-case w v s piece h (g .0) (g .1) (g .2) b e m
+
+-- ---- the cases of an opening
+
+pub data OpensFor (w : World) : OpenAnswer → Type 0 where
+  opens-no-set : length (w .orders) ≡ 0 → OpensFor w O.NoSet
+  opens-serial-end : 0 < length (w .orders) → length (w .accounts) ≡ 4294967295 → OpensFor w O.SerialEnd
+  opens-no-room : 0 < length (w .orders) → length (w .accounts) < 4294967295 → lives (w .accounts) ≡ 16 → OpensFor w O.NoRoom
+  opens-next : 0 < length (w .orders) → length (w .accounts) < 4294967295 → lives (w .accounts) < 16 → OpensFor w (O.Opened (serialOf (suc (length (w .accounts)))))
+
+pub opens-for : (w : World) → Sound w → OpensFor w (openOf (w .desk) .answer)
+opens-for w q = go _ (opens (w .desk))
+  where
+    rooms : List Ticket
+    rooms = w .desk .tickets
+
+    some : (w .desk .edition .0 ≡ 0 → ⊥) → 0 < length (w .orders)
+    some n = lower 0 _ (omega arith) (λ e. n (omega (arith, e, q .ledger .editions, q .inv .edition)))
+
+    few : (w .desk .serial .0 ≡ 4294967295 → ⊥) → length (w .accounts) < 4294967295
+    few n = lower _ _ (q .ledger .few-serials) (λ e. n (sym (q .inv .serials) ∙ e))
+
+    -- a free room is the one of a ticket fewer than 16
+    free : freeRoom rooms < 16 → lives (w .accounts) < 16
+    free h =
+        lower _ _ (omega (arith, q .ledger .rooms, held-le rooms, wide w (q .inv)))
+        (λ e. absurd (omega (arith, h, full-iff rooms .1 (sym (q .ledger .rooms) ∙ e ∙ sym (wide w (q .inv))), wide w (q .inv))))
+
+    full : 16 ≤ freeRoom rooms → lives (w .accounts) ≡ 16
+    full h =
+        let z : freeRoom rooms ≡ length rooms = omega (arith, h, firstRoom-le isFree rooms, wide w (q .inv)) in
+        q .ledger .rooms ∙ full-iff rooms .0 z ∙ wide w (q .inv)
+
+    go : (r : Opening) → Opens (w .desk) r → OpensFor w (r .answer)
+    go r (open-no-set a) = opens-no-set (omega (arith, a, q .ledger .editions, q .inv .edition))
+    go r (open-serial-end a e) = opens-serial-end (some a) (q .inv .serials ∙ e)
+    go r (open-no-room a e h) = opens-no-room (some a) (few e) (full h)
+    go r (open-done a e i p h) =
+        subst (λ (n : ℕ). OpensFor w (O.Opened (serialOf n))) (omega (arith, q .inv .serials)) (opens-next (some a) (few e) (free (omega (arith, p, h))))
