@@ -1,7 +1,8 @@
 -- After a replacement an older ticket is stale and takes no byte, or stays closed.
 use Rattle.desk.specs.declared.FeedAnswer.the-variants as F
 use Rattle.desk.specs.declared.CloseAnswer.the-variants as C
-use Prim.Native.Nat.{_<_, _≤_, suc, ℕ}
+use Rattle.desk.specs.declared.ReplaceAnswer.the-variants as R
+use Prim.Native.Nat.{_+_, _<_, _≤_, suc, ℕ}
 use mathlib.Core.Bool.{Bool, false, not, true}
 use mathlib.Core.List.{List}
 use mathlib.Core.Logic.{_↔_, _⊎_, inl, inr}
@@ -12,27 +13,32 @@ use lib.Dec.{eqb}
 use lib.ListN.{length}
 use Rattle.desk.specs.Calls.{closeOf}
 use Rattle.desk.specs.Feed.{feedOf}
-use Rattle.desk.specs.Laws.Views.{Closes, Feeds, close-done, close-no-ticket, closes, feed-long, feed-no-place, feed-no-ticket, feed-other-slots, feed-read, feed-stale, feeds}
+use Rattle.desk.specs.Laws.Views.{Closes, Feeds, Replaces, close-done, close-no-ticket, closes, feed-long, feed-no-place, feed-no-ticket, feed-other-slots, feed-read, feed-stale, feeds, replace-done, replace-edition-end, replace-fault, replace-table, replaces}
+use Rattle.desk.specs.Replace.{replaceOf}
 use Rattle.desk.specs.Rooms.{editionOf, roomOf, serialOf, ticketIn}
 use Rattle.desk.specs.declared.Closing.{Closing}
+use Rattle.desk.specs.declared.Edition.{Edition}
 use Rattle.desk.specs.declared.Feeding.{Feeding}
+use Rattle.desk.specs.declared.Replacing.{Replacing}
 use Rattle.desk.specs.declared.Serial.{Serial}
-use Rattle.history.specs.History.{Account, Act, AllBytes, Gone, World, accountAt, run, start}
+use Rattle.history.specs.History.{Account, Act, AllBytes, Gone, World, accountAt, actReplace, replacing, run, start, step}
 use Rattle.history.specs.Laws.Answering.{closed-room, gone-iff, open-room}
 use Rattle.history.specs.Laws.Invariant.{Inv, Stranger}
 use Rattle.history.specs.Laws.Later.{goes-run}
 use Rattle.history.specs.Laws.LedgerSteps.{sound, sound-run}
 use Rattle.history.specs.Laws.Seats.{Agrees, Seat, no-seat, seated}
 use Rattle.history.specs.Laws.States.{known-or-not, state-is, stateOfAccount}
+use Rattle.history.specs.Laws.Steps.{inv-step}
 use Rattle.history.specs.Served.{isClosed, isStale, stateBy, stateOf}
 use Rattle.matching.specs.Laws.Bools.{is-false, not-both}
 use Rattle.matching.specs.Laws.Words.{eqb-eq}
-use Rattle.matching.specs.Words.{Word}
+use Rattle.matching.specs.Words.{Below, Word}
 
--- what the desk says of a ticket that is older than the set: it is stale or closed; a feed is refused, over every table; and while it is
--- stale it can be closed
+-- what the desk says of a ticket that is older than the set: it is stale, or closed if it was closed; a feed is refused, over every table; and
+-- while it is stale it can be closed
 pub record Older (w : World) (a : Account) : Type 0 where
-  pub state : (stateOf (w .desk) (serialOf (a .serial)) ≡ isStale) ⊎ (stateOf (w .desk) (serialOf (a .serial)) ≡ isClosed)
+  pub stale-state : a .closed ≡ false → stateOf (w .desk) (serialOf (a .serial)) ≡ isStale
+  pub closed-state : a .closed ≡ true → stateOf (w .desk) (serialOf (a .serial)) ≡ isClosed
   pub stale-feed : a .closed ≡ false → (table : List ℕ) (piece : Word) → feedOf (w .desk) (serialOf (a .serial)) table piece ≡ record { desk = w .desk; answer = F.Stale (editionOf (a .edition)) }
   pub closed-feed : a .closed ≡ true → (table : List ℕ) (piece : Word) → feedOf (w .desk) (serialOf (a .serial)) table piece ≡ record { desk = w .desk; answer = F.NoTicket }
   pub stale-close : a .closed ≡ false → closeOf (w .desk) (serialOf (a .serial)) .answer ≡ C.Closed
@@ -90,7 +96,8 @@ module _ (w : World) (v : Inv w) (k : ℕ) (hk : k < length (w .accounts)) where
 
   older-is : a .edition < w .edition → Older w a
   older-is old = record {
-    state = go (a .closed) refl;
+    stale-state = λ c. shown ∙ ap₂ (λ (b x : Bool). stateBy true (not b) x) c other;
+    closed-state = λ c. shown ∙ ap (λ (b : Bool). stateBy true (not b) (eqb (a .edition) (w .edition))) c;
     stale-feed = λ c. stale-feed-is c old;
     closed-feed = closed-feed-is;
     stale-close = open-close-is;
@@ -103,11 +110,46 @@ module _ (w : World) (v : Inv w) (k : ℕ) (hk : k < length (w .accounts)) where
       other : eqb (a .edition) (w .edition) ≡ false
       other = is-false (eqb (a .edition) (w .edition)) (λ e. omega (arith, old, eqb-eq (a .edition) (w .edition) e))
 
-      go : (b : Bool) → a .closed ≡ b → (stateOf (w .desk) s ≡ isStale) ⊎ (stateOf (w .desk) s ≡ isClosed)
-      go true c = inr (shown ∙ ap (λ (b : Bool). stateBy true (not b) (eqb (a .edition) (w .edition))) c)
-      go false c = inl (shown ∙ ap₂ (λ (b x : Bool). stateBy true (not b) x) c other)
+-- what an accepted replacement makes of a history's tickets: the edition rises by one and is in force, the accounts stay as they were, and every
+-- one of them is older than the set
+pub record AllOlder (w v : World) (e : Edition) : Type 0 where
+  pub next : e .0 ≡ suc (w .edition)
+  pub in-force : v .edition ≡ e .0
+  pub accounts : v .accounts ≡ w .accounts
+  pub below : (k : ℕ) → k < length (w .accounts) → accountAt w k .edition < e .0
+  pub older : (k : ℕ) → k < length (w .accounts) → Older v (accountAt w k)
 
--- THE THEOREM. Once the edition in force is later than a ticket's, then after any more calls the ticket is stale or closed, has the bytes that
+-- EVERY OPEN TICKET BECOMES STALE: where a replacement is accepted, each ticket from before it is of an edition below the new one, and is stale
+-- then, or closed if it was closed
+pub replaced-all-stale : (acts : List Act) → AllBytes acts → (set table : List ℕ) → Below 256 set → (e : Edition) (count : ℕ)
+    → replaceOf (run start acts .desk) set (length table) .answer ≡ R.Replaced e count → AllOlder (run start acts) (step (run start acts) (actReplace set table)) e
+replaced-all-stale acts b set table c e count = go _ (replaces (w .desk) set (length table)) (inv-step w (actReplace set table) c v)
+  where
+    w : World
+    w = run start acts
+
+    v : Inv w
+    v = sound acts b .inv
+
+    number : {x : Edition} {m : ℕ} → R.Replaced x m ≡ R.Replaced e count → x .0 ≡ e .0
+    number q = cc
+
+    go : (r : Replacing) → Replaces (w .desk) set (length table) r → Inv (replacing w set table (r .desk) (r .answer)) → r .answer ≡ R.Replaced e count
+        → AllOlder w (replacing w set table (r .desk) (r .answer)) e
+    go r (replace-fault fault p) i q = absurd (let z : _≡_ {A = ℕ} 0 1 = cc in omega arith)
+    go r (replace-table machine short p) i q = absurd (let z : _≡_ {A = ℕ} 0 1 = cc in omega arith)
+    go r (replace-edition-end n p h) i q = absurd (let z : _≡_ {A = ℕ} 0 1 = cc in omega arith)
+    go r (replace-done n p h) i q =
+        let new : w .desk .edition .0 + 1 ≡ e .0 = number q in
+        record {
+          next = omega (arith, new, v .edition);
+          in-force = new;
+          accounts = refl;
+          below = λ k l. omega (arith, new, v .edition, v .kept k l .upto);
+          older = λ k l. older-is _ i k l (omega (arith, v .edition, v .kept k l .upto));
+        }
+
+-- THE THEOREM. Once the edition in force is later than a ticket's, then after any more calls the ticket is stale, or closed, has the bytes that
 -- it had, and if it was closed is closed still
 pub after-a-replacement : (acts more : List Act) → AllBytes acts → AllBytes more → (k : ℕ) → k < length (run start acts .accounts)
     → accountAt (run start acts) k .edition < run start acts .edition
