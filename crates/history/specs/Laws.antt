@@ -21,3 +21,5 @@ pub mod States
 pub mod Later
 pub mod Rows
 pub mod Answering
+pub mod Given
+pub mod ByRoom

@@ -23,6 +23,7 @@ use Rattle.desk.specs.declared.Replacing.{Replacing}
 use Rattle.desk.specs.declared.Serial.{Serial}
 use Rattle.history.specs.History.{Account, Act, AllBytes, Gone, World, accountAt, actReplace, replacing, run, start, step}
 use Rattle.history.specs.Laws.Answering.{closed-room, gone-iff, open-room}
+use Rattle.history.specs.Laws.ByRoom.{close-by-room, feed-by-room, no-room-close, no-room-feed}
 use Rattle.history.specs.Laws.Invariant.{Inv, Stranger}
 use Rattle.history.specs.Laws.Later.{goes-run}
 use Rattle.history.specs.Laws.LedgerSteps.{sound, sound-run}
@@ -53,22 +54,10 @@ module _ (w : World) (v : Inv w) (k : ℕ) (hk : k < length (w .accounts)) where
 
   -- NO TICKET for ever: a closed serial is refused by feed and close, over every table
   pub closed-feed-is : a .closed ≡ true → (table : List ℕ) (piece : Word) → feedOf (w .desk) s table piece ≡ record { desk = w .desk; answer = F.NoTicket }
-  closed-feed-is c table piece = go _ (feeds (w .desk) s table piece)
-    where
-      go : (r : Feeding) → Feeds (w .desk) (roomOf (w .desk .tickets) s) table piece r → r ≡ record { desk = w .desk; answer = F.NoTicket }
-      go r (feed-no-ticket h) = refl
-      go r (feed-stale h e) = absurd (omega (arith, h, closed-room w v k hk c))
-      go r (feed-other-slots h e n) = absurd (omega (arith, h, closed-room w v k hk c))
-      go r (feed-long h e l m) = absurd (omega (arith, h, closed-room w v k hk c))
-      go r (feed-no-place h e l m n) = absurd (omega (arith, h, closed-room w v k hk c))
-      go r (feed-read h e l m) = absurd (omega (arith, h, closed-room w v k hk c))
+  closed-feed-is c table piece = no-room-feed (w .desk) s table piece (closed-room w v k hk c)
 
   pub closed-close-is : a .closed ≡ true → closeOf (w .desk) s ≡ record { desk = w .desk; answer = C.NoTicket }
-  closed-close-is c = go _ (closes (w .desk) s)
-    where
-      go : (r : Closing) → Closes (w .desk) s r → r ≡ record { desk = w .desk; answer = C.NoTicket }
-      go r (close-no-ticket h) = refl
-      go r (close-done i e h) = absurd (omega (arith, h, e, closed-room w v k hk c))
+  closed-close-is c = no-room-close (w .desk) s (closed-room w v k hk c)
 
   pub open-close-is : a .closed ≡ false → closeOf (w .desk) s .answer ≡ C.Closed
   open-close-is c = go _ (closes (w .desk) s)
@@ -164,65 +153,19 @@ after-a-replacement acts more b c k h old =
     let t = sound-run w more c s in
     (l .bytes (inr old), l .closed, older-is (run w more) (t .inv) k (le-trans h (g .accounts)) (omega (arith, old, l .edition, g .edition)))
 
--- a closed ticket is NO TICKET for ever, after any more calls and over every table
-pub closed-for-ever : (acts more : List Act) → AllBytes acts → AllBytes more → (k : ℕ) → k < length (run start acts .accounts) → accountAt (run start acts) k .closed ≡ true
-    → (table : List ℕ) (piece : Word)
-    → (feedOf (run (run start acts) more .desk) (serialOf (suc k)) table piece ≡ record { desk = run (run start acts) more .desk; answer = F.NoTicket })
-    × (closeOf (run (run start acts) more .desk) (serialOf (suc k)) ≡ record { desk = run (run start acts) more .desk; answer = C.NoTicket })
-closed-for-ever acts more b c k h shut-now table piece =
-    let w = run start acts in
-    let s = sound acts b in
-    let v = run w more in
-    let g = goes-run w more c (s .inv) in
-    let t = sound-run w more c s .inv in
-    let hk = le-trans h (g .accounts) in
-    let e : serialOf (accountAt v k .serial) ≡ serialOf (suc k) = λ d. record { 0 = t .numbered k hk d } in
-    let z = g .each k h .closed shut-now in (
-      subst (λ (n : Serial). feedOf (v .desk) n table piece ≡ record { desk = v .desk; answer = F.NoTicket }) e (closed-feed-is v t k hk z table piece),
-      subst (λ (n : Serial). closeOf (v .desk) n ≡ record { desk = v .desk; answer = C.NoTicket }) e (closed-close-is v t k hk z),
-    )
-
 -- NO TICKET, exactly: after any history a close of a serial, or a feed of it over any table, is refused so exactly if no opening answered the
 -- serial or its ticket was closed
 pub no-ticket-close : (acts : List Act) → AllBytes acts → (s : Serial) → (closeOf (run start acts .desk) s .answer ≡ C.NoTicket) ↔ Gone (run start acts) s
-no-ticket-close acts b s = (λ e. gone-iff w v s .0 (there _ (closes (w .desk) s) e), λ g. back _ (closes (w .desk) s) (gone-iff w v s .1 g))
-  where
-    w : World
-    w = run start acts
-
-    v : Inv w
-    v = sound acts b .inv
-
-    there : (r : Closing) → Closes (w .desk) s r → r .answer ≡ C.NoTicket → 16 ≤ roomOf (w .desk .tickets) s
-    there r (close-no-ticket h) e = h
-    there r (close-done i p h) e = absurd (let z : _≡_ {A = ℕ} 0 1 = cc in omega arith)
-
-    back : (r : Closing) → Closes (w .desk) s r → 16 ≤ roomOf (w .desk .tickets) s → r .answer ≡ C.NoTicket
-    back r (close-no-ticket h) g = refl
-    back r (close-done i p h) g = absurd (omega (arith, g, p, h))
+no-ticket-close acts b s =
+    let w = run start acts in
+    let g = gone-iff w (sound acts b .inv) s in
+    let r = close-by-room (w .desk) s in
+    (λ e. g .0 (r .0 e), λ h. r .1 (g .1 h))
 
 pub no-ticket-feed : (acts : List Act) → AllBytes acts → (s : Serial) (table : List ℕ) (piece : Word)
     → (feedOf (run start acts .desk) s table piece .answer ≡ F.NoTicket) ↔ Gone (run start acts) s
-no-ticket-feed acts b s table piece = (λ e. gone-iff w v s .0 (there _ (feeds (w .desk) s table piece) e), λ g. back _ (feeds (w .desk) s table piece) (gone-iff w v s .1 g))
-  where
-    w : World
-    w = run start acts
-
-    v : Inv w
-    v = sound acts b .inv
-
-    there : (r : Feeding) → Feeds (w .desk) (roomOf (w .desk .tickets) s) table piece r → r .answer ≡ F.NoTicket → 16 ≤ roomOf (w .desk .tickets) s
-    there r (feed-no-ticket h) e = h
-    there r (feed-stale h x) e = absurd (let z : _≡_ {A = ℕ} 0 1 = cc in omega arith)
-    there r (feed-other-slots h x l) e = absurd (let z : _≡_ {A = ℕ} 0 1 = cc in omega arith)
-    there r (feed-long h x l m) e = absurd (let z : _≡_ {A = ℕ} 0 1 = cc in omega arith)
-    there r (feed-no-place h x l m y) e = absurd (let z : _≡_ {A = ℕ} 0 1 = cc in omega arith)
-    there r (feed-read h x l m) e = absurd (let z : _≡_ {A = ℕ} 0 1 = cc in omega arith)
-
-    back : (r : Feeding) → Feeds (w .desk) (roomOf (w .desk .tickets) s) table piece r → 16 ≤ roomOf (w .desk .tickets) s → r .answer ≡ F.NoTicket
-    back r (feed-no-ticket h) g = refl
-    back r (feed-stale h x) g = absurd (omega (arith, g, h))
-    back r (feed-other-slots h x l) g = absurd (omega (arith, g, h))
-    back r (feed-long h x l m) g = absurd (omega (arith, g, h))
-    back r (feed-no-place h x l m y) g = absurd (omega (arith, g, h))
-    back r (feed-read h x l m) g = absurd (omega (arith, g, h))
+no-ticket-feed acts b s table piece =
+    let w = run start acts in
+    let g = gone-iff w (sound acts b .inv) s in
+    let r = feed-by-room (w .desk) s table piece in
+    (λ e. g .0 (r .0 e), λ h. r .1 (g .1 h))

@@ -101,20 +101,6 @@ adds w v actTake b = quiet w (step w actTake) actTake (stream-takes w _ (good (v
 pub stream-grows : (acts : List Act) → AllBytes acts → (a : Act) → OfBytes a → Adds (run start acts) (step (run start acts) a) a
 stream-grows acts b a c = adds (run start acts) (sound acts b .inv) a c
 
--- a taking hands out the oldest of all records held
-pub oldest-first : (acts : List Act) → AllBytes acts → (r : Record) → takeOf (run start acts .desk) .answer ≡ K.Taken r
-    → held (run start acts .desk .records) ≡ r ∷ held (step (run start acts) actTake .desk .records)
-oldest-first acts b r e = go _ (takes (run start acts .desk)) refl e
-  where
-    d : Desk
-    d = run start acts .desk
-
-    go : (t : Taking) → Takes d t → takeOf d ≡ t → t .answer ≡ K.Taken r → held (d .records) ≡ r ∷ held (takeOf d .desk .records)
-    go t (take-nothing h) q p = absurd (let z : _≡_ {A = ℕ} 0 1 = cc in omega arith)
-    go t (take-oldest h) q p =
-        held-popped (d .records) h
-        ∙ ap₂ (λ (x : Record) (l : List Record). x ∷ l) (cc) (ap (λ (y : Taking). held (y .desk .records)) (sym q))
-
 -- ---- how many records there are
 
 -- the occurrences in all bytes taken for some accounts

@@ -1,0 +1,146 @@
+-- Over every history of calls, its feeds lent any tables, ours or not: which serials are NO TICKET, and in which order records are handed out.
+use Rattle.desk.specs.declared.FeedAnswer.the-variants as F
+use Rattle.desk.specs.declared.CloseAnswer.the-variants as C
+use Prim.Native.Nat.{_-_, _<_, _≤_, suc, ℕ}
+use mathlib.Core.List.{List, List·Memᴰ, Memᴰ·append-right, [], _++_, _∷_, append-nil}
+use mathlib.Core.Logic.{_↔_, _⊎_, inl, inr}
+use mathlib.Core.Path.{_∙_, _≡_, refl, subst, sym}
+use native.Mathlib.Decide.{decLe}
+use native.Mathlib.Omega.{arith}
+use lib.ListN.{length}
+use Rattle.desk.specs.Calls.{closeOf, takeOf}
+use Rattle.desk.specs.Feed.{feedOf, readFor}
+use Rattle.desk.specs.Laws.Good.{good, room-held}
+use Rattle.desk.specs.Laws.Rooms.{for-held}
+use Rattle.desk.specs.Laws.Shared.{held-popped, held-pushAll, recordsOf-length}
+use Rattle.desk.specs.Laws.Views.{Closes, Feeds, Opens, Replaces, Takes, close-done, close-no-ticket, closes, feed-long, feed-no-place, feed-no-ticket, feed-other-slots, feed-read, feed-stale, feeds, open-done, open-no-room, open-no-set, open-serial-end, opens, replace-done, replace-edition-end, replace-fault, replace-table, replaces, take-nothing, take-oldest, takes}
+use Rattle.desk.specs.Reached.{Call, Reached, afterCall, callClose, callFeed, callOpen, callReplace, callTake}
+use Rattle.desk.specs.Rooms.{roomOf, ticketIn}
+use Rattle.desk.specs.Shared.{held, recordsOf}
+use Rattle.desk.specs.declared.Closing.{Closing}
+use Rattle.desk.specs.declared.Desk.{Desk}
+use Rattle.desk.specs.declared.Feeding.{Feeding}
+use Rattle.desk.specs.declared.Opening.{Opening}
+use Rattle.desk.specs.declared.Record.{Record}
+use Rattle.desk.specs.declared.Replacing.{Replacing}
+use Rattle.desk.specs.declared.Serial.{Serial}
+use Rattle.desk.specs.declared.Taking.{Taking}
+use Rattle.desk.specs.declared.Ticket.{Ticket}
+use Rattle.history.specs.History.{handedOut, recordsFor}
+use Rattle.history.specs.Laws.Accounts.{recordsFor-own}
+use Rattle.history.specs.Laws.ByRoom.{close-by-room, feed-by-room, no-room-close, no-room-feed}
+use Rattle.history.specs.Laws.Given.{Given, given-all, given-run}
+use Rattle.history.specs.Serials.{NeverOrClosed, Serials, closedBy, noSerials, serialsAfter, serialsOf}
+use Rattle.matching.specs.Laws.AnyTable.{read-kept}
+use Rattle.matching.specs.Table.{slotsIn}
+use Rattle.matching.specs.Words.{Word}
+
+-- a serial has no room exactly if it was never given or is closed
+no-room-iff : (x : Serials) → Given x → (s : Serial) → (16 ≤ roomOf (x .desk .tickets) s) ↔ NeverOrClosed x s
+no-room-iff x g s = (g .has-not s, λ z. go z (decLe 16 (roomOf (x .desk .tickets) s)))
+  where
+    go : NeverOrClosed x s → Dec (16 ≤ roomOf (x .desk .tickets) s) → 16 ≤ roomOf (x .desk .tickets) s
+    go z (yes h) = h
+    go (inl f) (no h) = absurd (f (g .has s (omega arith) .0))
+    go (inr m) (no h) = absurd (g .has s (omega arith) .1 m)
+
+-- a close of a serial, and a feed of it over any table, are NO TICKET exactly if it was never given or is closed
+pub record NoTicketIff (x : Serials) (s : Serial) : Type 0 where
+  pub close : (closeOf (x .desk) s .answer ≡ C.NoTicket) ↔ NeverOrClosed x s
+  pub feed : (table : List ℕ) (piece : Word) → (feedOf (x .desk) s table piece .answer ≡ F.NoTicket) ↔ NeverOrClosed x s
+
+-- NO TICKET, exactly, after every history of calls
+pub no-ticket-iff : (calls : List Call) (s : Serial) → NoTicketIff (serialsOf noSerials calls) s
+no-ticket-iff calls s = record {
+  close = both (close-by-room (x .desk) s) (no-room-iff x (given-all calls) s);
+  feed = λ table piece. both (feed-by-room (x .desk) s table piece) (no-room-iff x (given-all calls) s);
+}
+  where
+    x : Serials
+    x = serialsOf noSerials calls
+
+    both : {A B C : Type 0} → A ↔ B → B ↔ C → A ↔ C
+    both f g = (λ a. g .0 (f .0 a), λ c. f .1 (g .1 c))
+
+-- a serial that is closed stays so
+still-closed : (calls : List Call) (x : Serials) (s : Serial) → List·Memᴰ s (x .closed) → List·Memᴰ s (serialsOf x calls .closed)
+unfolding serialsOf
+still-closed [] x s m = m
+still-closed (c ∷ calls) x s m = still-closed calls (serialsAfter x c) s (one c)
+  where
+    one : (c : Call) → List·Memᴰ s (serialsAfter x c .closed)
+    one (callReplace set run) = m
+    one callOpen = m
+    one (callFeed n table piece) = m
+    one (callClose n) = Memᴰ·append-right (closedBy n (closeOf (x .desk) n .answer)) m
+    one callTake = m
+
+-- a closed serial is NO TICKET for ever: after any more calls a feed of it, over any table, and a close of it are refused so, and change nothing
+pub closed-for-ever : (calls more : List Call) (s : Serial) → List·Memᴰ s (serialsOf noSerials calls .closed) → (table : List ℕ) (piece : Word)
+    → (feedOf (serialsOf (serialsOf noSerials calls) more .desk) s table piece ≡ record { desk = serialsOf (serialsOf noSerials calls) more .desk; answer = F.NoTicket })
+    × (closeOf (serialsOf (serialsOf noSerials calls) more .desk) s ≡ record { desk = serialsOf (serialsOf noSerials calls) more .desk; answer = C.NoTicket })
+closed-for-ever calls more s m table piece =
+    let x = serialsOf (serialsOf noSerials calls) more in
+    let h = no-room-iff x (given-run (serialsOf noSerials calls) (given-all calls) more) s .1 (inr (still-closed more (serialsOf noSerials calls) s m)) in
+    (no-room-feed (x .desk) s table piece h, no-room-close (x .desk) s h)
+
+-- ---- in which order records are handed out
+
+-- what a call makes of the records held: a taking hands out the oldest, a feed puts records of its serial behind all others, and any other call
+-- leaves them
+abbrev pub HeldAfter : Desk → Call → Type 0
+HeldAfter d (callReplace set run) = held (afterCall d (callReplace set run) .records) ≡ held (d .records)
+HeldAfter d callOpen = held (afterCall d callOpen .records) ≡ held (d .records)
+HeldAfter d (callFeed s table piece) = (rs : List Record) × (held (afterCall d (callFeed s table piece) .records) ≡ held (d .records) ++ rs) × (recordsFor (s .0) rs ≡ rs)
+HeldAfter d (callClose s) = held (afterCall d (callClose s) .records) ≡ held (d .records)
+HeldAfter d callTake = handedOut (takeOf d .answer) ++ held (afterCall d callTake .records) ≡ held (d .records)
+
+feed-held : (d : Desk) → Reached d → (s : Serial) (table : List ℕ) (piece : Word) → HeldAfter d (callFeed s table piece)
+unfolding recordsFor
+feed-held d r s table piece = go _ (feeds d s table piece)
+  where
+    go : (x : Feeding) → Feeds d (roomOf (d .tickets) s) table piece x → (rs : List Record) × (held (x .desk .records) ≡ held (d .records) ++ rs) × (recordsFor (s .0) rs ≡ rs)
+    go x (feed-no-ticket h) = ([], sym (append-nil (held (d .records))), refl)
+    go x (feed-stale h e) = ([], sym (append-nil (held (d .records))), refl)
+    go x (feed-other-slots h e l) = ([], sym (append-nil (held (d .records))), refl)
+    go x (feed-long h e l m) = ([], sym (append-nil (held (d .records))), refl)
+    go x (feed-no-place h e l m n) = ([], sym (append-nil (held (d .records))), refl)
+    go x (feed-read h e l m) =
+        let t = ticketIn (d .tickets) (roomOf (d .tickets) s) in
+        let q = readFor d t table piece in
+        let rs = recordsOf (t .serial) (t .edition) (q .found) in
+        let k = read-kept 1 (slotsIn 1 8 (length table)) table (t .place) (t .taken) (256 - d .records .count) piece in
+        let g = good r in (
+          rs,
+          held-pushAll (d .records) rs (g .ring) (omega (arith, k .fits, recordsOf-length (t .serial) (t .edition) (q .found), g .count)),
+          subst (λ (n : ℕ). recordsFor n rs ≡ rs) (for-held s t (room-held d s g h) .1) (recordsFor-own (t .serial) (t .edition) (q .found)),
+        )
+
+-- OLDEST FIRST, of every desk that calls have made, whatever tables its feeds were lent: a taking hands out the oldest of all records held, and
+-- none is lost or changes its place
+pub oldest-first : {d : Desk} → Reached d → (c : Call) → HeldAfter d c
+oldest-first {d} r (callReplace set run) = go _ (replaces d set (length run))
+  where
+    go : (x : Replacing) → Replaces d set (length run) x → held (x .desk .records) ≡ held (d .records)
+    go x (replace-fault fault e) = refl
+    go x (replace-table machine short e) = refl
+    go x (replace-edition-end count e h) = refl
+    go x (replace-done count e h) = refl
+oldest-first {d} r callOpen = go _ (opens d)
+  where
+    go : (x : Opening) → Opens d x → held (x .desk .records) ≡ held (d .records)
+    go x (open-no-set a) = refl
+    go x (open-serial-end a b) = refl
+    go x (open-no-room a b c) = refl
+    go x (open-done a b i e h) = refl
+oldest-first {d} r (callFeed s table piece) = feed-held d r s table piece
+oldest-first {d} r (callClose s) = go _ (closes d s)
+  where
+    go : (x : Closing) → Closes d s x → held (x .desk .records) ≡ held (d .records)
+    go x (close-no-ticket h) = refl
+    go x (close-done i e h) = refl
+oldest-first {d} r callTake = go _ (takes d)
+  where
+    go : (x : Taking) → Takes d x → handedOut (x .answer) ++ held (x .desk .records) ≡ held (d .records)
+    go x (take-nothing h) = refl
+    go x (take-oldest h) = sym (held-popped (d .records) h)
