@@ -1,7 +1,8 @@
--- Over every history of calls, its feeds lent any tables, ours or not: which serials are NO TICKET, and in which order records are handed out.
+-- Over every table, ours or not, and every history of calls with feeds lent any tables: in which order records are written and handed out, and
+-- which serials are NO TICKET.
 use Rattle.desk.specs.declared.FeedAnswer.the-variants as F
 use Rattle.desk.specs.declared.CloseAnswer.the-variants as C
-use Prim.Native.Nat.{_-_, _<_, _≤_, suc, ℕ}
+use Prim.Native.Nat.{_+_, _-_, _/_, _<_, _≤_, suc, ℕ}
 use mathlib.Core.List.{List, List·Memᴰ, Memᴰ·append-right, [], _++_, _∷_, append-nil}
 use mathlib.Core.Logic.{_↔_, _⊎_, inl, inr}
 use mathlib.Core.Path.{_∙_, _≡_, refl, subst, sym}
@@ -30,10 +31,16 @@ use Rattle.history.specs.History.{handedOut, recordsFor}
 use Rattle.history.specs.Laws.Accounts.{recordsFor-own}
 use Rattle.history.specs.Laws.ByRoom.{close-by-room, feed-by-room, no-room-close, no-room-feed}
 use Rattle.history.specs.Laws.Given.{Given, given-all, given-run}
+use Rattle.history.specs.Laws.Ordered.{found-ordered}
 use Rattle.history.specs.Serials.{NeverOrClosed, Serials, closedBy, noSerials, serialsAfter, serialsOf}
 use Rattle.matching.specs.Laws.AnyTable.{read-kept}
+use Rattle.matching.specs.Occurrence.{Ordered}
+use Rattle.matching.specs.Reading.{Outcome, allBelow, read}
 use Rattle.matching.specs.Table.{slotsIn}
 use Rattle.matching.specs.Words.{Word}
+use Rattle.reading.specs.Outside.{readBy, readOf, readTo}
+use lib.Dec.{ltb}
+use mathlib.Core.Bool.{Bool, false, true}
 
 -- a serial has no room exactly if it was never given or is closed
 no-room-iff : (x : Serials) → Given x → (s : Serial) → (16 ≤ roomOf (x .desk .tickets) s) ↔ NeverOrClosed x s
@@ -84,7 +91,23 @@ closed-for-ever calls more s m table piece =
     let h = no-room-iff x (given-run (serialsOf noSerials calls) (given-all calls) more) s .1 (inr (still-closed more (serialsOf noSerials calls) s m)) in
     (no-room-feed (x .desk) s table piece h, no-room-close (x .desk) s h)
 
--- ---- in which order records are handed out
+-- ---- in which order records are written and handed out
+
+-- BY END, THEN BY TAG NUMBER: over any table the records that a read writes come so, and none twice
+pub read-ordered : (n k : ℕ) (table place : List ℕ) (count : ℕ) (piece : Word) (list : ℕ) (r : Outcome) → readOf n k table place count piece list ≡ readTo r → Ordered (r .found)
+unfolding readOf
+read-ordered n k table place count piece list r = go (allBelow s place) (ltb 4294967295 (count + length piece))
+  where
+    s : ℕ
+    s = slotsIn n k (length table)
+
+    x : Outcome
+    x = read n (slotsIn n k (length table)) table place count (list / 2) piece
+
+    go : (below long : Bool) → readBy (read n (slotsIn n k (length table)) table place count (list / 2) piece) below long ≡ readTo r → Ordered (r .found)
+    go false long q = absurd (let z : _≡_ {A = ℕ} 0 1 = cc in omega arith)
+    go true true q = absurd (let z : _≡_ {A = ℕ} 0 1 = cc in omega arith)
+    go true false q = let e : x ≡ r = cc in subst (λ (y : Outcome). Ordered (y .found)) e (found-ordered n s table place count (list / 2) piece)
 
 -- what a call makes of the records held: a taking hands out the oldest, a feed puts records of its serial behind all others, and any other call
 -- leaves them

@@ -23,3 +23,4 @@ pub mod Rows
 pub mod Answering
 pub mod Given
 pub mod ByRoom
+pub mod Ordered
