@@ -22,19 +22,17 @@ use Rattle.desk.specs.declared.Closing.{Closing}
 use Rattle.desk.specs.declared.Desk.{Desk}
 use Rattle.desk.specs.declared.Feeding.{Feeding}
 use Rattle.desk.specs.declared.Opening.{Opening}
-use Rattle.desk.specs.declared.Record.{Record}
 use Rattle.desk.specs.declared.Replacing.{Replacing}
 use Rattle.desk.specs.declared.Serial.{Serial}
 use Rattle.desk.specs.declared.Taking.{Taking}
 use Rattle.desk.specs.declared.Ticket.{Ticket}
-use Rattle.history.specs.History.{handedOut, recordsFor}
-use Rattle.history.specs.Laws.Accounts.{recordsFor-own}
+use Rattle.history.specs.History.{handedOut}
 use Rattle.history.specs.Laws.ByRoom.{close-by-room, feed-by-room, no-room-close, no-room-feed}
 use Rattle.history.specs.Laws.Given.{Given, given-all, given-run}
 use Rattle.history.specs.Laws.Ordered.{found-ordered}
 use Rattle.history.specs.Serials.{NeverOrClosed, Serials, closedBy, noSerials, serialsAfter, serialsOf}
 use Rattle.matching.specs.Laws.AnyTable.{read-kept}
-use Rattle.matching.specs.Occurrence.{Ordered}
+use Rattle.matching.specs.Occurrence.{Occurrence, Ordered}
 use Rattle.matching.specs.Reading.{Outcome, allBelow, read}
 use Rattle.matching.specs.Table.{slotsIn}
 use Rattle.matching.specs.Words.{Word}
@@ -109,34 +107,38 @@ read-ordered n k table place count piece list r = go (allBelow s place) (ltb 429
     go true true q = absurd (let z : _≡_ {A = ℕ} 0 1 = cc in omega arith)
     go true false q = let e : x ≡ r = cc in subst (λ (y : Outcome). Ordered (y .found)) e (found-ordered n s table place count (list / 2) piece)
 
--- what a call makes of the records held: a taking hands out the oldest, a feed puts records of its serial behind all others, and any other call
--- leaves them
+-- what a call makes of the records held: a taking hands out the oldest, a feed puts those of its serial and its ticket's edition behind all
+-- others, by end and then by tag number, and any other call leaves them
 abbrev pub HeldAfter : Desk → Call → Type 0
 HeldAfter d (callReplace set run) = held (afterCall d (callReplace set run) .records) ≡ held (d .records)
 HeldAfter d callOpen = held (afterCall d callOpen .records) ≡ held (d .records)
-HeldAfter d (callFeed s table piece) = (rs : List Record) × (held (afterCall d (callFeed s table piece) .records) ≡ held (d .records) ++ rs) × (recordsFor (s .0) rs ≡ rs)
+HeldAfter d (callFeed s table piece) =
+    (os : List Occurrence) × Ordered os
+    × (held (afterCall d (callFeed s table piece) .records) ≡ held (d .records) ++ recordsOf s (ticketIn (d .tickets) (roomOf (d .tickets) s) .edition) os)
 HeldAfter d (callClose s) = held (afterCall d (callClose s) .records) ≡ held (d .records)
 HeldAfter d callTake = handedOut (takeOf d .answer) ++ held (afterCall d callTake .records) ≡ held (d .records)
 
 feed-held : (d : Desk) → Reached d → (s : Serial) (table : List ℕ) (piece : Word) → HeldAfter d (callFeed s table piece)
-unfolding recordsFor
 feed-held d r s table piece = go _ (feeds d s table piece)
   where
-    go : (x : Feeding) → Feeds d (roomOf (d .tickets) s) table piece x → (rs : List Record) × (held (x .desk .records) ≡ held (d .records) ++ rs) × (recordsFor (s .0) rs ≡ rs)
-    go x (feed-no-ticket h) = ([], sym (append-nil (held (d .records))), refl)
-    go x (feed-stale h e) = ([], sym (append-nil (held (d .records))), refl)
-    go x (feed-other-slots h e l) = ([], sym (append-nil (held (d .records))), refl)
-    go x (feed-long h e l m) = ([], sym (append-nil (held (d .records))), refl)
-    go x (feed-no-place h e l m n) = ([], sym (append-nil (held (d .records))), refl)
+    t : Ticket
+    t = ticketIn (d .tickets) (roomOf (d .tickets) s)
+
+    go : (x : Feeding) → Feeds d (roomOf (d .tickets) s) table piece x
+        → (os : List Occurrence) × Ordered os × (held (x .desk .records) ≡ held (d .records) ++ recordsOf s (ticketIn (d .tickets) (roomOf (d .tickets) s) .edition) os)
+    go x (feed-no-ticket h) = ([], tt, sym (append-nil (held (d .records))))
+    go x (feed-stale h e) = ([], tt, sym (append-nil (held (d .records))))
+    go x (feed-other-slots h e l) = ([], tt, sym (append-nil (held (d .records))))
+    go x (feed-long h e l m) = ([], tt, sym (append-nil (held (d .records))))
+    go x (feed-no-place h e l m n) = ([], tt, sym (append-nil (held (d .records))))
     go x (feed-read h e l m) =
-        let t = ticketIn (d .tickets) (roomOf (d .tickets) s) in
         let q = readFor d t table piece in
-        let rs = recordsOf (t .serial) (t .edition) (q .found) in
         let k = read-kept 1 (slotsIn 1 8 (length table)) table (t .place) (t .taken) (256 - d .records .count) piece in
         let g = good r in (
-          rs,
-          held-pushAll (d .records) rs (g .ring) (omega (arith, k .fits, recordsOf-length (t .serial) (t .edition) (q .found), g .count)),
-          subst (λ (n : ℕ). recordsFor n rs ≡ rs) (for-held s t (room-held d s g h) .1) (recordsFor-own (t .serial) (t .edition) (q .found)),
+          q .found,
+          found-ordered 1 (slotsIn 1 8 (length table)) table (t .place) (t .taken) (256 - d .records .count) piece,
+          held-pushAll (d .records) (recordsOf (t .serial) (t .edition) (q .found)) (g .ring) (omega (arith, k .fits, recordsOf-length (t .serial) (t .edition) (q .found), g .count))
+          ∙ λ i. held (d .records) ++ recordsOf (record { 0 = for-held s t (room-held d s g h) .1 i }) (t .edition) (q .found),
         )
 
 -- OLDEST FIRST, of every desk that calls have made, whatever tables its feeds were lent: a taking hands out the oldest of all records held, and
