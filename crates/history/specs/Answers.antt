@@ -10,7 +10,7 @@ use native.Mathlib.Omega.{arith}
 use lib.ListN.{length}
 use Rattle.desk.specs.Calls.{openOf}
 use Rattle.desk.specs.Feed.{feedOf}
-use Rattle.desk.specs.Rooms.{editionOf, serialOf}
+use Rattle.desk.specs.Rooms.{editionOf}
 use Rattle.desk.specs.Shared.{held, recordsOf}
 use Rattle.desk.specs.declared.Edition.{Edition}
 use Rattle.desk.specs.declared.FeedAnswer.{FeedAnswer}

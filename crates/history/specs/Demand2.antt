@@ -24,7 +24,7 @@ use Rattle.matching.specs.Reading.{Outcome, expected, placeAfter}
 use Rattle.matching.specs.Slicing.{Slicing}
 use Rattle.matching.specs.Table.{Room, enoughSlots, roomFrom, shortOfSlots, slotsIn, tagsFor}
 use Rattle.matching.specs.Words.{Below, Word, ends}
-use Rattle.reading.specs.Outside.{ReadOf, readBy, readOf, readTo}
+use Rattle.reading.specs.Outside.{readBy, readOf, readTo}
 use Rattle.tables.specs.Building.{builtBy, builtOf, onSet, tableOf}
 use Rattle.tagset.specs.Grammar.{goodSet, setOf}
 

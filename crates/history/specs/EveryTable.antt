@@ -2,9 +2,9 @@
 -- which serials are NO TICKET.
 use Rattle.desk.specs.declared.FeedAnswer.the-variants as F
 use Rattle.desk.specs.declared.CloseAnswer.the-variants as C
-use Prim.Native.Nat.{_+_, _-_, _/_, _<_, _≤_, suc, ℕ}
+use Prim.Native.Nat.{_+_, _-_, _/_, _≤_, ℕ}
 use mathlib.Core.List.{List, List·Memᴰ, Memᴰ·append-right, [], _++_, _∷_, append-nil}
-use mathlib.Core.Logic.{_↔_, _⊎_, inl, inr}
+use mathlib.Core.Logic.{_↔_, inl, inr}
 use mathlib.Core.Path.{_∙_, _≡_, refl, subst, sym}
 use native.Mathlib.Decide.{decLe}
 use native.Mathlib.Omega.{arith}
@@ -138,7 +138,7 @@ feed-held d r s table piece = go _ (feeds d s table piece)
           q .found,
           found-ordered 1 (slotsIn 1 8 (length table)) table (t .place) (t .taken) (256 - d .records .count) piece,
           held-pushAll (d .records) (recordsOf (t .serial) (t .edition) (q .found)) (g .ring) (omega (arith, k .fits, recordsOf-length (t .serial) (t .edition) (q .found), g .count))
-          ∙ λ i. held (d .records) ++ recordsOf (record { 0 = for-held s t (room-held d s g h) .1 i }) (t .edition) (q .found),
+              ∙ λ i. held (d .records) ++ recordsOf (record { 0 = for-held s t (room-held d s g h) .1 i }) (t .edition) (q .found),
         )
 
 -- OLDEST FIRST, of every desk that calls have made, whatever tables its feeds were lent: a taking hands out the oldest of all records held, and

@@ -2,10 +2,10 @@
 use Rattle.desk.specs.declared.FeedAnswer.the-variants as F
 use Rattle.desk.specs.declared.CloseAnswer.the-variants as C
 use Rattle.desk.specs.declared.ReplaceAnswer.the-variants as R
-use Prim.Native.Nat.{_+_, _<_, _≤_, suc, ℕ}
+use Prim.Native.Nat.{_+_, _<_, suc, ℕ}
 use mathlib.Core.Bool.{Bool, false, not, true}
 use mathlib.Core.List.{List}
-use mathlib.Core.Logic.{_↔_, _⊎_, inl, inr}
+use mathlib.Core.Logic.{_↔_, inr}
 use mathlib.Core.Path.{_∙_, _≡_, ap, ap₂, refl, subst, sym}
 use native.Mathlib.Nat.{le-trans}
 use native.Mathlib.Omega.{arith}
@@ -24,14 +24,14 @@ use Rattle.desk.specs.declared.Serial.{Serial}
 use Rattle.history.specs.History.{Account, Act, AllBytes, Gone, World, accountAt, actReplace, replacing, run, start, step}
 use Rattle.history.specs.Laws.Answering.{closed-room, gone-iff, open-room}
 use Rattle.history.specs.Laws.ByRoom.{close-by-room, feed-by-room, no-room-close, no-room-feed}
-use Rattle.history.specs.Laws.Invariant.{Inv, Stranger}
+use Rattle.history.specs.Laws.Invariant.{Inv}
 use Rattle.history.specs.Laws.Later.{goes-run}
 use Rattle.history.specs.Laws.LedgerSteps.{sound, sound-run}
-use Rattle.history.specs.Laws.Seats.{Agrees, Seat, no-seat, seated}
-use Rattle.history.specs.Laws.States.{known-or-not, state-is, stateOfAccount}
+use Rattle.history.specs.Laws.Seats.{Agrees}
+use Rattle.history.specs.Laws.States.{state-is, stateOfAccount}
 use Rattle.history.specs.Laws.Steps.{inv-step}
 use Rattle.history.specs.Served.{isClosed, isStale, stateBy, stateOf}
-use Rattle.matching.specs.Laws.Bools.{is-false, not-both}
+use Rattle.matching.specs.Laws.Bools.{is-false}
 use Rattle.matching.specs.Laws.Words.{eqb-eq}
 use Rattle.matching.specs.Words.{Below, Word}
 

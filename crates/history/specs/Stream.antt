@@ -1,28 +1,25 @@
 -- The stream of all records: what is taken out is the oldest held, what is added comes behind all others, and how many there are.
-use Rattle.desk.specs.declared.TakeAnswer.the-variants as K
 use Rattle.desk.specs.declared.CloseAnswer.the-variants as C
 use Prim.Native.Nat.{_+_, _<_, suc, zero, ℕ}
 use mathlib.Core.List.{List, [], _++_, _∷_, append-nil}
-use mathlib.Core.Path.{_∙_, _≡_, ap, ap₂, refl, subst, sym}
+use mathlib.Core.Path.{_∙_, _≡_, ap, refl, subst, sym}
 use native.Mathlib.Nat.{zero-add}
 use native.Mathlib.Omega.{arith}
 use lib.ListN.{getD, length, length-append, set, take}
-use Rattle.desk.specs.Calls.{takeOf, withTicket}
+use Rattle.desk.specs.Calls.{withTicket}
 use Rattle.desk.specs.Feed.{fedBy, readFor}
 use Rattle.desk.specs.Laws.Good.{good, on-place}
 use Rattle.desk.specs.Laws.Rooms.{for-held}
-use Rattle.desk.specs.Laws.Shared.{held-popped, recordsOf-length}
-use Rattle.desk.specs.Laws.Views.{Closes, Feeds, Opens, Replaces, Takes, close-done, close-no-ticket, closes, feed-long, feed-no-place, feed-no-ticket, feed-other-slots, feed-read, feed-stale, feeds, open-done, open-no-room, open-no-set, open-serial-end, opens, replace-done, replace-edition-end, replace-fault, replace-table, replaces, take-nothing, take-oldest, takes}
+use Rattle.desk.specs.Laws.Shared.{recordsOf-length}
+use Rattle.desk.specs.Laws.Views.{Closes, Feeds, Opens, Replaces, close-done, close-no-ticket, closes, feed-long, feed-no-place, feed-no-ticket, feed-other-slots, feed-read, feed-stale, feeds, open-done, open-no-room, open-no-set, open-serial-end, opens, replace-done, replace-edition-end, replace-fault, replace-table, replaces, takes}
 use Rattle.desk.specs.Rooms.{freeTicket, roomOf, ticketIn}
 use Rattle.desk.specs.Shared.{held, recordsOf, round}
 use Rattle.desk.specs.declared.Closing.{Closing}
-use Rattle.desk.specs.declared.Desk.{Desk}
 use Rattle.desk.specs.declared.Feeding.{Feeding}
 use Rattle.desk.specs.declared.Opening.{Opening}
 use Rattle.desk.specs.declared.Record.{Record}
 use Rattle.desk.specs.declared.Replacing.{Replacing}
 use Rattle.desk.specs.declared.Serial.{Serial}
-use Rattle.desk.specs.declared.Taking.{Taking}
 use Rattle.history.specs.History.{Account, Act, AllBytes, OfBytes, World, accountAt, actClose, actFeed, actOpen, actReplace, actTake, closing, feeding, grown, newAccount, noAccount, onSerial, opening, recordsFor, replacing, run, shut, start, step, stream}
 use Rattle.history.specs.Laws.Accounts.{recordsFor-own}
 use Rattle.history.specs.Laws.Fed.{stream-fed}

@@ -21,14 +21,14 @@ use Rattle.desk.specs.declared.Serial.{Serial}
 use Rattle.desk.specs.declared.Ticket.{Ticket}
 use Rattle.history.specs.History.{Account, World, accountAt, grown, onSerial, recordsDue, recordsFor, stream, withAccounts}
 use Rattle.history.specs.Laws.Accounts.{onSerial-length, recordsFor-append, recordsFor-other, recordsFor-own, recordsOf-append}
-use Rattle.history.specs.Laws.Feeding.{agrees, force, live, mine, read-done}
+use Rattle.history.specs.Laws.Feeding.{agrees, live, mine, read-done}
 use Rattle.history.specs.Laws.Invariant.{Inv, Kept, Stranger, changed-each, wide}
 use Rattle.history.specs.Laws.Seats.{Agrees, Seat, for-other, seat-kept, seat-same, seated, unique-set}
 use Rattle.matching.specs.Laws.Expected.{Done}
 use Rattle.matching.specs.Laws.Occurrences.{occurrencesFrom-append}
 use Rattle.matching.specs.Occurrence.{Occurrence, occurrences, occurrencesFrom}
 use Rattle.matching.specs.Reading.{Outcome}
-use Rattle.matching.specs.Words.{Below, Word, same}
+use Rattle.matching.specs.Words.{Below, Word}
 
 pub below-append : (m : ℕ) (x y : Word) → Below m x → Below m y → Below m (x ++ y)
 below-append m [] y hx hy = hy

@@ -16,7 +16,7 @@ use Rattle.matching.specs.Laws.Built.{read-built}
 use Rattle.matching.specs.Laws.Expected.{Done, expected-done}
 use Rattle.matching.specs.Reading.{Outcome, expected, read}
 use Rattle.matching.specs.Table.{built}
-use Rattle.matching.specs.Words.{Below, Word, same}
+use Rattle.matching.specs.Words.{Below, Word}
 
 -- the serial of account k has a room
 module _ (w : World) (v : Inv w) (s : Serial) (k : ℕ) (hk : k < length (w .accounts)) (ek : s .0 ≡ suc k) (hi : roomOf (w .desk .tickets) s < 16) where

@@ -1,13 +1,12 @@
 -- Every call keeps the ledger.
 use Rattle.tables.specs.declared.Built.the-variants as B
 use Rattle.desk.specs.declared.ReplaceAnswer.the-variants as R
-use Prim.Native.Nat.{_+_, _<_, _≤_, suc, ℕ}
-use mathlib.Core.Bool.{Bool, cond, false, true}
+use Prim.Native.Nat.{_+_, _<_, suc, ℕ}
+use mathlib.Core.Bool.{Bool, cond, true}
 use mathlib.Core.List.{List, [], _∷_}
 use mathlib.Core.Path.{_∙_, _≡_, ap, refl, subst, sym}
 use native.Mathlib.Omega.{arith}
-use lib.ListN.{length, set, take}
-use borrow.Author.Needs.{needs}
+use lib.ListN.{length, take}
 use Rattle.desk.specs.Calls.{withRecords, withTicket}
 use Rattle.desk.specs.Feed.{fedBy, readFor, readOn}
 use Rattle.desk.specs.Laws.Good.{good, on-place}

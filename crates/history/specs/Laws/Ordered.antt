@@ -1,5 +1,5 @@
 -- In which order a reading writes its records, over any table, ours or not.
-use Prim.Native.Nat.{_%_, _+_, _-_, _/_, _<_, _≤_, suc, zero, ℕ}
+use Prim.Native.Nat.{_%_, _-_, _/_, _<_, _≤_, suc, zero, ℕ}
 use mathlib.Core.Bool.{false, true}
 use mathlib.Core.List.{List, List·Memᴰ, List·Memᴰ·append-cases, List·Memᴰ·cases-cons, List·Memᴰ·not-nil, [], _++_, _∷_}
 use mathlib.Core.Logic.{_⊎_, inl, inr}
@@ -15,7 +15,6 @@ use Rattle.matching.specs.Occurrence.{Before, Occurrence, Ordered, occurAt}
 use Rattle.matching.specs.Reading.{Outcome, allBelow, flagged, halted, nexts, onesOf, read, tookByte, vectorsAt}
 use Rattle.matching.specs.Slicing.{anded}
 use Rattle.matching.specs.Words.{Word}
-use Rattle.matching.specs.declared.Stop.the-variants.{Damaged, Full}
 
 every-one : (P : Occurrence → Type 0) (os : List Occurrence) → Every P os → (o : Occurrence) → List·Memᴰ o os → P o
 every-one P [] h o m = absurd (List·Memᴰ·not-nil m)

@@ -12,7 +12,7 @@ use lib.ListN.{drop, length, length-append, take}
 use lib.Seq.{length-take-le, take-all}
 use borrow.Author.Tests.{ltb-false, ltb-true}
 use Rattle.history.specs.Laws.Fed.{below-append, below-take}
-use Rattle.history.specs.Readings.{AsBuilt, Demanded, DemandedRead, Row, Turn, TurnsOfBytes, inTurn, isLong, isRead, onTurn, rowThen, stoppedFull, tookAll}
+use Rattle.history.specs.Readings.{AsBuilt, Demanded, Row, Turn, TurnsOfBytes, inTurn, onTurn, rowThen, stoppedFull, tookAll}
 use Rattle.matching.specs.Laws.Built.{enough-iff, read-built}
 use Rattle.matching.specs.Laws.Expected.{Done, expected-alike, expected-done}
 use Rattle.matching.specs.Laws.Occurrences.{occurrencesFrom-append}
@@ -23,8 +23,7 @@ use Rattle.matching.specs.Reading.{Outcome, allBelow, expected, placeAfter, rea
 use Rattle.matching.specs.Table.{built, enoughSlots, roomFrom, slotSize, slotsIn}
 use Rattle.matching.specs.Words.{Below, Lawful, Word}
 use Rattle.matching.specs.declared.Stop.{Stop}
-use Rattle.reading.specs.Outside.{ReadOf, readBy, readOf, readTo, refusedRead}
-use Rattle.reading.specs.declared.ReadRefusal.the-variants.{Long}
+use Rattle.reading.specs.Outside.{ReadOf, readBy, readOf, readTo}
 use Rattle.tables.specs.Building.{tableOf}
 use Rattle.tables.specs.Laws.Left.{done, left-length}
 use Rattle.tagset.specs.Grammar.{goodSet}

@@ -5,7 +5,6 @@ use mathlib.Core.List.{List, [], _++_, _∷_, append-assoc, append-nil}
 use mathlib.Core.Path.{_∙_, _≡_, ap, ap₂, refl, subst, subst₂, sym}
 use native.Mathlib.Nat.{le-of-eq, le-trans, zero-add}
 use native.Mathlib.Omega.{arith}
-use lib.Ieee.Positive.{above}
 use lib.ListN.{drop, getD, length, length-append, length-drop, take}
 use lib.Seq.{getD-at, getD-drop, getD-take, length-take-le, take-all, take-append-seam}
 use Rattle.desk.specs.Rooms.{serialOf}

@@ -22,7 +22,7 @@ use Rattle.desk.specs.declared.Serial.{Serial}
 use Rattle.desk.specs.declared.Taking.{Taking}
 use Rattle.history.specs.History.{Account, World, accountAt, actClose, actFeed, actOpen, actTake, closing, feeding, grown, lives, newAccount, noAccount, onSerial, opening, run, shut, step}
 use Rattle.history.specs.Laws.Becomes.{Becomes, becomes-append, becomes-nothing, becomes-one}
-use Rattle.history.specs.Laws.Feeding.{force, now, read-due}
+use Rattle.history.specs.Laws.Feeding.{force, read-due}
 use Rattle.history.specs.Laws.Invariant.{changed-is, wide}
 use Rattle.history.specs.Laws.LedgerSteps.{Sound}
 use Rattle.history.specs.Laws.Seats.{Agrees, Seat, no-seat, seated}
@@ -31,7 +31,7 @@ use Rattle.matching.specs.Laws.Bools.{not-both}
 use Rattle.matching.specs.Laws.Expected.{Done, expected-advances, expected-done}
 use Rattle.matching.specs.Occurrence.{tagsEnding}
 use Rattle.matching.specs.Reading.{Outcome, expected}
-use Rattle.matching.specs.Table.{slots, slotsIn}
+use Rattle.matching.specs.Table.{slotsIn}
 use Rattle.matching.specs.Words.{Below, Lawful, Word}
 use Rattle.matching.specs.declared.Stop.{Stop}
 
