@@ -18,7 +18,8 @@ use Rattle.desk.specs.declared.Feeding.{Feeding}
 use Rattle.desk.specs.declared.OpenAnswer.{OpenAnswer}
 use Rattle.desk.specs.declared.Serial.{Serial}
 use Rattle.history.specs.History.{Account, Act, AllBytes, Gone, OpenOrStale, OpenTicket, StaleTicket, World, accountAt, actFeed, feeding, lives, run, start, step, stream}
-use Rattle.history.specs.Laws.Answering.{FeedsFor, OpensFor, feeds-for, for-gone, for-long, for-read, for-stale, opens-for, opens-next, opens-no-room, opens-no-set, opens-serial-end}
+use Rattle.history.specs.Laws.Answering.{FeedsFor, OpensFor}
+use Rattle.history.specs.Laws.Answering.{feeds-for, for-gone, for-long, for-read, for-stale, opens-for, opens-next, opens-no-room, opens-no-set, opens-serial-end}
 use Rattle.history.specs.Laws.Invariant.{Inv}
 use Rattle.history.specs.Laws.LedgerSteps.{sound}
 use Rattle.history.specs.Readings.{Demanded}

@@ -14,7 +14,11 @@ use Rattle.desk.specs.Feed.{feedOf, readFor}
 use Rattle.desk.specs.Laws.Good.{good, room-held}
 use Rattle.desk.specs.Laws.Rooms.{for-held}
 use Rattle.desk.specs.Laws.Shared.{held-popped, held-pushAll, recordsOf-length}
-use Rattle.desk.specs.Laws.Views.{Closes, Feeds, Opens, Replaces, Takes, close-done, close-no-ticket, closes, feed-long, feed-no-place, feed-no-ticket, feed-other-slots, feed-read, feed-stale, feeds, open-done, open-no-room, open-no-set, open-serial-end, opens, replace-done, replace-edition-end, replace-fault, replace-table, replaces, take-nothing, take-oldest, takes}
+use Rattle.desk.specs.Laws.Views.{Closes, close-done, close-no-ticket, closes}
+use Rattle.desk.specs.Laws.Views.{Feeds, feed-long, feed-no-place, feed-no-ticket, feed-other-slots, feed-read, feed-stale, feeds}
+use Rattle.desk.specs.Laws.Views.{Opens, open-done, open-no-room, open-no-set, open-serial-end, opens}
+use Rattle.desk.specs.Laws.Views.{Replaces, replace-done, replace-edition-end, replace-fault, replace-table, replaces}
+use Rattle.desk.specs.Laws.Views.{Takes, take-nothing, take-oldest, takes}
 use Rattle.desk.specs.Reached.{Call, Reached, afterCall, callClose, callFeed, callOpen, callReplace, callTake}
 use Rattle.desk.specs.Rooms.{roomOf, ticketIn}
 use Rattle.desk.specs.Shared.{held, recordsOf}

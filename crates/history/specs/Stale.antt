@@ -13,7 +13,9 @@ use lib.Dec.{eqb}
 use lib.ListN.{length}
 use Rattle.desk.specs.Calls.{closeOf}
 use Rattle.desk.specs.Feed.{feedOf}
-use Rattle.desk.specs.Laws.Views.{Closes, Feeds, Replaces, close-done, close-no-ticket, closes, feed-long, feed-no-place, feed-no-ticket, feed-other-slots, feed-read, feed-stale, feeds, replace-done, replace-edition-end, replace-fault, replace-table, replaces}
+use Rattle.desk.specs.Laws.Views.{Closes, close-done, close-no-ticket, closes}
+use Rattle.desk.specs.Laws.Views.{Feeds, feed-long, feed-no-place, feed-no-ticket, feed-other-slots, feed-read, feed-stale, feeds}
+use Rattle.desk.specs.Laws.Views.{Replaces, replace-done, replace-edition-end, replace-fault, replace-table, replaces}
 use Rattle.desk.specs.Replace.{replaceOf}
 use Rattle.desk.specs.Rooms.{editionOf, roomOf, serialOf, ticketIn}
 use Rattle.desk.specs.declared.Closing.{Closing}

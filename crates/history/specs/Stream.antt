@@ -11,7 +11,11 @@ use Rattle.desk.specs.Feed.{fedBy, readFor}
 use Rattle.desk.specs.Laws.Good.{good, on-place}
 use Rattle.desk.specs.Laws.Rooms.{for-held}
 use Rattle.desk.specs.Laws.Shared.{recordsOf-length}
-use Rattle.desk.specs.Laws.Views.{Closes, Feeds, Opens, Replaces, close-done, close-no-ticket, closes, feed-long, feed-no-place, feed-no-ticket, feed-other-slots, feed-read, feed-stale, feeds, open-done, open-no-room, open-no-set, open-serial-end, opens, replace-done, replace-edition-end, replace-fault, replace-table, replaces, takes}
+use Rattle.desk.specs.Laws.Views.{Closes, close-done, close-no-ticket, closes}
+use Rattle.desk.specs.Laws.Views.{Feeds, feed-long, feed-no-place, feed-no-ticket, feed-other-slots, feed-read, feed-stale, feeds}
+use Rattle.desk.specs.Laws.Views.{Opens, open-done, open-no-room, open-no-set, open-serial-end, opens}
+use Rattle.desk.specs.Laws.Views.{Replaces, replace-done, replace-edition-end, replace-fault, replace-table, replaces}
+use Rattle.desk.specs.Laws.Views.{takes}
 use Rattle.desk.specs.Rooms.{freeTicket, roomOf, ticketIn}
 use Rattle.desk.specs.Shared.{held, recordsOf, round}
 use Rattle.desk.specs.declared.Closing.{Closing}
@@ -20,7 +24,8 @@ use Rattle.desk.specs.declared.Opening.{Opening}
 use Rattle.desk.specs.declared.Record.{Record}
 use Rattle.desk.specs.declared.Replacing.{Replacing}
 use Rattle.desk.specs.declared.Serial.{Serial}
-use Rattle.history.specs.History.{Account, Act, AllBytes, OfBytes, World, accountAt, actClose, actFeed, actOpen, actReplace, actTake, closing, feeding, grown, newAccount, noAccount, onSerial, opening, recordsFor, replacing, run, shut, start, step, stream}
+use Rattle.history.specs.History.{Account, Act, AllBytes, OfBytes, World, actClose, actFeed, actOpen, actReplace, actTake}
+use Rattle.history.specs.History.{accountAt, closing, feeding, grown, newAccount, noAccount, onSerial, opening, recordsFor, replacing, run, shut, start, step, stream}
 use Rattle.history.specs.Laws.Accounts.{recordsFor-own}
 use Rattle.history.specs.Laws.Fed.{stream-fed}
 use Rattle.history.specs.Laws.Feeding.{force, read-done}

@@ -14,7 +14,8 @@ use Rattle.desk.specs.Feed.{fedBy, feedOf, readFor}
 use Rattle.desk.specs.Laws.Good.{good, on-place}
 use Rattle.desk.specs.Laws.Rooms.{firstRoom-le, for-held, full-iff, held-le}
 use Rattle.desk.specs.Laws.Shared.{held-length}
-use Rattle.desk.specs.Laws.Views.{Feeds, Opens, feed-long, feed-no-place, feed-no-ticket, feed-other-slots, feed-read, feed-stale, feeds, open-done, open-no-room, open-no-set, open-serial-end, opens}
+use Rattle.desk.specs.Laws.Views.{Feeds, feed-long, feed-no-place, feed-no-ticket, feed-other-slots, feed-read, feed-stale, feeds}
+use Rattle.desk.specs.Laws.Views.{Opens, open-done, open-no-room, open-no-set, open-serial-end, opens}
 use Rattle.desk.specs.Rooms.{editionOf, freeRoom, isFree, roomOf, serialOf, ticketIn}
 use Rattle.desk.specs.Shared.{held, recordsOf}
 use Rattle.desk.specs.declared.Desk.{Desk}

@@ -11,7 +11,11 @@ use Rattle.desk.specs.Calls.{openedIn, withTicket}
 use Rattle.desk.specs.Feed.{readFor, readOn}
 use Rattle.desk.specs.Laws.Good.{good}
 use Rattle.desk.specs.Laws.Rooms.{firstRoom-holds, firstRoom-kept, for-held, free-held, held-for, new-held}
-use Rattle.desk.specs.Laws.Views.{Closes, Feeds, Opens, Replaces, Takes, close-done, close-no-ticket, closes, feed-long, feed-no-place, feed-no-ticket, feed-other-slots, feed-read, feed-stale, feeds, open-done, open-no-room, open-no-set, open-serial-end, opens, replace-done, replace-edition-end, replace-fault, replace-table, replaces, take-nothing, take-oldest, takes}
+use Rattle.desk.specs.Laws.Views.{Closes, close-done, close-no-ticket, closes}
+use Rattle.desk.specs.Laws.Views.{Feeds, feed-long, feed-no-place, feed-no-ticket, feed-other-slots, feed-read, feed-stale, feeds}
+use Rattle.desk.specs.Laws.Views.{Opens, open-done, open-no-room, open-no-set, open-serial-end, opens}
+use Rattle.desk.specs.Laws.Views.{Replaces, replace-done, replace-edition-end, replace-fault, replace-table, replaces}
+use Rattle.desk.specs.Laws.Views.{Takes, take-nothing, take-oldest, takes}
 use Rattle.desk.specs.Reached.{Call, Reached, byCall, callClose, callFeed, callOpen, callReplace, callTake, fromNew}
 use Rattle.desk.specs.Rooms.{freeRoom, freeTicket, isFor, isFree, isHeld, newTicket, roomOf, serialOf, ticketIn}
 use Rattle.desk.specs.declared.Closing.{Closing}

@@ -11,7 +11,10 @@ use Rattle.desk.specs.Calls.{withRecords, withTicket}
 use Rattle.desk.specs.Feed.{fedBy, readFor, readOn}
 use Rattle.desk.specs.Laws.Good.{good, on-place}
 use Rattle.desk.specs.Laws.Rooms.{for-held, held-set}
-use Rattle.desk.specs.Laws.Views.{Closes, Feeds, Replaces, Takes, close-done, close-no-ticket, closes, feed-long, feed-no-place, feed-no-ticket, feed-other-slots, feed-read, feed-stale, feeds, replace-done, replace-edition-end, replace-fault, replace-table, replaces, take-nothing, take-oldest, takes}
+use Rattle.desk.specs.Laws.Views.{Closes, close-done, close-no-ticket, closes}
+use Rattle.desk.specs.Laws.Views.{Feeds, feed-long, feed-no-place, feed-no-ticket, feed-other-slots, feed-read, feed-stale, feeds}
+use Rattle.desk.specs.Laws.Views.{Replaces, replace-done, replace-edition-end, replace-fault, replace-table, replaces}
+use Rattle.desk.specs.Laws.Views.{Takes, take-nothing, take-oldest, takes}
 use Rattle.desk.specs.Replace.{underNext}
 use Rattle.desk.specs.Rooms.{editionOf, freeTicket, isHeld, roomOf, ticketIn, ticketsHeld}
 use Rattle.desk.specs.Shared.{popped}
@@ -22,7 +25,8 @@ use Rattle.desk.specs.declared.Record.{Record}
 use Rattle.desk.specs.declared.Replacing.{Replacing}
 use Rattle.desk.specs.declared.Serial.{Serial}
 use Rattle.desk.specs.declared.Taking.{Taking}
-use Rattle.history.specs.History.{Account, Act, AllBytes, OfBytes, Order, World, accountAt, actClose, actFeed, actOpen, actReplace, actTake, closing, feeding, grown, onSerial, replacing, run, shut, start, step, taking, withAccounts}
+use Rattle.history.specs.History.{Account, Act, AllBytes, OfBytes, Order, World, actClose, actFeed, actOpen, actReplace, actTake}
+use Rattle.history.specs.History.{accountAt, closing, feeding, grown, onSerial, replacing, run, shut, start, step, taking, withAccounts}
 use Rattle.history.specs.Laws.Feeding.{force, live}
 use Rattle.history.specs.Laws.Invariant.{Inv, changed-is, given, inv-start, wide}
 use Rattle.history.specs.Laws.Ledger.{Fine, Ledger, ledger-set, ledger-start, lives-set, noOrder, tagsOfOrder}
