@@ -3,11 +3,14 @@
 use Prim.Native.Nat.{_<_, suc, ℕ}
 use mathlib.Core.List.{List, []}
 use mathlib.Core.Logic.{_⊎_, inl, inr}
-use mathlib.Core.Path.{_∙_, _≡_, ap, sym}
+use mathlib.Core.Path.{_∙_, _≡_, ap, subst, sym}
 use lib.ListN.{length}
 use Rattle.desk.specs.Reached.{Reached}
+use Rattle.desk.specs.Rooms.{roomOf, serialOf, ticketIn}
+use Rattle.desk.specs.declared.Desk.{Desk}
 use Rattle.desk.specs.declared.Serial.{Serial}
-use Rattle.history.specs.History.{Act, AllBytes, World, accountAt, recordsDue, recordsFor, run, start, stream}
+use Rattle.history.specs.History.{Act, AllBytes, OpenOrStale, World, accountAt, recordsDue, recordsFor, run, start, stream}
+use Rattle.history.specs.Laws.Answering.{open-room}
 use Rattle.history.specs.Laws.Becomes.{Becomes, becomes-sound}
 use Rattle.history.specs.Laws.Invariant.{Inv, Stranger, inv-start}
 use Rattle.history.specs.Laws.Ledger.{ledger-start}
@@ -50,10 +53,28 @@ no-others acts b n h = go (known-or-not (run start acts) v n)
     go (inl z) = absurd (h (z .0) (z .1) (v .numbered (z .0) (z .1) ∙ sym (z .2)))
     go (inr z) = v .nobody n z
 
+-- the count of bytes taken that a desk itself keeps for a serial
+abbrev pub takenFor : Desk → Serial → ℕ
+takenFor d s = ticketIn (d .tickets) (roomOf (d .tickets) s) .taken
+
+-- for each ticket that is not closed the desk's own count is the number of bytes taken for it
+abbrev pub Counted : World → Type 0
+Counted w = (s : Serial) (k : ℕ) → OpenOrStale w s k → takenFor (w .desk) s ≡ length (accountAt w k .bytes)
+
+counted-in : (w : World) → Inv w → Counted w
+counted-in w v s k o =
+    let e : serialOf (accountAt w k .serial) ≡ s = λ d. record { 0 = o .serial d } in
+    subst (λ (n : Serial). takenFor (w .desk) n ≡ length (accountAt w k .bytes)) e (open-room w v k (o .inside) (o .not-closed) .1 .taken)
+
+-- after any history it is
+pub counted : (acts : List Act) → AllBytes acts → Counted (run start acts)
+counted acts b = counted-in (run start acts) (sound acts b .inv)
+
 -- two worlds in which every ticket has had the same: the same edition, bytes (and so their count) and closing, the same records in the
--- same order, and the same state on the desk
+-- same order, and the same state on the desk; and in both the desk counts those bytes
 pub record SameTickets (w v : World) : Type 0 where
   pub accounts : v .accounts ≡ w .accounts
+  pub counts : Counted w × Counted v
   pub records : (n : ℕ) → recordsFor n (stream v) ≡ recordsFor n (stream w)
   pub states : (s : Serial) → stateOf (v .desk) s ≡ stateOf (w .desk) s
 
@@ -67,6 +88,7 @@ second-part acts b cut cuts = (
   c .none,
   record {
     accounts = c .accounts-are;
+    counts = (counted-in w (s .inv), counted-in v (t .inv));
     records = records-same w v (s .inv) (t .inv) (c .accounts-are);
     states = states-same w v (s .inv) (t .inv) (c .accounts-are) (sym (t .ledger .editions) ∙ ap {B = ℕ} length (c .orders-are) ∙ s .ledger .editions);
   },

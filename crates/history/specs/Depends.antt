@@ -8,7 +8,7 @@ use mathlib.Core.Logic.{_↔_}
 use mathlib.Core.Path.{_∙_, _≡_, ap, ap₂, refl, sym}
 use native.Mathlib.Omega.{arith}
 use lib.Dec.{eqb, ltb}
-use lib.ListN.{length, set}
+use lib.ListN.{length}
 use borrow.Author.Tests.{ltb-false, ltb-true}
 use Rattle.desk.specs.Calls.{openOf}
 use Rattle.desk.specs.Feed.{feedBy, feedIn, feedOf}
@@ -23,7 +23,7 @@ use Rattle.desk.specs.declared.Serial.{Serial}
 use Rattle.desk.specs.declared.Ticket.{Ticket}
 use Rattle.matching.specs.Reading.{allBelow, read}
 use Rattle.matching.specs.Table.{slotsIn}
-use Rattle.matching.specs.Words.{Word, same}
+use Rattle.matching.specs.Words.{Word}
 
 -- two desks agree on what a feed of a serial depends on: that ticket, or that there is none; the edition and the slot count of the last
 -- replacement; and the room in the list

@@ -5,12 +5,12 @@ use Rattle.desk.specs.declared.OpenAnswer.the-variants as O
 use Rattle.desk.specs.declared.FeedAnswer.the-variants as F
 use Rattle.desk.specs.declared.CloseAnswer.the-variants as C
 use Rattle.desk.specs.declared.TakeAnswer.the-variants as K
-use Prim.Native.Nat.{ℕ}
+use Prim.Native.Nat.{_+_, _<_, ℕ}
 use mathlib.Core.Bool.{Bool, cond, false, true}
 use mathlib.Core.List.{List, [], _++_, _∷_}
+use mathlib.Core.Path.{_≡_}
 use lib.Dec.{eqb}
 use lib.ListN.{getD, length, take}
-use borrow.Author.Needs.{needs}
 use Rattle.desk.specs.Calls.{closeOf, newDesk, openOf, takeOf}
 use Rattle.desk.specs.Feed.{feedOf}
 use Rattle.desk.specs.Replace.{replaceOf, replacedRun}
@@ -171,3 +171,27 @@ accountAt w k = getD (w .accounts) k noAccount
 -- the records that an account asks for: the occurrences of its tags in its bytes, with its serial and its edition
 abbrev pub recordsDue : Account → List Record
 recordsDue a = recordsOf (serialOf (a .serial)) (editionOf (a .edition)) (occurrences (a .tags) (a .bytes))
+
+-- ---- the state of tickets, as the accounts say it
+
+-- how many of some accounts are not closed
+unfoldable pub lives : List Account → ℕ
+lives [] = 0
+lives (a ∷ l) = cond (a .closed) 0 1 + lives l
+
+-- a serial that no opening answered, or whose ticket was closed
+abbrev pub Gone : World → Serial → Type 0
+Gone w s = (k : ℕ) → k < length (w .accounts) → accountAt w k .serial ≡ s .0 → accountAt w k .closed ≡ true
+
+-- account k is that of a serial, and is not closed: its ticket is open or stale
+pub record OpenOrStale (w : World) (s : Serial) (k : ℕ) : Type 0 where
+  pub inside : k < length (w .accounts)
+  pub serial : accountAt w k .serial ≡ s .0
+  pub not-closed : accountAt w k .closed ≡ false
+
+-- stale if its edition is older than that in force, and else open
+abbrev pub StaleTicket : World → Serial → ℕ → Type 0
+StaleTicket w s k = OpenOrStale w s k × (accountAt w k .edition < w .edition)
+
+abbrev pub OpenTicket : World → Serial → ℕ → Type 0
+OpenTicket w s k = OpenOrStale w s k × (accountAt w k .edition ≡ w .edition)

@@ -19,3 +19,8 @@ pub mod Serving
 pub mod ServingAll
 pub mod States
 pub mod Later
+pub mod Rows
+pub mod Answering
+pub mod Given
+pub mod ByRoom
+pub mod Ordered

@@ -1,17 +1,13 @@
 -- The history in which the tickets of another history are served one after another, by serial. It is a history of the same calls, from
 -- a new desk.
 use Rattle.matching.specs.declared.Stop.the-variants as S
-use Rattle.desk.specs.declared.ReplaceAnswer.the-variants as R
-use Rattle.desk.specs.declared.OpenAnswer.the-variants as O
 use Rattle.desk.specs.declared.FeedAnswer.the-variants as F
-use Rattle.desk.specs.declared.CloseAnswer.the-variants as C
-use Rattle.desk.specs.declared.TakeAnswer.the-variants as K
 use Prim.Native.Nat.{_+_, _-_, suc, zero, ℕ}
 use mathlib.Core.Bool.{Bool, _&&_, false, true}
 use mathlib.Core.List.{List, [], _++_, _∷_}
 use mathlib.Core.Path.{_≡_}
 use lib.Dec.{eqb, leb, ltb}
-use lib.ListN.{drop, length, replicate, set, take}
+use lib.ListN.{drop, length, replicate, take}
 use Rattle.desk.specs.Calls.{closeOf, openOf, takeOf}
 use Rattle.desk.specs.Feed.{feedOf}
 use Rattle.desk.specs.Numbers.{closeNumber, feedNumber, openNumber, replaceNumber, takeNumber}
@@ -21,7 +17,6 @@ use Rattle.desk.specs.declared.Desk.{Desk}
 use Rattle.desk.specs.declared.FeedAnswer.{FeedAnswer}
 use Rattle.desk.specs.declared.Serial.{Serial}
 use Rattle.history.specs.History.{Account, Act, Order, World, actClose, actFeed, actOpen, actReplace, actTake, run, start, step}
-use Rattle.matching.specs.Laws.States.{most}
 use Rattle.matching.specs.Words.{Word}
 
 -- calls to come, which may go by what the calls before them have left

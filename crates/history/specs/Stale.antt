@@ -1,10 +1,11 @@
 -- After a replacement an older ticket is stale and takes no byte, or stays closed.
 use Rattle.desk.specs.declared.FeedAnswer.the-variants as F
 use Rattle.desk.specs.declared.CloseAnswer.the-variants as C
-use Prim.Native.Nat.{_<_, _≤_, suc, ℕ}
+use Rattle.desk.specs.declared.ReplaceAnswer.the-variants as R
+use Prim.Native.Nat.{_+_, _<_, suc, ℕ}
 use mathlib.Core.Bool.{Bool, false, not, true}
 use mathlib.Core.List.{List}
-use mathlib.Core.Logic.{_↔_, _⊎_, inl, inr}
+use mathlib.Core.Logic.{_↔_, inr}
 use mathlib.Core.Path.{_∙_, _≡_, ap, ap₂, refl, subst, sym}
 use native.Mathlib.Nat.{le-trans}
 use native.Mathlib.Omega.{arith}
@@ -12,26 +13,35 @@ use lib.Dec.{eqb}
 use lib.ListN.{length}
 use Rattle.desk.specs.Calls.{closeOf}
 use Rattle.desk.specs.Feed.{feedOf}
-use Rattle.desk.specs.Laws.Views.{Closes, Feeds, close-done, close-no-ticket, closes, feed-long, feed-no-place, feed-no-ticket, feed-other-slots, feed-read, feed-stale, feeds}
+use Rattle.desk.specs.Laws.Views.{Closes, close-done, close-no-ticket, closes}
+use Rattle.desk.specs.Laws.Views.{Feeds, feed-long, feed-no-place, feed-no-ticket, feed-other-slots, feed-read, feed-stale, feeds}
+use Rattle.desk.specs.Laws.Views.{Replaces, replace-done, replace-edition-end, replace-fault, replace-table, replaces}
+use Rattle.desk.specs.Replace.{replaceOf}
 use Rattle.desk.specs.Rooms.{editionOf, roomOf, serialOf, ticketIn}
 use Rattle.desk.specs.declared.Closing.{Closing}
+use Rattle.desk.specs.declared.Edition.{Edition}
 use Rattle.desk.specs.declared.Feeding.{Feeding}
+use Rattle.desk.specs.declared.Replacing.{Replacing}
 use Rattle.desk.specs.declared.Serial.{Serial}
-use Rattle.history.specs.History.{Account, Act, AllBytes, World, accountAt, run, start}
-use Rattle.history.specs.Laws.Invariant.{Inv, Stranger}
+use Rattle.history.specs.History.{Account, Act, AllBytes, Gone, World, accountAt, actReplace, replacing, run, start, step}
+use Rattle.history.specs.Laws.Answering.{closed-room, gone-iff, open-room}
+use Rattle.history.specs.Laws.ByRoom.{close-by-room, feed-by-room, no-room-close, no-room-feed}
+use Rattle.history.specs.Laws.Invariant.{Inv}
 use Rattle.history.specs.Laws.Later.{goes-run}
 use Rattle.history.specs.Laws.LedgerSteps.{sound, sound-run}
-use Rattle.history.specs.Laws.Seats.{Agrees, Seat, no-seat, seated}
-use Rattle.history.specs.Laws.States.{known-or-not, state-is, stateOfAccount}
+use Rattle.history.specs.Laws.Seats.{Agrees}
+use Rattle.history.specs.Laws.States.{state-is, stateOfAccount}
+use Rattle.history.specs.Laws.Steps.{inv-step}
 use Rattle.history.specs.Served.{isClosed, isStale, stateBy, stateOf}
-use Rattle.matching.specs.Laws.Bools.{is-false, not-both}
+use Rattle.matching.specs.Laws.Bools.{is-false}
 use Rattle.matching.specs.Laws.Words.{eqb-eq}
-use Rattle.matching.specs.Words.{Word}
+use Rattle.matching.specs.Words.{Below, Word}
 
--- what the desk says of a ticket that is older than the set: it is stale or closed; a feed is refused, over every table; and while it is
--- stale it can be closed
+-- what the desk says of a ticket that is older than the set: it is stale, or closed if it was closed; a feed is refused, over every table; and
+-- while it is stale it can be closed
 pub record Older (w : World) (a : Account) : Type 0 where
-  pub state : (stateOf (w .desk) (serialOf (a .serial)) ≡ isStale) ⊎ (stateOf (w .desk) (serialOf (a .serial)) ≡ isClosed)
+  pub stale-state : a .closed ≡ false → stateOf (w .desk) (serialOf (a .serial)) ≡ isStale
+  pub closed-state : a .closed ≡ true → stateOf (w .desk) (serialOf (a .serial)) ≡ isClosed
   pub stale-feed : a .closed ≡ false → (table : List ℕ) (piece : Word) → feedOf (w .desk) (serialOf (a .serial)) table piece ≡ record { desk = w .desk; answer = F.Stale (editionOf (a .edition)) }
   pub closed-feed : a .closed ≡ true → (table : List ℕ) (piece : Word) → feedOf (w .desk) (serialOf (a .serial)) table piece ≡ record { desk = w .desk; answer = F.NoTicket }
   pub stale-close : a .closed ≡ false → closeOf (w .desk) (serialOf (a .serial)) .answer ≡ C.Closed
@@ -44,52 +54,25 @@ module _ (w : World) (v : Inv w) (k : ℕ) (hk : k < length (w .accounts)) where
   abbrev s : Serial
   s = serialOf (a .serial)
 
-  -- a closed serial has no room, over any later call
-  closed-room : a .closed ≡ true → 16 ≤ roomOf (w .desk .tickets) s
-  closed-room c = go (v .seats k hk)
-    where
-      go : Seat (w .desk .tickets) a → 16 ≤ roomOf (w .desk .tickets) s
-      go (no-seat q h) = h
-      go (seated q h g) = absurd (not-both c q)
-
-  open-room : a .closed ≡ false → (roomOf (w .desk .tickets) s < 16) × Agrees (ticketIn (w .desk .tickets) (roomOf (w .desk .tickets) s)) a
-  open-room c = go (v .seats k hk)
-    where
-      go : Seat (w .desk .tickets) a → (roomOf (w .desk .tickets) s < 16) × Agrees (ticketIn (w .desk .tickets) (roomOf (w .desk .tickets) s)) a
-      go (no-seat q h) = absurd (not-both q c)
-      go (seated q h g) = (h, g)
-
   -- NO TICKET for ever: a closed serial is refused by feed and close, over every table
   pub closed-feed-is : a .closed ≡ true → (table : List ℕ) (piece : Word) → feedOf (w .desk) s table piece ≡ record { desk = w .desk; answer = F.NoTicket }
-  closed-feed-is c table piece = go _ (feeds (w .desk) s table piece)
-    where
-      go : (r : Feeding) → Feeds (w .desk) (roomOf (w .desk .tickets) s) table piece r → r ≡ record { desk = w .desk; answer = F.NoTicket }
-      go r (feed-no-ticket h) = refl
-      go r (feed-stale h e) = absurd (omega (arith, h, closed-room c))
-      go r (feed-other-slots h e n) = absurd (omega (arith, h, closed-room c))
-      go r (feed-long h e l m) = absurd (omega (arith, h, closed-room c))
-      go r (feed-no-place h e l m n) = absurd (omega (arith, h, closed-room c))
-      go r (feed-read h e l m) = absurd (omega (arith, h, closed-room c))
+  closed-feed-is c table piece = no-room-feed (w .desk) s table piece (closed-room w v k hk c)
 
   pub closed-close-is : a .closed ≡ true → closeOf (w .desk) s ≡ record { desk = w .desk; answer = C.NoTicket }
-  closed-close-is c = go _ (closes (w .desk) s)
-    where
-      go : (r : Closing) → Closes (w .desk) s r → r ≡ record { desk = w .desk; answer = C.NoTicket }
-      go r (close-no-ticket h) = refl
-      go r (close-done i e h) = absurd (omega (arith, h, e, closed-room c))
+  closed-close-is c = no-room-close (w .desk) s (closed-room w v k hk c)
 
   pub open-close-is : a .closed ≡ false → closeOf (w .desk) s .answer ≡ C.Closed
   open-close-is c = go _ (closes (w .desk) s)
     where
       go : (r : Closing) → Closes (w .desk) s r → r .answer ≡ C.Closed
-      go r (close-no-ticket h) = absurd (omega (arith, h, open-room c .0))
+      go r (close-no-ticket h) = absurd (omega (arith, h, open-room w v k hk c .0))
       go r (close-done i e h) = refl
 
   stale-feed-is : a .closed ≡ false → a .edition < w .edition → (table : List ℕ) (piece : Word) → feedOf (w .desk) s table piece ≡ record { desk = w .desk; answer = F.Stale (editionOf (a .edition)) }
   stale-feed-is c old table piece = go _ (feeds (w .desk) s table piece)
     where
       room : (roomOf (w .desk .tickets) s < 16) × Agrees (ticketIn (w .desk .tickets) (roomOf (w .desk .tickets) s)) a
-      room = open-room c
+      room = open-room w v k hk c
 
       older : ticketIn (w .desk .tickets) (roomOf (w .desk .tickets) s) .edition .0 ≡ w .desk .edition .0 → ⊥
       older e = omega (arith, e, room .1 .edition, old, v .edition)
@@ -104,7 +87,8 @@ module _ (w : World) (v : Inv w) (k : ℕ) (hk : k < length (w .accounts)) where
 
   older-is : a .edition < w .edition → Older w a
   older-is old = record {
-    state = go (a .closed) refl;
+    stale-state = λ c. shown ∙ ap₂ (λ (b x : Bool). stateBy true (not b) x) c other;
+    closed-state = λ c. shown ∙ ap (λ (b : Bool). stateBy true (not b) (eqb (a .edition) (w .edition))) c;
     stale-feed = λ c. stale-feed-is c old;
     closed-feed = closed-feed-is;
     stale-close = open-close-is;
@@ -117,11 +101,46 @@ module _ (w : World) (v : Inv w) (k : ℕ) (hk : k < length (w .accounts)) where
       other : eqb (a .edition) (w .edition) ≡ false
       other = is-false (eqb (a .edition) (w .edition)) (λ e. omega (arith, old, eqb-eq (a .edition) (w .edition) e))
 
-      go : (b : Bool) → a .closed ≡ b → (stateOf (w .desk) s ≡ isStale) ⊎ (stateOf (w .desk) s ≡ isClosed)
-      go true c = inr (shown ∙ ap (λ (b : Bool). stateBy true (not b) (eqb (a .edition) (w .edition))) c)
-      go false c = inl (shown ∙ ap₂ (λ (b x : Bool). stateBy true (not b) x) c other)
+-- what an accepted replacement makes of a history's tickets: the edition rises by one and is in force, the accounts stay as they were, and every
+-- one of them is older than the set
+pub record AllOlder (w v : World) (e : Edition) : Type 0 where
+  pub next : e .0 ≡ suc (w .edition)
+  pub in-force : v .edition ≡ e .0
+  pub accounts : v .accounts ≡ w .accounts
+  pub below : (k : ℕ) → k < length (w .accounts) → accountAt w k .edition < e .0
+  pub older : (k : ℕ) → k < length (w .accounts) → Older v (accountAt w k)
 
--- THE THEOREM. Once the edition in force is later than a ticket's, then after any more calls the ticket is stale or closed, has the bytes that
+-- EVERY OPEN TICKET BECOMES STALE: where a replacement is accepted, each ticket from before it is of an edition below the new one, and is stale
+-- then, or closed if it was closed
+pub replaced-all-stale : (acts : List Act) → AllBytes acts → (set table : List ℕ) → Below 256 set → (e : Edition) (count : ℕ)
+    → replaceOf (run start acts .desk) set (length table) .answer ≡ R.Replaced e count → AllOlder (run start acts) (step (run start acts) (actReplace set table)) e
+replaced-all-stale acts b set table c e count = go _ (replaces (w .desk) set (length table)) (inv-step w (actReplace set table) c v)
+  where
+    w : World
+    w = run start acts
+
+    v : Inv w
+    v = sound acts b .inv
+
+    number : {x : Edition} {m : ℕ} → R.Replaced x m ≡ R.Replaced e count → x .0 ≡ e .0
+    number q = cc
+
+    go : (r : Replacing) → Replaces (w .desk) set (length table) r → Inv (replacing w set table (r .desk) (r .answer)) → r .answer ≡ R.Replaced e count
+        → AllOlder w (replacing w set table (r .desk) (r .answer)) e
+    go r (replace-fault fault p) i q = absurd (let z : _≡_ {A = ℕ} 0 1 = cc in omega arith)
+    go r (replace-table machine short p) i q = absurd (let z : _≡_ {A = ℕ} 0 1 = cc in omega arith)
+    go r (replace-edition-end n p h) i q = absurd (let z : _≡_ {A = ℕ} 0 1 = cc in omega arith)
+    go r (replace-done n p h) i q =
+        let new : w .desk .edition .0 + 1 ≡ e .0 = number q in
+        record {
+          next = omega (arith, new, v .edition);
+          in-force = new;
+          accounts = refl;
+          below = λ k l. omega (arith, new, v .edition, v .kept k l .upto);
+          older = λ k l. older-is _ i k l (omega (arith, v .edition, v .kept k l .upto));
+        }
+
+-- THE THEOREM. Once the edition in force is later than a ticket's, then after any more calls the ticket is stale, or closed, has the bytes that
 -- it had, and if it was closed is closed still
 pub after-a-replacement : (acts more : List Act) → AllBytes acts → AllBytes more → (k : ℕ) → k < length (run start acts .accounts)
     → accountAt (run start acts) k .edition < run start acts .edition
@@ -136,89 +155,19 @@ after-a-replacement acts more b c k h old =
     let t = sound-run w more c s in
     (l .bytes (inr old), l .closed, older-is (run w more) (t .inv) k (le-trans h (g .accounts)) (omega (arith, old, l .edition, g .edition)))
 
--- a closed ticket is NO TICKET for ever, after any more calls and over every table
-pub closed-for-ever : (acts more : List Act) → AllBytes acts → AllBytes more → (k : ℕ) → k < length (run start acts .accounts) → accountAt (run start acts) k .closed ≡ true
-    → (table : List ℕ) (piece : Word)
-    → (feedOf (run (run start acts) more .desk) (serialOf (suc k)) table piece ≡ record { desk = run (run start acts) more .desk; answer = F.NoTicket })
-    × (closeOf (run (run start acts) more .desk) (serialOf (suc k)) ≡ record { desk = run (run start acts) more .desk; answer = C.NoTicket })
-closed-for-ever acts more b c k h shut-now table piece =
-    let w = run start acts in
-    let s = sound acts b in
-    let v = run w more in
-    let g = goes-run w more c (s .inv) in
-    let t = sound-run w more c s .inv in
-    let hk = le-trans h (g .accounts) in
-    let e : serialOf (accountAt v k .serial) ≡ serialOf (suc k) = λ d. record { 0 = t .numbered k hk d } in
-    let z = g .each k h .closed shut-now in (
-      subst (λ (n : Serial). feedOf (v .desk) n table piece ≡ record { desk = v .desk; answer = F.NoTicket }) e (closed-feed-is v t k hk z table piece),
-      subst (λ (n : Serial). closeOf (v .desk) n ≡ record { desk = v .desk; answer = C.NoTicket }) e (closed-close-is v t k hk z),
-    )
-
--- a serial that no opening answered, or whose ticket was closed
-abbrev pub Gone : World → Serial → Type 0
-Gone w s = (k : ℕ) → k < length (w .accounts) → accountAt w k .serial ≡ s .0 → accountAt w k .closed ≡ true
-
--- such a serial has no room, and any other has one
-gone-iff : (w : World) → Inv w → (s : Serial) → (16 ≤ roomOf (w .desk .tickets) s) ↔ Gone w s
-gone-iff w v s = (there, back)
-  where
-    there : 16 ≤ roomOf (w .desk .tickets) s → Gone w s
-    there h k hk q = go (accountAt w k .closed) refl
-      where
-        go : (x : Bool) → accountAt w k .closed ≡ x → accountAt w k .closed ≡ true
-        go true c = c
-        go false c = absurd (omega (arith, h, subst (λ (n : Serial). roomOf (w .desk .tickets) n < 16) (λ d. record { 0 = q d }) (open-room w v k hk c .0)))
-
-    back : Gone w s → 16 ≤ roomOf (w .desk .tickets) s
-    back f = go (known-or-not w v (s .0))
-      where
-        go : ((k : ℕ) × (k < length (w .accounts)) × (s .0 ≡ suc k)) ⊎ Stranger (length (w .accounts)) (s .0) → 16 ≤ roomOf (w .desk .tickets) s
-        go (inl z) =
-            let q : accountAt w (z .0) .serial ≡ s .0 = v .numbered (z .0) (z .1) ∙ sym (z .2) in
-            subst (λ (n : Serial). 16 ≤ roomOf (w .desk .tickets) n) (λ d. record { 0 = q d }) (closed-room w v (z .0) (z .1) (f (z .0) (z .1) q))
-        go (inr z) = v .strangers s z
-
 -- NO TICKET, exactly: after any history a close of a serial, or a feed of it over any table, is refused so exactly if no opening answered the
 -- serial or its ticket was closed
 pub no-ticket-close : (acts : List Act) → AllBytes acts → (s : Serial) → (closeOf (run start acts .desk) s .answer ≡ C.NoTicket) ↔ Gone (run start acts) s
-no-ticket-close acts b s = (λ e. gone-iff w v s .0 (there _ (closes (w .desk) s) e), λ g. back _ (closes (w .desk) s) (gone-iff w v s .1 g))
-  where
-    w : World
-    w = run start acts
-
-    v : Inv w
-    v = sound acts b .inv
-
-    there : (r : Closing) → Closes (w .desk) s r → r .answer ≡ C.NoTicket → 16 ≤ roomOf (w .desk .tickets) s
-    there r (close-no-ticket h) e = h
-    there r (close-done i p h) e = absurd (let z : _≡_ {A = ℕ} 0 1 = cc in omega arith)
-
-    back : (r : Closing) → Closes (w .desk) s r → 16 ≤ roomOf (w .desk .tickets) s → r .answer ≡ C.NoTicket
-    back r (close-no-ticket h) g = refl
-    back r (close-done i p h) g = absurd (omega (arith, g, p, h))
+no-ticket-close acts b s =
+    let w = run start acts in
+    let g = gone-iff w (sound acts b .inv) s in
+    let r = close-by-room (w .desk) s in
+    (λ e. g .0 (r .0 e), λ h. r .1 (g .1 h))
 
 pub no-ticket-feed : (acts : List Act) → AllBytes acts → (s : Serial) (table : List ℕ) (piece : Word)
     → (feedOf (run start acts .desk) s table piece .answer ≡ F.NoTicket) ↔ Gone (run start acts) s
-no-ticket-feed acts b s table piece = (λ e. gone-iff w v s .0 (there _ (feeds (w .desk) s table piece) e), λ g. back _ (feeds (w .desk) s table piece) (gone-iff w v s .1 g))
-  where
-    w : World
-    w = run start acts
-
-    v : Inv w
-    v = sound acts b .inv
-
-    there : (r : Feeding) → Feeds (w .desk) (roomOf (w .desk .tickets) s) table piece r → r .answer ≡ F.NoTicket → 16 ≤ roomOf (w .desk .tickets) s
-    there r (feed-no-ticket h) e = h
-    there r (feed-stale h x) e = absurd (let z : _≡_ {A = ℕ} 0 1 = cc in omega arith)
-    there r (feed-other-slots h x l) e = absurd (let z : _≡_ {A = ℕ} 0 1 = cc in omega arith)
-    there r (feed-long h x l m) e = absurd (let z : _≡_ {A = ℕ} 0 1 = cc in omega arith)
-    there r (feed-no-place h x l m y) e = absurd (let z : _≡_ {A = ℕ} 0 1 = cc in omega arith)
-    there r (feed-read h x l m) e = absurd (let z : _≡_ {A = ℕ} 0 1 = cc in omega arith)
-
-    back : (r : Feeding) → Feeds (w .desk) (roomOf (w .desk .tickets) s) table piece r → 16 ≤ roomOf (w .desk .tickets) s → r .answer ≡ F.NoTicket
-    back r (feed-no-ticket h) g = refl
-    back r (feed-stale h x) g = absurd (omega (arith, g, h))
-    back r (feed-other-slots h x l) g = absurd (omega (arith, g, h))
-    back r (feed-long h x l m) g = absurd (omega (arith, g, h))
-    back r (feed-no-place h x l m y) g = absurd (omega (arith, g, h))
-    back r (feed-read h x l m) g = absurd (omega (arith, g, h))
+no-ticket-feed acts b s table piece =
+    let w = run start acts in
+    let g = gone-iff w (sound acts b .inv) s in
+    let r = feed-by-room (w .desk) s table piece in
+    (λ e. g .0 (r .0 e), λ h. r .1 (g .1 h))

@@ -1,29 +1,31 @@
 -- The stream of all records: what is taken out is the oldest held, what is added comes behind all others, and how many there are.
-use Rattle.desk.specs.declared.TakeAnswer.the-variants as K
 use Rattle.desk.specs.declared.CloseAnswer.the-variants as C
 use Prim.Native.Nat.{_+_, _<_, suc, zero, ℕ}
 use mathlib.Core.List.{List, [], _++_, _∷_, append-nil}
-use mathlib.Core.Path.{_∙_, _≡_, ap, ap₂, refl, subst, sym}
+use mathlib.Core.Path.{_∙_, _≡_, ap, refl, subst, sym}
 use native.Mathlib.Nat.{zero-add}
 use native.Mathlib.Omega.{arith}
 use lib.ListN.{getD, length, length-append, set, take}
-use Rattle.desk.specs.Calls.{takeOf, withTicket}
+use Rattle.desk.specs.Calls.{withTicket}
 use Rattle.desk.specs.Feed.{fedBy, readFor}
 use Rattle.desk.specs.Laws.Good.{good, on-place}
 use Rattle.desk.specs.Laws.Rooms.{for-held}
-use Rattle.desk.specs.Laws.Shared.{held-popped, recordsOf-length}
-use Rattle.desk.specs.Laws.Views.{Closes, Feeds, Opens, Replaces, Takes, close-done, close-no-ticket, closes, feed-long, feed-no-place, feed-no-ticket, feed-other-slots, feed-read, feed-stale, feeds, open-done, open-no-room, open-no-set, open-serial-end, opens, replace-done, replace-edition-end, replace-fault, replace-table, replaces, take-nothing, take-oldest, takes}
+use Rattle.desk.specs.Laws.Shared.{recordsOf-length}
+use Rattle.desk.specs.Laws.Views.{Closes, close-done, close-no-ticket, closes}
+use Rattle.desk.specs.Laws.Views.{Feeds, feed-long, feed-no-place, feed-no-ticket, feed-other-slots, feed-read, feed-stale, feeds}
+use Rattle.desk.specs.Laws.Views.{Opens, open-done, open-no-room, open-no-set, open-serial-end, opens}
+use Rattle.desk.specs.Laws.Views.{Replaces, replace-done, replace-edition-end, replace-fault, replace-table, replaces}
+use Rattle.desk.specs.Laws.Views.{takes}
 use Rattle.desk.specs.Rooms.{freeTicket, roomOf, ticketIn}
 use Rattle.desk.specs.Shared.{held, recordsOf, round}
 use Rattle.desk.specs.declared.Closing.{Closing}
-use Rattle.desk.specs.declared.Desk.{Desk}
 use Rattle.desk.specs.declared.Feeding.{Feeding}
 use Rattle.desk.specs.declared.Opening.{Opening}
 use Rattle.desk.specs.declared.Record.{Record}
 use Rattle.desk.specs.declared.Replacing.{Replacing}
 use Rattle.desk.specs.declared.Serial.{Serial}
-use Rattle.desk.specs.declared.Taking.{Taking}
-use Rattle.history.specs.History.{Account, Act, AllBytes, OfBytes, World, accountAt, actClose, actFeed, actOpen, actReplace, actTake, closing, feeding, grown, newAccount, noAccount, onSerial, opening, recordsFor, replacing, run, shut, start, step, stream}
+use Rattle.history.specs.History.{Account, Act, AllBytes, OfBytes, World, actClose, actFeed, actOpen, actReplace, actTake}
+use Rattle.history.specs.History.{accountAt, closing, feeding, grown, newAccount, noAccount, onSerial, opening, recordsFor, replacing, run, shut, start, step, stream}
 use Rattle.history.specs.Laws.Accounts.{recordsFor-own}
 use Rattle.history.specs.Laws.Fed.{stream-fed}
 use Rattle.history.specs.Laws.Feeding.{force, read-done}
@@ -100,20 +102,6 @@ adds w v actTake b = quiet w (step w actTake) actTake (stream-takes w _ (good (v
 -- each call of a history adds its records behind all those there were: taken out or held, none is lost, and none changes its place
 pub stream-grows : (acts : List Act) → AllBytes acts → (a : Act) → OfBytes a → Adds (run start acts) (step (run start acts) a) a
 stream-grows acts b a c = adds (run start acts) (sound acts b .inv) a c
-
--- a taking hands out the oldest of all records held
-pub oldest-first : (acts : List Act) → AllBytes acts → (r : Record) → takeOf (run start acts .desk) .answer ≡ K.Taken r
-    → held (run start acts .desk .records) ≡ r ∷ held (step (run start acts) actTake .desk .records)
-oldest-first acts b r e = go _ (takes (run start acts .desk)) refl e
-  where
-    d : Desk
-    d = run start acts .desk
-
-    go : (t : Taking) → Takes d t → takeOf d ≡ t → t .answer ≡ K.Taken r → held (d .records) ≡ r ∷ held (takeOf d .desk .records)
-    go t (take-nothing h) q p = absurd (let z : _≡_ {A = ℕ} 0 1 = cc in omega arith)
-    go t (take-oldest h) q p =
-        held-popped (d .records) h
-        ∙ ap₂ (λ (x : Record) (l : List Record). x ∷ l) (cc) (ap (λ (y : Taking). held (y .desk .records)) (sym q))
 
 -- ---- how many records there are
 

@@ -4,7 +4,6 @@ use mathlib.Core.List.{List, [], _++_, _∷_, append-assoc, append-nil}
 use mathlib.Core.Path.{_∙_, _≡_, ap, refl, subst, subst₂, sym}
 use native.Mathlib.Omega.{arith}
 use lib.ListN.{getD, length, length-append}
-use borrow.Author.Needs.{needs}
 use Rattle.desk.specs.Laws.Views.{Replaces, replace-done, replace-edition-end, replace-fault, replace-table, replaces}
 use Rattle.desk.specs.Numbers.{replaceNumber}
 use Rattle.desk.specs.Replace.{replaceOf}

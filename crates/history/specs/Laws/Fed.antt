@@ -21,14 +21,14 @@ use Rattle.desk.specs.declared.Serial.{Serial}
 use Rattle.desk.specs.declared.Ticket.{Ticket}
 use Rattle.history.specs.History.{Account, World, accountAt, grown, onSerial, recordsDue, recordsFor, stream, withAccounts}
 use Rattle.history.specs.Laws.Accounts.{onSerial-length, recordsFor-append, recordsFor-other, recordsFor-own, recordsOf-append}
-use Rattle.history.specs.Laws.Feeding.{agrees, force, live, mine, read-done}
+use Rattle.history.specs.Laws.Feeding.{agrees, live, mine, read-done}
 use Rattle.history.specs.Laws.Invariant.{Inv, Kept, Stranger, changed-each, wide}
 use Rattle.history.specs.Laws.Seats.{Agrees, Seat, for-other, seat-kept, seat-same, seated, unique-set}
 use Rattle.matching.specs.Laws.Expected.{Done}
 use Rattle.matching.specs.Laws.Occurrences.{occurrencesFrom-append}
 use Rattle.matching.specs.Occurrence.{Occurrence, occurrences, occurrencesFrom}
 use Rattle.matching.specs.Reading.{Outcome}
-use Rattle.matching.specs.Words.{Below, Word, same}
+use Rattle.matching.specs.Words.{Below, Word}
 
 pub below-append : (m : ℕ) (x y : Word) → Below m x → Below m y → Below m (x ++ y)
 below-append m [] y hx hy = hy
@@ -76,10 +76,10 @@ module _ (w : World) (v : Inv w) (s : Serial) (k : ℕ) (hk : k < length (w .acc
   done = read-done w v s k hk ek hi same piece b
 
   fit : Agrees t a
-  fit = agrees w v s k hk ek hi same
+  fit = agrees w v s k hk ek hi
 
   for-s : isFor s t ≡ true
-  for-s = mine w v s k hk ek hi same
+  for-s = mine w v s k hk ek hi
 
   read-for : isFor s (readOn t r) ≡ true
   read-for = for-s
@@ -114,7 +114,7 @@ module _ (w : World) (v : Inv w) (s : Serial) (k : ℕ) (hk : k < length (w .acc
   seat =
       let q = seat-same rooms (wide w v) i (readOn t r) hi s refl read-for in
       subst (λ (n : ℕ). Seat (set rooms i (readOn t r)) (record { serial = n; edition = a .edition; tags = a .tags; bytes = a .bytes ++ more; closed = a .closed })) (ek ∙ sym (v .numbered k hk))
-      (seated (live w v s k hk ek hi same) (omega (arith, q .0))
+      (seated (live w v s k hk ek hi) (omega (arith, q .0))
       (subst (λ (x : Ticket). Agrees x (record { serial = s .0; edition = a .edition; tags = a .tags; bytes = a .bytes ++ more; closed = a .closed })) (sym (q .1))
       (record {
         edition = fit .edition;

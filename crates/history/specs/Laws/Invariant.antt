@@ -15,7 +15,7 @@ use Rattle.desk.specs.declared.Serial.{Serial}
 use Rattle.history.specs.History.{Account, World, accountAt, noAccount, onSerial, recordsDue, recordsFor, start, stream}
 use Rattle.history.specs.Laws.Accounts.{onSerial-hit, onSerial-length, onSerial-miss}
 use Rattle.history.specs.Laws.Seats.{Seat, Unique, nobody-new, unique-new}
-use Rattle.matching.specs.Table.{built, enoughSlots, roomFrom, slots, slotsIn}
+use Rattle.matching.specs.Table.{built, enoughSlots, roomFrom, slotsIn}
 use Rattle.matching.specs.Words.{Below, Lawful, Word}
 
 -- a serial that no opening has answered

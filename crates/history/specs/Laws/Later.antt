@@ -6,10 +6,12 @@ use mathlib.Core.Logic.{_⊎_, inl, inr}
 use mathlib.Core.Path.{_∙_, _≡_, ap, refl, sym}
 use native.Mathlib.Nat.{le-of-eq, le-trans}
 use native.Mathlib.Omega.{arith}
-use lib.ListN.{getD, length, set}
-use borrow.Author.Needs.{needs}
+use lib.ListN.{getD, length}
 use Rattle.desk.specs.Laws.Good.{good, on-place}
-use Rattle.desk.specs.Laws.Views.{Closes, Feeds, Opens, Replaces, close-done, close-no-ticket, closes, feed-long, feed-no-place, feed-no-ticket, feed-other-slots, feed-read, feed-stale, feeds, open-done, open-no-room, open-no-set, open-serial-end, opens, replace-done, replace-edition-end, replace-fault, replace-table, replaces}
+use Rattle.desk.specs.Laws.Views.{Closes, close-done, close-no-ticket, closes}
+use Rattle.desk.specs.Laws.Views.{Feeds, feed-long, feed-no-place, feed-no-ticket, feed-other-slots, feed-read, feed-stale, feeds}
+use Rattle.desk.specs.Laws.Views.{Opens, open-done, open-no-room, open-no-set, open-serial-end, opens}
+use Rattle.desk.specs.Laws.Views.{Replaces, replace-done, replace-edition-end, replace-fault, replace-table, replaces}
 use Rattle.desk.specs.Rooms.{roomOf, ticketIn}
 use Rattle.desk.specs.declared.Closing.{Closing}
 use Rattle.desk.specs.declared.Desk.{Desk}
@@ -17,7 +19,8 @@ use Rattle.desk.specs.declared.Feeding.{Feeding}
 use Rattle.desk.specs.declared.Opening.{Opening}
 use Rattle.desk.specs.declared.Replacing.{Replacing}
 use Rattle.desk.specs.declared.Serial.{Serial}
-use Rattle.history.specs.History.{Account, Act, AllBytes, World, accountAt, actClose, actFeed, actOpen, actReplace, actTake, closing, feeding, grown, newAccount, noAccount, onSerial, opening, replacing, run, shut, step, withAccounts}
+use Rattle.history.specs.History.{Account, Act, AllBytes, World, actClose, actFeed, actOpen, actReplace, actTake}
+use Rattle.history.specs.History.{accountAt, closing, feeding, grown, newAccount, noAccount, onSerial, opening, replacing, run, shut, step, withAccounts}
 use Rattle.history.specs.Laws.Accounts.{onSerial-length}
 use Rattle.history.specs.Laws.Feeding.{force, live, now}
 use Rattle.history.specs.Laws.Invariant.{Inv, changed-each, given}
@@ -102,7 +105,7 @@ goes-feeds w s piece v = go _ (feeds (w .desk) s (w .table) piece)
     }
       where
         no : (accountAt w k .closed ≡ true) ⊎ (accountAt w k .edition < w .edition) → ⊥
-        no (inl c) = not-both c (live w v s k hk ek h e)
+        no (inl c) = not-both c (live w v s k hk ek h)
         no (inr c) = omega (arith, c, now w v s k hk ek h e)
 
     go : (r : Feeding) → Feeds (w .desk) (roomOf (w .desk .tickets) s) (w .table) piece r → Goes w (feeding w s piece (r .desk) (r .answer))

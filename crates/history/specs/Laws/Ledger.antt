@@ -11,15 +11,10 @@ use lib.ListN.{getD, length, length-set, set, take}
 use lib.Seq.{getD-set-other, getD-set-same}
 use Rattle.desk.specs.Rooms.{ticketsHeld}
 use Rattle.desk.specs.declared.Desk.{Desk}
-use Rattle.history.specs.History.{Account, Order, World, accountAt, noAccount, run, start, tagsOfSet, withAccounts}
+use Rattle.history.specs.History.{Account, Order, World, accountAt, lives, noAccount, run, start, tagsOfSet, withAccounts}
 use Rattle.matching.specs.Words.{Below, Word}
 use Rattle.tables.specs.Building.{builtOf}
 use Rattle.tagset.specs.Grammar.{setOf}
-
--- how many of some accounts are not closed
-unfoldable pub lives : List Account → ℕ
-lives [] = 0
-lives (a ∷ l) = cond (a .closed) 0 1 + lives l
 
 abbrev pub noOrder : Order
 noOrder = record { set = []; run = [] }

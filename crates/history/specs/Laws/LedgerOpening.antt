@@ -12,9 +12,9 @@ use Rattle.desk.specs.Laws.Rooms.{firstRoom-holds, free-held, full-iff, held-le
 use Rattle.desk.specs.Laws.Views.{Opens, open-done, open-no-room, open-no-set, open-serial-end, opens}
 use Rattle.desk.specs.Rooms.{freeRoom, isFree, isHeld, newTicket, serialOf, ticketIn, ticketsHeld}
 use Rattle.desk.specs.declared.Opening.{Opening}
-use Rattle.history.specs.History.{Account, World, accountAt, actOpen, newAccount, noAccount, opening, step, withAccounts}
+use Rattle.history.specs.History.{Account, World, accountAt, actOpen, lives, newAccount, noAccount, opening, step, withAccounts}
 use Rattle.history.specs.Laws.Invariant.{Inv, wide}
-use Rattle.history.specs.Laws.Ledger.{Ledger, lives, lives-append, orderAt, tagsOfOrder}
+use Rattle.history.specs.Laws.Ledger.{Ledger, lives-append, orderAt, tagsOfOrder}
 use Rattle.history.specs.Laws.Snoc.{snoc-last, snoc-length, snoc-old}
 
 module _ (w : World) (v : Inv w) (g : Ledger w) (i : ℕ) (ei : i ≡ freeRoom (w .desk .tickets)) (hi : i < 16) (more : w .desk .serial .0 ≡ 4294967295 → ⊥) where

@@ -1,18 +1,20 @@
 -- Every call keeps the ledger.
 use Rattle.tables.specs.declared.Built.the-variants as B
 use Rattle.desk.specs.declared.ReplaceAnswer.the-variants as R
-use Prim.Native.Nat.{_+_, _<_, _≤_, suc, ℕ}
-use mathlib.Core.Bool.{Bool, cond, false, true}
+use Prim.Native.Nat.{_+_, _<_, suc, ℕ}
+use mathlib.Core.Bool.{Bool, cond, true}
 use mathlib.Core.List.{List, [], _∷_}
 use mathlib.Core.Path.{_∙_, _≡_, ap, refl, subst, sym}
 use native.Mathlib.Omega.{arith}
-use lib.ListN.{length, set, take}
-use borrow.Author.Needs.{needs}
+use lib.ListN.{length, take}
 use Rattle.desk.specs.Calls.{withRecords, withTicket}
 use Rattle.desk.specs.Feed.{fedBy, readFor, readOn}
 use Rattle.desk.specs.Laws.Good.{good, on-place}
 use Rattle.desk.specs.Laws.Rooms.{for-held, held-set}
-use Rattle.desk.specs.Laws.Views.{Closes, Feeds, Replaces, Takes, close-done, close-no-ticket, closes, feed-long, feed-no-place, feed-no-ticket, feed-other-slots, feed-read, feed-stale, feeds, replace-done, replace-edition-end, replace-fault, replace-table, replaces, take-nothing, take-oldest, takes}
+use Rattle.desk.specs.Laws.Views.{Closes, close-done, close-no-ticket, closes}
+use Rattle.desk.specs.Laws.Views.{Feeds, feed-long, feed-no-place, feed-no-ticket, feed-other-slots, feed-read, feed-stale, feeds}
+use Rattle.desk.specs.Laws.Views.{Replaces, replace-done, replace-edition-end, replace-fault, replace-table, replaces}
+use Rattle.desk.specs.Laws.Views.{Takes, take-nothing, take-oldest, takes}
 use Rattle.desk.specs.Replace.{underNext}
 use Rattle.desk.specs.Rooms.{editionOf, freeTicket, isHeld, roomOf, ticketIn, ticketsHeld}
 use Rattle.desk.specs.Shared.{popped}
@@ -23,12 +25,13 @@ use Rattle.desk.specs.declared.Record.{Record}
 use Rattle.desk.specs.declared.Replacing.{Replacing}
 use Rattle.desk.specs.declared.Serial.{Serial}
 use Rattle.desk.specs.declared.Taking.{Taking}
-use Rattle.history.specs.History.{Account, Act, AllBytes, OfBytes, Order, World, accountAt, actClose, actFeed, actOpen, actReplace, actTake, closing, feeding, grown, onSerial, replacing, run, shut, start, step, taking, withAccounts}
-use Rattle.history.specs.Laws.Feeding.{force}
+use Rattle.history.specs.History.{Account, Act, AllBytes, OfBytes, Order, World, actClose, actFeed, actOpen, actReplace, actTake}
+use Rattle.history.specs.History.{accountAt, closing, feeding, grown, onSerial, replacing, run, shut, start, step, taking, withAccounts}
+use Rattle.history.specs.Laws.Feeding.{force, live}
 use Rattle.history.specs.Laws.Invariant.{Inv, changed-is, given, inv-start, wide}
 use Rattle.history.specs.Laws.Ledger.{Fine, Ledger, ledger-set, ledger-start, lives-set, noOrder, tagsOfOrder}
 use Rattle.history.specs.Laws.LedgerOpening.{ledger-opens}
-use Rattle.history.specs.Laws.Seats.{Seat, no-seat, room-for, seated}
+use Rattle.history.specs.Laws.Seats.{room-for}
 use Rattle.history.specs.Laws.Snoc.{snoc-each, snoc-last, snoc-length, snoc-old}
 use Rattle.history.specs.Laws.Steps.{inv-step}
 use Rattle.history.specs.Served.{accepts}
@@ -60,21 +63,13 @@ ledger-takes w g = go _ (takes (w .desk))
 
 -- ---- a closing, and a feed
 
--- the ticket of a serial that has a room is held, and its account is not closed
-live-account : (w : World) → Inv w → (s : Serial) (k : ℕ) → k < length (w .accounts) → s .0 ≡ suc k → roomOf (w .desk .tickets) s < 16 → accountAt w k .closed ≡ false
-live-account w v s k hk ek h = go (v .seats k hk)
-  where
-    go : Seat (w .desk .tickets) (accountAt w k) → accountAt w k .closed ≡ false
-    go (no-seat c q) = absurd (omega (arith, h, subst (λ (n : Serial). 16 ≤ roomOf (w .desk .tickets) n) (λ d. record { 0 = (v .numbered k hk ∙ sym ek) d }) q))
-    go (seated c q a) = c
-
 ledger-closes : (w : World) (s : Serial) → Inv w → Ledger w → Ledger (step w (actClose s))
 ledger-closes w s v g = go _ (closes (w .desk) s)
   where
     shutting : (i : ℕ) → i ≡ roomOf (w .desk .tickets) s → i < 16 → (k : ℕ) → k < length (w .accounts) → s .0 ≡ suc k
         → Ledger (withAccounts w (withTicket (w .desk) i freeTicket) (onSerial (s .0) shut (w .accounts)))
     shutting i e h k hk ek =
-        let open-still = live-account w v s k hk ek (omega (arith, e)) in
+        let open-still = live w v s k hk ek (omega (arith, e)) in
         let held-still : isHeld (ticketIn (w .desk .tickets) i) ≡ true = subst (λ (j : ℕ). isHeld (ticketIn (w .desk .tickets) j) ≡ true) (sym e) (for-held s (ticketIn (w .desk .tickets) (roomOf (w .desk .tickets) s)) (room-for (w .desk .tickets) (wide w v) s (omega (arith, e))) .0) in
         let a : _≡_ {A = ℕ} (cond (accountAt w k .closed) 0 1) 1 = ap (λ (b : Bool). cond b 0 1) open-still in
         let c : _≡_ {A = ℕ} (cond (isHeld (ticketIn (w .desk .tickets) i)) 1 0) 1 = ap (λ (b : Bool). cond b 1 0) held-still in

@@ -12,7 +12,7 @@ use Rattle.desk.specs.Reached.{Reached}
 use Rattle.desk.specs.Replace.{replacedRun, underNext}
 use Rattle.desk.specs.Rooms.{editionOf}
 use Rattle.desk.specs.declared.Desk.{Desk}
-use Rattle.history.specs.History.{Account, World, accountAt, replacing, run, tagsOfSet}
+use Rattle.history.specs.History.{Account, World, accountAt, replacing, tagsOfSet}
 use Rattle.history.specs.Laws.Invariant.{InForce, Inv, Kept}
 use Rattle.matching.specs.Laws.Bools.{is-false}
 use Rattle.matching.specs.Laws.Words.{eqb-eq}

@@ -18,7 +18,6 @@ use Rattle.history.specs.Laws.Becomes.{Becomes, becomes-append, becomes-
 use Rattle.history.specs.Laws.LedgerSteps.{Sound}
 use Rattle.history.specs.Laws.Stages.{Emptied, FedSome, closed-one, emptied-all, fed-one}
 use Rattle.history.specs.Served.{Script, afterFull, emptied, fedPieces, fedWhole, joined, shutIf, then}
-use Rattle.matching.specs.Laws.States.{most}
 use Rattle.matching.specs.Words.{Below, Word}
 use Rattle.matching.specs.declared.Stop.{Stop}
 

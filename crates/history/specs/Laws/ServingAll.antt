@@ -5,16 +5,15 @@ use mathlib.Core.List.{List, [], _++_, _∷_, append-assoc, append-nil}
 use mathlib.Core.Path.{_∙_, _≡_, ap, ap₂, refl, subst, subst₂, sym}
 use native.Mathlib.Nat.{le-of-eq, le-trans, zero-add}
 use native.Mathlib.Omega.{arith}
-use lib.Ieee.Positive.{above}
 use lib.ListN.{drop, getD, length, length-append, length-drop, take}
 use lib.Seq.{getD-at, getD-drop, getD-take, length-take-le, take-all, take-append-seam}
 use Rattle.desk.specs.Rooms.{serialOf}
 use Rattle.desk.specs.declared.Serial.{Serial}
-use Rattle.history.specs.History.{Account, Act, Order, World, accountAt, actOpen, grown, newAccount, noAccount, run, start}
+use Rattle.history.specs.History.{Account, Act, Order, World, accountAt, actOpen, grown, lives, newAccount, noAccount, run, start}
 use Rattle.history.specs.Laws.Becomes.{AllFine, Becomes, becomes-append, becomes-sound, replaced-all}
 use Rattle.history.specs.Laws.Feeding.{live, now}
 use Rattle.history.specs.Laws.Invariant.{Kept, inv-start}
-use Rattle.history.specs.Laws.Ledger.{Fine, ledger-start, lives, noOrder, tagsOfOrder}
+use Rattle.history.specs.Laws.Ledger.{Fine, ledger-start, noOrder, tagsOfOrder}
 use Rattle.history.specs.Laws.LedgerSteps.{Sound, sound}
 use Rattle.history.specs.Laws.Serving.{at-fedPieces, at-shutIf}
 use Rattle.history.specs.Laws.Snoc.{snoc-length}

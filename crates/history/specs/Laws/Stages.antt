@@ -12,7 +12,10 @@ use Rattle.desk.specs.Calls.{closeOf, openOf, takeOf}
 use Rattle.desk.specs.Feed.{feedOf, readFor}
 use Rattle.desk.specs.Laws.Good.{good, on-place}
 use Rattle.desk.specs.Laws.Rooms.{firstRoom-le, full-iff}
-use Rattle.desk.specs.Laws.Views.{Closes, Feeds, Opens, Takes, close-done, close-no-ticket, closes, feed-long, feed-no-place, feed-no-ticket, feed-other-slots, feed-read, feed-stale, feeds, open-done, open-no-room, open-no-set, open-serial-end, opens, take-nothing, take-oldest, takes}
+use Rattle.desk.specs.Laws.Views.{Closes, close-done, close-no-ticket, closes}
+use Rattle.desk.specs.Laws.Views.{Feeds, feed-long, feed-no-place, feed-no-ticket, feed-other-slots, feed-read, feed-stale, feeds}
+use Rattle.desk.specs.Laws.Views.{Opens, open-done, open-no-room, open-no-set, open-serial-end, opens}
+use Rattle.desk.specs.Laws.Views.{Takes, take-nothing, take-oldest, takes}
 use Rattle.desk.specs.Numbers.{closeNumber, feedNumber, openNumber, takeNumber}
 use Rattle.desk.specs.Rooms.{freeRoom, isFree, roomOf, serialOf, ticketIn}
 use Rattle.desk.specs.declared.Closing.{Closing}
@@ -20,11 +23,11 @@ use Rattle.desk.specs.declared.Feeding.{Feeding}
 use Rattle.desk.specs.declared.Opening.{Opening}
 use Rattle.desk.specs.declared.Serial.{Serial}
 use Rattle.desk.specs.declared.Taking.{Taking}
-use Rattle.history.specs.History.{Account, World, accountAt, actClose, actFeed, actOpen, actTake, closing, feeding, grown, newAccount, noAccount, onSerial, opening, run, shut, step}
+use Rattle.history.specs.History.{Account, World, actClose, actFeed, actOpen, actTake}
+use Rattle.history.specs.History.{accountAt, closing, feeding, grown, lives, newAccount, noAccount, onSerial, opening, run, shut, step}
 use Rattle.history.specs.Laws.Becomes.{Becomes, becomes-append, becomes-nothing, becomes-one}
-use Rattle.history.specs.Laws.Feeding.{force, now, read-due}
+use Rattle.history.specs.Laws.Feeding.{force, read-due}
 use Rattle.history.specs.Laws.Invariant.{changed-is, wide}
-use Rattle.history.specs.Laws.Ledger.{lives}
 use Rattle.history.specs.Laws.LedgerSteps.{Sound}
 use Rattle.history.specs.Laws.Seats.{Agrees, Seat, no-seat, seated}
 use Rattle.history.specs.Laws.Snoc.{snoc-last, snoc-length}
@@ -32,7 +35,7 @@ use Rattle.matching.specs.Laws.Bools.{not-both}
 use Rattle.matching.specs.Laws.Expected.{Done, expected-advances, expected-done}
 use Rattle.matching.specs.Occurrence.{tagsEnding}
 use Rattle.matching.specs.Reading.{Outcome, expected}
-use Rattle.matching.specs.Table.{slots, slotsIn}
+use Rattle.matching.specs.Table.{slotsIn}
 use Rattle.matching.specs.Words.{Below, Lawful, Word}
 use Rattle.matching.specs.declared.Stop.{Stop}
 

@@ -20,7 +20,7 @@ use Rattle.matching.specs.Laws.Bools.{and-both, and-l, and-r, is-false, is-true
 abbrev pub stateOfAccount : ℕ → Account → TicketState
 stateOfAccount edition a = stateBy true (not (a .closed)) (eqb (a .edition) edition)
 
-ltb-no : (m n : ℕ) → n ≤ m → ltb m n ≡ false
+pub ltb-no : (m n : ℕ) → n ≤ m → ltb m n ≡ false
 ltb-no m n h = is-false (ltb m n) (λ e. omega (arith, ltb→lt m n (to-T (ltb m n) e)))
 
 module _ (w : World) (v : Inv w) where

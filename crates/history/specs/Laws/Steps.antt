@@ -1,12 +1,10 @@
 -- Every call keeps the invariant, and so every history does.
-use Rattle.desk.specs.declared.ReplaceAnswer.the-variants as R
-use Rattle.tables.specs.declared.Built.the-variants as B
 use Prim.Native.Nat.{ℕ}
 use mathlib.Core.List.{List, [], _∷_}
-use lib.ListN.{length, set}
-use borrow.Author.Needs.{needs}
+use lib.ListN.{length}
 use Rattle.desk.specs.Laws.Good.{good, on-place}
-use Rattle.desk.specs.Laws.Views.{Feeds, Replaces, feed-long, feed-no-place, feed-no-ticket, feed-other-slots, feed-read, feed-stale, feeds, replace-done, replace-edition-end, replace-fault, replace-table, replaces}
+use Rattle.desk.specs.Laws.Views.{Feeds, feed-long, feed-no-place, feed-no-ticket, feed-other-slots, feed-read, feed-stale, feeds}
+use Rattle.desk.specs.Laws.Views.{Replaces, replace-done, replace-edition-end, replace-fault, replace-table, replaces}
 use Rattle.desk.specs.Reached.{Reached, byCall, callFeed, callReplace}
 use Rattle.desk.specs.Rooms.{roomOf}
 use Rattle.desk.specs.declared.Feeding.{Feeding}

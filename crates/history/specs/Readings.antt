@@ -1,0 +1,73 @@
+-- What demand 2 speaks of: readings one after another over a table as building left it, and what each of them is to come to.
+use Rattle.tables.specs.declared.Built.the-variants as B
+use Rattle.matching.specs.declared.Stop.the-variants as S
+use Prim.Native.Nat.{_+_, _/_, _<_, _≤_, suc, ℕ}
+use mathlib.Core.List.{List, [], _++_, _∷_}
+use mathlib.Core.Path.{_≡_}
+use lib.ListN.{length, replicate, take}
+use Rattle.matching.specs.Occurrence.{Occurrence, occurrencesFrom, tagsEnding}
+use Rattle.matching.specs.Reading.{Outcome}
+use Rattle.matching.specs.Slicing.{Slicing}
+use Rattle.matching.specs.Words.{Below, Word}
+use Rattle.matching.specs.declared.Stop.{Stop}
+use Rattle.reading.specs.Outside.{ReadOf, readOf, readTo, refusedRead}
+use Rattle.reading.specs.declared.ReadRefusal.the-variants.{Long}
+use Rattle.tables.specs.Building.{builtOf}
+use Rattle.tagset.specs.Grammar.{goodSet, setOf}
+
+-- one reading in a row: a piece, and how many numbers its lent list has
+pub record Turn : Type 0 where
+  pub piece : Word
+  pub list : ℕ
+
+-- what a row of readings comes to: the bytes taken, the records written, why each that was not refused stopped, and the place then
+pub record Row : Type 0 where
+  pub taken : Word
+  pub found : List Occurrence
+  pub stops : List Stop
+  pub place : List ℕ
+
+abbrev pub rowThen : Word → Outcome → Row → Row
+rowThen piece r w = record { taken = take (r .taken) piece ++ w .taken; found = r .found ++ w .found; stops = r .stop ∷ w .stops; place = w .place }
+
+-- by what a reading comes to: a refused one changes nothing
+abbrev pub onTurn : ReadOf → Word → Row → (Outcome → Row) → Row
+onTurn (refusedRead why) piece same more = same
+onTurn (readTo r) piece same more = rowThen piece r (more r)
+
+-- readings one after another over one table, each from the place and the count at which the one before it ended
+unfoldable pub inTurn : ℕ → ℕ → List ℕ → List ℕ → ℕ → List Turn → Row
+inTurn n k table place count [] = record { taken = []; found = []; stops = []; place = place }
+inTurn n k table place count (t ∷ turns) =
+    onTurn (readOf n k table place count (t .piece) (t .list)) (t .piece)
+    (inTurn n k table place count turns) (λ r. inTurn n k table (r .place) (count + r .taken) turns)
+
+abbrev pub TurnsOfBytes : List Turn → Type 0
+TurnsOfBytes [] = Unit {0}
+TurnsOfBytes (t ∷ turns) = Below 256 (t .piece) × TurnsOfBytes turns
+
+-- the start place
+abbrev pub startPlace : ℕ → List ℕ
+startPlace k = replicate k 0
+
+-- a table as building left it: of a set of bytes, over a lent run of numbers, for k machines of n bits
+pub record AsBuilt (n k : ℕ) (set run : List ℕ) (ts : List Word) : Type 0 where
+  pub slicing : Slicing n k
+  pub bytes : Below 256 set
+  pub tags : setOf set ≡ goodSet ts
+  pub answered : builtOf n k set (length run) ≡ B.Tags (length ts)
+
+-- what a piece read after the input v comes to, with room for so many records, as the demand has it: the reading is never damaged, finds the
+-- occurrences that end in the bytes it takes, and takes every byte up to the first whose matches find no room
+pub data Demanded (ts : List Word) (v piece : Word) (room : ℕ) : Outcome → Type 0 where
+  tookAll : (place : List ℕ) → length (occurrencesFrom ts v (length v) piece) ≤ room
+      → Demanded ts v piece room (record { taken = length piece; place = place; stop = S.All; found = occurrencesFrom ts v (length v) piece })
+  stoppedFull : (place : List ℕ) (count : ℕ) → count < length piece
+      → length (occurrencesFrom ts v (length v) (take count piece)) ≤ room
+      → room < length (occurrencesFrom ts v (length v) (take count piece)) + length (tagsEnding ts (v ++ take (suc count) piece))
+      → Demanded ts v piece room (record { taken = count; place = place; stop = S.Full; found = occurrencesFrom ts v (length v) (take count piece) })
+
+-- a read outside the desk into a list of so many numbers: it is refused only where it is LONG, and else is as demanded
+pub data DemandedRead (ts : List Word) (v piece : Word) (list : ℕ) : ReadOf → Type 0 where
+  isLong : 4294967295 < length v + length piece → DemandedRead ts v piece list (refusedRead Long)
+  isRead : length v + length piece ≤ 4294967295 → (r : Outcome) → Demanded ts v piece (list / 2) r → DemandedRead ts v piece list (readTo r)
