@@ -99,7 +99,10 @@ feed-answers acts b s piece c = go _ (feeds-for w v s piece c) refl
     go r (for-read j o l x d y a) q = record {
       no-ticket = (λ e. absurd (let z : _≡_ {A = ℕ} 0 1 = cc in omega arith), λ g. absurd (not-gone w s j g (o .0)));
       stale = λ i. (λ e. absurd (let z : _≡_ {A = ℕ} 0 1 = cc in omega arith), λ z. absurd (omega (arith, z .1 .1, current j (z .0) o (z .1 .0))));
-      long = (λ e. absurd (let z : _≡_ {A = ℕ} 0 1 = cc in omega arith), λ z. absurd (omega (arith, l, same (λ i. 4294967295 < length (accountAt w i .bytes) + length piece) (z .0) j (z .1 .0) (o .0) (z .2))));
+      long = (
+        λ e. absurd (let z : _≡_ {A = ℕ} 0 1 = cc in omega arith),
+        λ z. absurd (omega (arith, l, same (λ i. 4294967295 < length (accountAt w i .bytes) + length piece) (z .0) j (z .1 .0) (o .0) (z .2))),
+      );
       fed = λ m n t e. (j, o, l);
       reads = λ k u m. same (λ i. FedAsDemanded w s (accountAt w i) piece (F.Fed (x .taken) (length (x .found)) (x .stop))) j k (o .0) (u .0)
           (record { outcome = x; demanded = d; answered = refl; added = ap (λ (z : Feeding). stream (feeding w s piece (z .desk) (z .answer))) q ∙ a });

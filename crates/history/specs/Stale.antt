@@ -42,7 +42,8 @@ use Rattle.matching.specs.Words.{Below, Word}
 pub record Older (w : World) (a : Account) : Type 0 where
   pub stale-state : a .closed ≡ false → stateOf (w .desk) (serialOf (a .serial)) ≡ isStale
   pub closed-state : a .closed ≡ true → stateOf (w .desk) (serialOf (a .serial)) ≡ isClosed
-  pub stale-feed : a .closed ≡ false → (table : List ℕ) (piece : Word) → feedOf (w .desk) (serialOf (a .serial)) table piece ≡ record { desk = w .desk; answer = F.Stale (editionOf (a .edition)) }
+  pub stale-feed : a .closed ≡ false → (table : List ℕ) (piece : Word)
+      → feedOf (w .desk) (serialOf (a .serial)) table piece ≡ record { desk = w .desk; answer = F.Stale (editionOf (a .edition)) }
   pub closed-feed : a .closed ≡ true → (table : List ℕ) (piece : Word) → feedOf (w .desk) (serialOf (a .serial)) table piece ≡ record { desk = w .desk; answer = F.NoTicket }
   pub stale-close : a .closed ≡ false → closeOf (w .desk) (serialOf (a .serial)) .answer ≡ C.Closed
   pub closed-close : a .closed ≡ true → closeOf (w .desk) (serialOf (a .serial)) ≡ record { desk = w .desk; answer = C.NoTicket }
@@ -68,7 +69,8 @@ module _ (w : World) (v : Inv w) (k : ℕ) (hk : k < length (w .accounts)) where
       go r (close-no-ticket h) = absurd (omega (arith, h, open-room w v k hk c .0))
       go r (close-done i e h) = refl
 
-  stale-feed-is : a .closed ≡ false → a .edition < w .edition → (table : List ℕ) (piece : Word) → feedOf (w .desk) s table piece ≡ record { desk = w .desk; answer = F.Stale (editionOf (a .edition)) }
+  stale-feed-is : a .closed ≡ false → a .edition < w .edition → (table : List ℕ) (piece : Word)
+      → feedOf (w .desk) s table piece ≡ record { desk = w .desk; answer = F.Stale (editionOf (a .edition)) }
   stale-feed-is c old table piece = go _ (feeds (w .desk) s table piece)
     where
       room : (roomOf (w .desk .tickets) s < 16) × Agrees (ticketIn (w .desk .tickets) (roomOf (w .desk .tickets) s)) a

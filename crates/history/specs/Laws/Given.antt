@@ -84,7 +84,8 @@ module _ (x : Serials) (g : Given x) (i : ℕ) (ei : i ≡ freeRoom (x .desk .ti
 
   free : (s : Serial) → isFor s (ticketIn rooms i) ≡ false
   free s =
-      let h : isHeld (ticketIn rooms i) ≡ false = free-held (ticketIn rooms i) (subst (λ (j : ℕ). isFree (ticketIn rooms j) ≡ true) (sym ei) (firstRoom-holds isFree rooms (omega (arith, wide)))) in
+      let h : isHeld (ticketIn rooms i) ≡ false = free-held (ticketIn rooms i)
+      (subst (λ (j : ℕ). isFree (ticketIn rooms j) ≡ true) (sym ei) (firstRoom-holds isFree rooms (omega (arith, wide)))) in
       is-false (isFor s (ticketIn rooms i)) (λ q. not-both (for-held s (ticketIn rooms i) q .0) h)
 
   -- the new serial was never given
@@ -131,7 +132,8 @@ module _ (x : Serials) (g : Given x) (i : ℕ) (ei : i ≡ freeRoom (x .desk .ti
       old s n (inl f) = inl (λ m. never s n f (List·Memᴰ·cases-cons m))
       old s n (inr m) = inr m
 
-      has-not : (s : Serial) → 16 ≤ roomOf (set rooms i ticket) s → Dec (s .0 ≡ new .0) → NeverOrClosed (record { desk = openedIn (x .desk) i; given = new ∷ x .given; closed = x .closed }) s
+      has-not : (s : Serial) → 16 ≤ roomOf (set rooms i ticket) s → Dec (s .0 ≡ new .0)
+          → NeverOrClosed (record { desk = openedIn (x .desk) i; given = new ∷ x .given; closed = x .closed }) s
       has-not s h (yes e) =
           absurd (omega (arith, hi, seat-new rooms wide i ticket hi new mine unseen .0, subst (λ (y : Serial). 16 ≤ roomOf (set rooms i ticket) y) (serial-eq s new e) h))
       has-not s h (no n) = old s n (g .has-not s (omega (arith, h, kept s n)))
@@ -178,7 +180,8 @@ module _ (x : Serials) (g : Given x) (gone : Serial) (i : ℕ) (ei : i ≡ roomO
       old s (inl f) = inl f
       old s (inr m) = inr (List·Memᴰ·tail m)
 
-      has-not : (s : Serial) → 16 ≤ roomOf (set before i freeTicket) s → Dec (s .0 ≡ gone .0) → NeverOrClosed (record { desk = withTicket (x .desk) i freeTicket; given = x .given; closed = gone ∷ x .closed }) s
+      has-not : (s : Serial) → 16 ≤ roomOf (set before i freeTicket) s → Dec (s .0 ≡ gone .0)
+          → NeverOrClosed (record { desk = withTicket (x .desk) i freeTicket; given = x .given; closed = gone ∷ x .closed }) s
       has-not s h (yes e) = inr (List·Memᴰ·head (serial-eq s gone e))
       has-not s h (no n) = old s (g .has-not s (omega (arith, h, other s n)))
 

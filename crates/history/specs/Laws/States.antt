@@ -31,7 +31,7 @@ module _ (w : World) (v : Inv w) where
 
   pub state-is : (k : ℕ) → k < length (w .accounts) → stateOf (w .desk) (serialOf (suc k)) ≡ stateOfAccount (w .edition) (accountAt w k)
   unfolding stateOf
-  state-is k h = go (subst (λ (n : ℕ). Seat (w .desk .tickets) (record { serial = n; edition = accountAt w k .edition; tags = accountAt w k .tags; bytes = accountAt w k .bytes; closed = accountAt w k .closed })) (v .numbered k h) (v .seats k h))
+  state-is k h = go (subst (λ (n : ℕ). Seat (w .desk .tickets) (numbered n)) (v .numbered k h) (v .seats k h))
     where
       a : Account
       a = accountAt w k
@@ -39,7 +39,13 @@ module _ (w : World) (v : Inv w) where
       room : ℕ
       room = roomOf (w .desk .tickets) (serialOf (suc k))
 
-      go : Seat (w .desk .tickets) (record { serial = suc k; edition = a .edition; tags = a .tags; bytes = a .bytes; closed = a .closed }) → stateBy (wasGiven (w .desk) (serialOf (suc k))) (ltb room 16) (eqb (ticketIn (w .desk .tickets) room .edition .0) (w .desk .edition .0)) ≡ stateOfAccount (w .edition) a
+      -- the account under a number
+      numbered : ℕ → Account
+      numbered n = record { serial = n; edition = accountAt w k .edition; tags = accountAt w k .tags; bytes = accountAt w k .bytes; closed = accountAt w k .closed }
+
+      go : Seat (w .desk .tickets) (numbered (suc k))
+          → stateBy (wasGiven (w .desk) (serialOf (suc k))) (ltb room 16) (eqb (ticketIn (w .desk .tickets) room .edition .0) (w .desk .edition .0))
+          ≡ stateOfAccount (w .edition) a
       go (no-seat c q) =
           ap₂ (λ (x y : Bool). stateBy x y (eqb (ticketIn (w .desk .tickets) room .edition .0) (w .desk .edition .0))) (given-test k h) (ltb-no room 16 q)
           ∙ ap (λ (b : Bool). stateBy true (not b) (eqb (a .edition) (w .edition))) (sym c)
@@ -86,5 +92,6 @@ records-same w v i j e n = go (known-or-not w i n)
     go : ((k : ℕ) × (k < length (w .accounts)) × (n ≡ suc k)) ⊎ Stranger (length (w .accounts)) n → recordsFor n (stream v) ≡ recordsFor n (stream w)
     go (inl z) =
         subst (λ (x : ℕ). recordsFor x (stream v) ≡ recordsFor x (stream w)) (sym (z .2))
-        (j .records (z .0) (subst (λ (l : List Account). z .0 < length l) (sym e) (z .1)) ∙ ap (λ (l : List Account). recordsDue (getD l (z .0) noAccount)) e ∙ sym (i .records (z .0) (z .1)))
+        (j .records (z .0) (subst (λ (l : List Account). z .0 < length l) (sym e) (z .1))
+        ∙ ap (λ (l : List Account). recordsDue (getD l (z .0) noAccount)) e ∙ sym (i .records (z .0) (z .1)))
     go (inr h) = j .nobody n (subst (λ (l : List Account). Stranger (length l) n) (sym e) h) ∙ sym (i .nobody n h)
