@@ -35,11 +35,13 @@ pub record Nine : Type 0 where
   pub answer : feedOf (run start acts-254 .desk) (serialOf 3) (run start acts-254 .table) (97 ∷ 97 ∷ []) .answer ≡ F.Fed 1 1 S.Full
 
 pub sample-9 : Nine
-unfolding same among ends indexOf withWord withPrefixes withTags prefixes states longest next walk vectorBy vector slice reduced anded spot laid slot slots built roomFrom numbersWhere tagsEnding occurAt occurrencesFrom nexts vectorsAt onesOf flagged allBelow halted tookByte read entryOf entriesFrom distinct setOf builtOf tableOf firstRoom pushAll openOf closeOf takeOf replaceOf replacedRun feedOf onSerial run
+unfolding same among ends indexOf withWord withPrefixes withTags prefixes states longest next walk vectorBy vector slice reduced anded spot laid slot
+    slots built roomFrom numbersWhere tagsEnding occurAt occurrencesFrom nexts vectorsAt onesOf flagged allBelow halted tookByte read entryOf
+    entriesFrom distinct setOf builtOf tableOf firstRoom pushAll openOf closeOf takeOf replaceOf replacedRun feedOf onSerial run
 sample-9 = record { held-254 = refl; answer = refl }
 
 -- the sets of the tags he, she, his, hers, and of s, us
-abbrev set-he : List ℕ
+abbrev pub set-he : List ℕ
 set-he =
     2 ∷ 0 ∷ 1 ∷ 0 ∷ 104 ∷ 101 ∷ 3 ∷ 0 ∷ 1 ∷ 0 ∷ 115 ∷ 104 ∷ 101 ∷ 3 ∷ 0 ∷ 1 ∷ 0 ∷ 104 ∷ 105 ∷ 115 ∷ 4 ∷ 0 ∷ 1 ∷ 0 ∷ 104 ∷ 101 ∷ 114 ∷ 115 ∷ []
 
@@ -61,5 +63,7 @@ pub record Incident : Type 0 where
       ≡ a-record 2 2 2 0 ∷ a-record 2 2 2 1 ∷ a-record 2 2 6 0 ∷ []
 
 pub incident : Incident
-unfolding same among ends indexOf withWord withPrefixes withTags prefixes states longest next walk vectorBy vector slice reduced anded spot laid slot slots built roomFrom numbersWhere tagsEnding occurAt occurrencesFrom nexts vectorsAt onesOf flagged allBelow halted tookByte read entryOf entriesFrom distinct setOf builtOf tableOf firstRoom pushAll openOf closeOf takeOf replaceOf replacedRun feedOf onSerial run round
+unfolding same among ends indexOf withWord withPrefixes withTags prefixes states longest next walk vectorBy vector slice reduced anded spot laid slot
+    slots built roomFrom numbersWhere tagsEnding occurAt occurrencesFrom nexts vectorsAt onesOf flagged allBelow halted tookByte read entryOf
+    entriesFrom distinct setOf builtOf tableOf firstRoom pushAll openOf closeOf takeOf replaceOf replacedRun feedOf onSerial run round
 incident = record { refused = refl; again = refl }
