@@ -28,8 +28,9 @@ use Rattle.reading.specs.Outside.{readBy, readOf, readTo}
 use Rattle.tables.specs.Building.{builtBy, builtOf, onSet, tableOf}
 use Rattle.tagset.specs.Grammar.{goodSet, setOf}
 
--- the occurrences that end in the first m bytes of a piece after v
-found-in : (ts : List Word) (v piece : Word) (m : ℕ) → m ≤ length piece → (e i : ℕ)
+-- what `Demanded` says is found: of the occurrences that end in the first m bytes of a piece after v, the record (e, i) is one exactly if byte e,
+-- counted from the opening, is one of those, i is a tag, and that tag's bytes end the first e bytes
+pub found-in : (ts : List Word) (v piece : Word) (m : ℕ) → m ≤ length piece → (e i : ℕ)
     → List·Memᴰ (record { end = e; tag = i }) (occurrencesFrom ts v (length v) (take m piece))
     ↔ ((length v < e) × (e ≤ length v + m) × (i < length ts) × (ends (getD ts i []) (take e (v ++ piece)) ≡ true))
 found-in ts v piece m h e i = (there, back)

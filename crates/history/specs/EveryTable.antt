@@ -34,7 +34,7 @@ use Rattle.history.specs.History.{handedOut}
 use Rattle.history.specs.Laws.ByRoom.{close-by-room, feed-by-room, no-room-close, no-room-feed}
 use Rattle.history.specs.Laws.Given.{Given, given-all, given-run}
 use Rattle.history.specs.Laws.Ordered.{found-ordered}
-use Rattle.history.specs.Serials.{NeverOrClosed, Serials, closedBy, noSerials, serialsAfter, serialsOf}
+use Rattle.history.specs.Serials.{NeverOrClosed, Serials, closedBy, downFrom, noSerials, serialsAfter, serialsOf}
 use Rattle.matching.specs.Laws.AnyTable.{read-kept}
 use Rattle.matching.specs.Occurrence.{Occurrence, Ordered}
 use Rattle.matching.specs.Reading.{Outcome, allBelow, read}
@@ -43,6 +43,10 @@ use Rattle.matching.specs.Words.{Word}
 use Rattle.reading.specs.Outside.{readBy, readOf, readTo}
 use lib.Dec.{ltb}
 use mathlib.Core.Bool.{Bool, false, true}
+
+-- NO SERIAL TWICE: those that openings have answered are 1, 2, .. up to the desk's last serial, in order
+pub serials-in-order : (calls : List Call) → serialsOf noSerials calls .given ≡ downFrom (serialsOf noSerials calls .desk .serial .0)
+serials-in-order calls = given-all calls .numbers
 
 -- a serial has no room exactly if it was never given or is closed
 no-room-iff : (x : Serials) → Given x → (s : Serial) → (16 ≤ roomOf (x .desk .tickets) s) ↔ NeverOrClosed x s
