@@ -90,7 +90,7 @@ pub data FeedsFor (w : World) (s : Serial) (piece : Word) : Feeding → Type 0 w
       → w .out ++ held (d .records) ≡ stream w ++ recordsOf s (editionOf (accountAt w k .edition)) (r .found)
       → FeedsFor w s piece (record { desk = d; answer = F.Fed (r .taken) (length (r .found)) (r .stop) })
 
-lower : (m n : ℕ) → m ≤ n → (m ≡ n → ⊥) → m < n
+pub lower : (m n : ℕ) → m ≤ n → (m ≡ n → ⊥) → m < n
 lower m n h f = go (decLe (suc m) n)
   where
     go : Dec (suc m ≤ n) → m < n
