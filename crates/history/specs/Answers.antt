@@ -2,31 +2,43 @@
 -- demand 2: a feed that stops FULL while its matches find room is none of these.
 use Rattle.desk.specs.declared.FeedAnswer.the-variants as F
 use Rattle.desk.specs.declared.OpenAnswer.the-variants as O
+use Rattle.desk.specs.declared.CloseAnswer.the-variants as C
+use Rattle.desk.specs.declared.TakeAnswer.the-variants as K
 use Rattle.desk.specs.declared.ReplaceAnswer.the-variants as R
 use Rattle.tables.specs.declared.Built.the-variants as B
 use Prim.Native.Nat.{_+_, _-_, _<_, _≤_, suc, ℕ}
-use mathlib.Core.List.{List, _++_}
+use mathlib.Core.List.{List, [], _++_, _∷_}
 use mathlib.Core.Logic.{_↔_}
 use mathlib.Core.Path.{_∙_, _≡_, ap, refl, subst, sym}
 use native.Mathlib.Omega.{arith}
 use lib.ListN.{length}
-use Rattle.desk.specs.Calls.{openOf}
+use Rattle.desk.specs.Calls.{closeOf, openOf, takeOf}
 use Rattle.desk.specs.Feed.{feedOf}
+use Rattle.desk.specs.Laws.Shared.{held-popped}
+use Rattle.desk.specs.Laws.Views.{Closes, close-done, close-no-ticket, closes}
 use Rattle.desk.specs.Laws.Views.{Replaces, replace-done, replace-edition-end, replace-fault, replace-table, replaces}
+use Rattle.desk.specs.Laws.Views.{Takes, take-nothing, take-oldest, takes}
 use Rattle.desk.specs.Replace.{replaceOf}
-use Rattle.desk.specs.Rooms.{editionOf}
-use Rattle.desk.specs.Shared.{held, recordsOf}
+use Rattle.desk.specs.Rooms.{editionOf, roomOf}
+use Rattle.desk.specs.Shared.{held, popped, recordsOf, round}
+use Rattle.desk.specs.declared.CloseAnswer.{CloseAnswer}
+use Rattle.desk.specs.declared.Closing.{Closing}
 use Rattle.desk.specs.declared.Edition.{Edition}
 use Rattle.desk.specs.declared.FeedAnswer.{FeedAnswer}
 use Rattle.desk.specs.declared.Feeding.{Feeding}
 use Rattle.desk.specs.declared.OpenAnswer.{OpenAnswer}
+use Rattle.desk.specs.declared.Record.{Record}
+use Rattle.desk.specs.declared.Records.{Records}
 use Rattle.desk.specs.declared.ReplaceAnswer.{ReplaceAnswer}
 use Rattle.desk.specs.declared.Replacing.{Replacing}
 use Rattle.desk.specs.declared.Serial.{Serial}
+use Rattle.desk.specs.declared.TakeAnswer.{TakeAnswer}
+use Rattle.desk.specs.declared.Taking.{Taking}
 use Rattle.history.specs.History.{Account, Act, AllBytes, Gone, OpenOrStale, OpenTicket, StaleTicket, World, accountAt, actFeed, feeding, lives, run, start, step, stream}
-use Rattle.history.specs.Laws.Answering.{FeedsFor, OpensFor, lower}
-use Rattle.history.specs.Laws.Answering.{feeds-for, for-gone, for-long, for-read, for-stale, opens-for, opens-next, opens-no-room, opens-no-set, opens-serial-end}
-use Rattle.history.specs.Laws.Invariant.{Inv}
+use Rattle.history.specs.Laws.Answering.{FeedsFor, feeds-for, for-gone, for-long, for-read, for-stale, gone-iff, lower}
+use Rattle.history.specs.Laws.Answering.{OpensFor, opens-for, opens-next, opens-no-room, opens-no-set, opens-serial-end}
+use Rattle.history.specs.Laws.Feeding.{live}
+use Rattle.history.specs.Laws.Invariant.{Inv, given}
 use Rattle.history.specs.Laws.LedgerSteps.{sound}
 use Rattle.history.specs.Readings.{Demanded}
 use Rattle.matching.specs.Laws.Bools.{not-both}
@@ -227,3 +239,50 @@ replace-answers acts b set len = go _ (replaces (w .desk) set len)
             let y : w .desk .edition .0 + 1 ≡ i .0 = omega (arith, x, now) in
             let z : c ≡ n = cc in
             λ d. R.Replaced (record { 0 = y d }) (z d)
+
+-- ---- a closing, and a taking
+
+pub record CloseAnswers (w : World) (s : Serial) (answer : CloseAnswer) : Type 0 where
+  pub no-ticket : (answer ≡ C.NoTicket) ↔ Gone w s
+  pub closed : (answer ≡ C.Closed) ↔ ((k : ℕ) × OpenOrStale w s k)
+
+-- WHAT A CLOSING ANSWERS, over any history: NO TICKET exactly if its serial was never given or is closed; an open ticket, and a stale one, it closes
+pub close-answers : (acts : List Act) → AllBytes acts → (s : Serial) → CloseAnswers (run start acts) s (closeOf (run start acts .desk) s .answer)
+close-answers acts b s = go _ (closes (w .desk) s)
+  where
+    w : World
+    w = run start acts
+
+    v : Inv w
+    v = sound acts b .inv
+
+    go : (r : Closing) → Closes (w .desk) s r → CloseAnswers w s (r .answer)
+    go r (close-no-ticket h) = record {
+      no-ticket = (λ e. gone-iff w v s .0 h, λ g. refl);
+      closed = (λ e. never cc, λ z. absurd (not-gone w s (z .0) (gone-iff w v s .0 h) (z .1)));
+    }
+    go r (close-done i p h) =
+        let l : roomOf (w .desk .tickets) s < 16 = omega (arith, p, h) in
+        let g = given w v s l in
+        let o : OpenOrStale w s (g .0) = record { inside = g .1; serial = v .numbered (g .0) (g .1) ∙ sym (g .2); not-closed = live w v s (g .0) (g .1) (g .2) l } in
+        record { no-ticket = (λ e. never cc, λ f. absurd (not-gone w s (g .0) f o)); closed = (λ e. (g .0, o), λ z. refl) }
+
+pub record TakeAnswers (w : World) (answer : TakeAnswer) : Type 0 where
+  pub nothing : (answer ≡ K.Nothing) ↔ (held (w .desk .records) ≡ [])
+  pub taken : (x : Record) → (answer ≡ K.Taken x) ↔ ((rest : List Record) × (held (w .desk .records) ≡ x ∷ rest))
+
+-- WHAT A TAKING ANSWERS: NOTHING exactly if no record is held, and else the oldest of those held
+pub take-answers : (w : World) → TakeAnswers w (takeOf (w .desk) .answer)
+unfolding round
+take-answers w = go _ (takes (w .desk))
+  where
+    q : Records
+    q = w .desk .records
+
+    go : (r : Taking) → Takes (w .desk) r → TakeAnswers w (r .answer)
+    go r (take-nothing h) =
+        let n : held (w .desk .records) ≡ [] = ap (round (q .ring) (q .first)) h in
+        record { nothing = (λ e. n, λ e. refl); taken = λ x. (λ e. never cc, λ z. (let y = z .1 in never cc)) }
+    go r (take-oldest h) =
+        let n = held-popped (w .desk .records) h in
+        record { nothing = (λ e. never cc, λ e. never cc); taken = λ x. (λ e. (held (popped q), cc), λ z. (let y = z .1 in cc)) }

@@ -25,7 +25,7 @@ use Rattle.desk.specs.declared.Replacing.{Replacing}
 use Rattle.desk.specs.declared.Serial.{Serial}
 use Rattle.history.specs.History.{Account, Act, AllBytes, Gone, World, accountAt, actReplace, replacing, run, start, step}
 use Rattle.history.specs.Laws.Answering.{closed-room, gone-iff, open-room}
-use Rattle.history.specs.Laws.ByRoom.{close-by-room, feed-by-room, no-room-close, no-room-feed}
+use Rattle.history.specs.Laws.ByRoom.{feed-by-room, no-room-close, no-room-feed}
 use Rattle.history.specs.Laws.Invariant.{Inv}
 use Rattle.history.specs.Laws.Later.{goes-run}
 use Rattle.history.specs.Laws.LedgerSteps.{sound, sound-run}
@@ -157,15 +157,8 @@ after-a-replacement acts more b c k h old =
     let t = sound-run w more c s in
     (l .bytes (inr old), l .closed, older-is (run w more) (t .inv) k (le-trans h (g .accounts)) (omega (arith, old, l .edition, g .edition)))
 
--- NO TICKET, exactly: after any history a close of a serial, or a feed of it over any table, is refused so exactly if no opening answered the
--- serial or its ticket was closed
-pub no-ticket-close : (acts : List Act) → AllBytes acts → (s : Serial) → (closeOf (run start acts .desk) s .answer ≡ C.NoTicket) ↔ Gone (run start acts) s
-no-ticket-close acts b s =
-    let w = run start acts in
-    let g = gone-iff w (sound acts b .inv) s in
-    let r = close-by-room (w .desk) s in
-    (λ e. g .0 (r .0 e), λ h. r .1 (g .1 h))
-
+-- NO TICKET, exactly: after any history a feed of a serial, over any table, is refused so exactly if no opening answered the serial or its ticket
+-- was closed
 pub no-ticket-feed : (acts : List Act) → AllBytes acts → (s : Serial) (table : List ℕ) (piece : Word)
     → (feedOf (run start acts .desk) s table piece .answer ≡ F.NoTicket) ↔ Gone (run start acts) s
 no-ticket-feed acts b s table piece =

@@ -127,7 +127,8 @@ in-set (a ∷ l) (suc k) y n h e = omega (arith, in-set l k y n (omega arith) e)
 abbrev Even : World → Type 0
 Even w = length (stream w) ≡ occurrencesIn (w .accounts)
 
-even-changed : (w : World) → Inv w → (s : Serial) (k : ℕ) → k < length (w .accounts) → s .0 ≡ suc k → (f : Account → Account) (v : World) → v .accounts ≡ onSerial (s .0) f (w .accounts)
+even-changed : (w : World) → Inv w → (s : Serial) (k : ℕ) → k < length (w .accounts) → s .0 ≡ suc k
+    → (f : Account → Account) (v : World) → v .accounts ≡ onSerial (s .0) f (w .accounts)
     → (n : ℕ) → length (stream v) ≡ length (stream w) + n
     → length (occurrences (f (accountAt w k) .tags) (f (accountAt w k) .bytes)) ≡ length (occurrences (accountAt w k .tags) (accountAt w k .bytes)) + n → Even w → Even v
 even-changed w i s k hk ek f v q n more due e =
