@@ -35,11 +35,12 @@ use Rattle.desk.specs.declared.Serial.{Serial}
 use Rattle.desk.specs.declared.TakeAnswer.{TakeAnswer}
 use Rattle.desk.specs.declared.Taking.{Taking}
 use Rattle.history.specs.History.{Account, Act, AllBytes, Gone, OpenOrStale, OpenTicket, StaleTicket, World, accountAt, actFeed, feeding, lives, run, start, step, stream}
-use Rattle.history.specs.Laws.Answering.{FeedsFor, feeds-for, for-gone, for-long, for-read, for-stale, gone-iff, lower}
+use Rattle.history.specs.Laws.Answering.{FeedsFor, feeds-for, for-gone, for-long, for-read, for-stale, gone-iff}
 use Rattle.history.specs.Laws.Answering.{OpensFor, opens-for, opens-next, opens-no-room, opens-no-set, opens-serial-end}
 use Rattle.history.specs.Laws.Feeding.{live}
 use Rattle.history.specs.Laws.Invariant.{Inv, given}
 use Rattle.history.specs.Laws.LedgerSteps.{sound}
+use Rattle.history.specs.Laws.Numbers.{differ, lower}
 use Rattle.history.specs.Readings.{Demanded}
 use Rattle.matching.specs.Laws.Bools.{not-both}
 use Rattle.matching.specs.Reading.{Outcome}
@@ -50,10 +51,6 @@ use Rattle.tables.specs.Laws.Exact.{fault-iff, table-iff, tags-iff}
 use Rattle.tables.specs.Refusals.{Builds, TooFewSlots}
 use Rattle.tagset.specs.Refusals.{Refused}
 use Rattle.tagset.specs.declared.SetFault.{SetFault}
-
--- two answers of different names are not one
-never : {A : Type 0} → _≡_ {A = ℕ} 0 1 → A
-never z = absurd (omega (arith, z))
 
 -- ---- a feed, over the table as the last accepted replacement left it
 
@@ -104,30 +101,30 @@ feed-answers acts b s piece c = go _ (feeds-for w v s piece c) refl
     go : (r : Feeding) → FeedsFor w s piece r → feedOf (w .desk) s (w .table) piece ≡ r → FeedAnswers w s piece (r .answer)
     go r (for-gone g) q = record {
       no-ticket = (λ e. g, λ e. refl);
-      stale = λ i. (λ e. never cc, λ z. absurd (not-gone w s (z .0) g (z .1 .0)));
-      long = (λ e. never cc, λ z. absurd (not-gone w s (z .0) g (z .1 .0)));
-      fed = λ m n t e. never cc;
+      stale = λ i. (λ e. differ cc, λ z. absurd (not-gone w s (z .0) g (z .1 .0)));
+      long = (λ e. differ cc, λ z. absurd (not-gone w s (z .0) g (z .1 .0)));
+      fed = λ m n t e. differ cc;
       reads = λ k o l. absurd (not-gone w s k g (o .0));
     }
     go r (for-stale j o) q = record {
-      no-ticket = (λ e. never cc, λ g. absurd (not-gone w s j g (o .0)));
+      no-ticket = (λ e. differ cc, λ g. absurd (not-gone w s j g (o .0)));
       stale = λ i. (λ e. (j, o, cc), λ z d. F.Stale (record { 0 = sym (same (λ k. i .0 ≡ accountAt w k .edition) (z .0) j (z .1 .0) (o .0) (z .2)) d }));
-      long = (λ e. never cc, λ z. absurd (omega (arith, o .1, current (z .0) j (z .1) (o .0))));
-      fed = λ m n t e. never cc;
+      long = (λ e. differ cc, λ z. absurd (omega (arith, o .1, current (z .0) j (z .1) (o .0))));
+      fed = λ m n t e. differ cc;
       reads = λ k x l. absurd (omega (arith, o .1, current k j x (o .0)));
     }
     go r (for-long j o l) q = record {
-      no-ticket = (λ e. never cc, λ g. absurd (not-gone w s j g (o .0)));
-      stale = λ i. (λ e. never cc, λ z. absurd (omega (arith, z .1 .1, current j (z .0) o (z .1 .0))));
+      no-ticket = (λ e. differ cc, λ g. absurd (not-gone w s j g (o .0)));
+      stale = λ i. (λ e. differ cc, λ z. absurd (omega (arith, z .1 .1, current j (z .0) o (z .1 .0))));
       long = (λ e. (j, o, l), λ z. refl);
-      fed = λ m n t e. never cc;
+      fed = λ m n t e. differ cc;
       reads = λ k x m. absurd (omega (arith, m, same (λ i. 4294967295 < length (accountAt w i .bytes) + length piece) j k (o .0) (x .0) l));
     }
     go r (for-read j o l x d y a) q = record {
-      no-ticket = (λ e. never cc, λ g. absurd (not-gone w s j g (o .0)));
-      stale = λ i. (λ e. never cc, λ z. absurd (omega (arith, z .1 .1, current j (z .0) o (z .1 .0))));
+      no-ticket = (λ e. differ cc, λ g. absurd (not-gone w s j g (o .0)));
+      stale = λ i. (λ e. differ cc, λ z. absurd (omega (arith, z .1 .1, current j (z .0) o (z .1 .0))));
       long = (
-        λ e. never cc,
+        λ e. differ cc,
         λ z. absurd (omega (arith, l, same (λ i. 4294967295 < length (accountAt w i .bytes) + length piece) (z .0) j (z .1 .0) (o .0) (z .2))),
       );
       fed = λ m n t e. (j, o, l);
@@ -155,26 +152,26 @@ open-answers acts b = go _ (opens-for w (sound acts b))
     go : (a : OpenAnswer) → OpensFor w a → OpenAnswers w a
     go a (opens-no-set h) = record {
       no-set = (λ e. h, λ e. refl);
-      serial-end = (λ e. never cc, λ z. absurd (omega (arith, h, z .0)));
-      no-room = (λ e. never cc, λ z. absurd (omega (arith, h, z .0)));
-      opened = λ s. (λ e. never cc, λ z. absurd (omega (arith, h, z .0)));
+      serial-end = (λ e. differ cc, λ z. absurd (omega (arith, h, z .0)));
+      no-room = (λ e. differ cc, λ z. absurd (omega (arith, h, z .0)));
+      opened = λ s. (λ e. differ cc, λ z. absurd (omega (arith, h, z .0)));
     }
     go a (opens-serial-end h l) = record {
-      no-set = (λ e. never cc, λ z. absurd (omega (arith, h, z)));
+      no-set = (λ e. differ cc, λ z. absurd (omega (arith, h, z)));
       serial-end = (λ e. (h, l), λ z. refl);
-      no-room = (λ e. never cc, λ z. absurd (omega (arith, l, z .1)));
-      opened = λ s. (λ e. never cc, λ z. absurd (omega (arith, l, z .1)));
+      no-room = (λ e. differ cc, λ z. absurd (omega (arith, l, z .1)));
+      opened = λ s. (λ e. differ cc, λ z. absurd (omega (arith, l, z .1)));
     }
     go a (opens-no-room h l f) = record {
-      no-set = (λ e. never cc, λ z. absurd (omega (arith, h, z)));
-      serial-end = (λ e. never cc, λ z. absurd (omega (arith, l, z .1)));
+      no-set = (λ e. differ cc, λ z. absurd (omega (arith, h, z)));
+      serial-end = (λ e. differ cc, λ z. absurd (omega (arith, l, z .1)));
       no-room = (λ e. (h, l, f), λ z. refl);
-      opened = λ s. (λ e. never cc, λ z. absurd (omega (arith, f, z .2)));
+      opened = λ s. (λ e. differ cc, λ z. absurd (omega (arith, f, z .2)));
     }
     go a (opens-next h l f) = record {
-      no-set = (λ e. never cc, λ z. absurd (omega (arith, h, z)));
-      serial-end = (λ e. never cc, λ z. absurd (omega (arith, l, z .1)));
-      no-room = (λ e. never cc, λ z. absurd (omega (arith, f, z .2)));
+      no-set = (λ e. differ cc, λ z. absurd (omega (arith, h, z)));
+      serial-end = (λ e. differ cc, λ z. absurd (omega (arith, l, z .1)));
+      no-room = (λ e. differ cc, λ z. absurd (omega (arith, f, z .2)));
       opened = λ s. (λ e. (h, l, f, cc), λ z d. O.Opened (record { 0 = sym (z .3) d }));
     }
 
@@ -205,26 +202,26 @@ replace-answers acts b set len = go _ (replaces (w .desk) set len)
     go : (r : Replacing) → Replaces (w .desk) set len r → ReplaceAnswers w set len (r .answer)
     go r (replace-fault f p) = record {
       fault = λ x. (λ e. fault-iff 1 8 set len x .0 (cc), λ h. let y = fault-iff 1 8 set len x .1 h in cc);
-      table = λ m n. (λ e. never cc, λ h. (let y = table-iff 1 8 set len m n .1 h in never cc));
-      edition-end = (λ e. never cc, λ h. (let y = tags-iff 1 8 set len (h .0) .1 (h .1) in never cc));
-      replaced = λ i n. (λ e. never cc, λ h. (let y = tags-iff 1 8 set len n .1 (h .0) in never cc));
+      table = λ m n. (λ e. differ cc, λ h. (let y = table-iff 1 8 set len m n .1 h in differ cc));
+      edition-end = (λ e. differ cc, λ h. (let y = tags-iff 1 8 set len (h .0) .1 (h .1) in differ cc));
+      replaced = λ i n. (λ e. differ cc, λ h. (let y = tags-iff 1 8 set len n .1 (h .0) in differ cc));
     }
     go r (replace-table j k p) = record {
-      fault = λ x. (λ e. never cc, λ h. (let y = fault-iff 1 8 set len x .1 h in never cc));
+      fault = λ x. (λ e. differ cc, λ h. (let y = fault-iff 1 8 set len x .1 h in differ cc));
       table = λ m n. (λ e. table-iff 1 8 set len m n .0 (cc), λ h. let y = table-iff 1 8 set len m n .1 h in cc);
-      edition-end = (λ e. never cc, λ h. (let y = tags-iff 1 8 set len (h .0) .1 (h .1) in never cc));
-      replaced = λ i n. (λ e. never cc, λ h. (let y = tags-iff 1 8 set len n .1 (h .0) in never cc));
+      edition-end = (λ e. differ cc, λ h. (let y = tags-iff 1 8 set len (h .0) .1 (h .1) in differ cc));
+      replaced = λ i n. (λ e. differ cc, λ h. (let y = tags-iff 1 8 set len n .1 (h .0) in differ cc));
     }
     go r (replace-edition-end c p q) = record {
-      fault = λ x. (λ e. never cc, λ h. (let y = fault-iff 1 8 set len x .1 h in never cc));
-      table = λ m n. (λ e. never cc, λ h. (let y = table-iff 1 8 set len m n .1 h in never cc));
+      fault = λ x. (λ e. differ cc, λ h. (let y = fault-iff 1 8 set len x .1 h in differ cc));
+      table = λ m n. (λ e. differ cc, λ h. (let y = table-iff 1 8 set len m n .1 h in differ cc));
       edition-end = (λ e. (c, tags-iff 1 8 set len c .0 p, now ∙ q), λ h. refl);
-      replaced = λ i n. (λ e. never cc, λ h. absurd (omega (arith, now, q, h .1)));
+      replaced = λ i n. (λ e. differ cc, λ h. absurd (omega (arith, now, q, h .1)));
     }
     go r (replace-done c p q) = record {
-      fault = λ x. (λ e. never cc, λ h. (let y = fault-iff 1 8 set len x .1 h in never cc));
-      table = λ m n. (λ e. never cc, λ h. (let y = table-iff 1 8 set len m n .1 h in never cc));
-      edition-end = (λ e. never cc, λ h. absurd (omega (arith, few q, h .2)));
+      fault = λ x. (λ e. differ cc, λ h. (let y = fault-iff 1 8 set len x .1 h in differ cc));
+      table = λ m n. (λ e. differ cc, λ h. (let y = table-iff 1 8 set len m n .1 h in differ cc));
+      edition-end = (λ e. differ cc, λ h. absurd (omega (arith, few q, h .2)));
       replaced = λ i n. (λ e. done i n e, λ h. so i n (tags-iff 1 8 set len n .1 (h .0)) (h .2));
     }
       where
@@ -259,13 +256,13 @@ close-answers acts b s = go _ (closes (w .desk) s)
     go : (r : Closing) → Closes (w .desk) s r → CloseAnswers w s (r .answer)
     go r (close-no-ticket h) = record {
       no-ticket = (λ e. gone-iff w v s .0 h, λ g. refl);
-      closed = (λ e. never cc, λ z. absurd (not-gone w s (z .0) (gone-iff w v s .0 h) (z .1)));
+      closed = (λ e. differ cc, λ z. absurd (not-gone w s (z .0) (gone-iff w v s .0 h) (z .1)));
     }
     go r (close-done i p h) =
         let l : roomOf (w .desk .tickets) s < 16 = omega (arith, p, h) in
         let g = given w v s l in
         let o : OpenOrStale w s (g .0) = record { inside = g .1; serial = v .numbered (g .0) (g .1) ∙ sym (g .2); not-closed = live w v s (g .0) (g .1) (g .2) l } in
-        record { no-ticket = (λ e. never cc, λ f. absurd (not-gone w s (g .0) f o)); closed = (λ e. (g .0, o), λ z. refl) }
+        record { no-ticket = (λ e. differ cc, λ f. absurd (not-gone w s (g .0) f o)); closed = (λ e. (g .0, o), λ z. refl) }
 
 pub record TakeAnswers (w : World) (answer : TakeAnswer) : Type 0 where
   pub nothing : (answer ≡ K.Nothing) ↔ (held (w .desk .records) ≡ [])
@@ -282,7 +279,7 @@ take-answers w = go _ (takes (w .desk))
     go : (r : Taking) → Takes (w .desk) r → TakeAnswers w (r .answer)
     go r (take-nothing h) =
         let n : held (w .desk .records) ≡ [] = ap (round (q .ring) (q .first)) h in
-        record { nothing = (λ e. n, λ e. refl); taken = λ x. (λ e. never cc, λ z. (let y = z .1 in never cc)) }
+        record { nothing = (λ e. n, λ e. refl); taken = λ x. (λ e. differ cc, λ z. (let y = z .1 in differ cc)) }
     go r (take-oldest h) =
         let n = held-popped (w .desk .records) h in
-        record { nothing = (λ e. never cc, λ e. never cc); taken = λ x. (λ e. (held (popped q), cc), λ z. (let y = z .1 in cc)) }
+        record { nothing = (λ e. differ cc, λ e. differ cc); taken = λ x. (λ e. (held (popped q), cc), λ z. (let y = z .1 in cc)) }

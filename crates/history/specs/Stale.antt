@@ -29,6 +29,7 @@ use Rattle.history.specs.Laws.ByRoom.{feed-by-room, no-room-close, no-ro
 use Rattle.history.specs.Laws.Invariant.{Inv}
 use Rattle.history.specs.Laws.Later.{goes-run}
 use Rattle.history.specs.Laws.LedgerSteps.{sound, sound-run}
+use Rattle.history.specs.Laws.Numbers.{differ}
 use Rattle.history.specs.Laws.Seats.{Agrees}
 use Rattle.history.specs.Laws.States.{state-is, stateOfAccount}
 use Rattle.history.specs.Laws.Steps.{inv-step}
@@ -55,14 +56,14 @@ module _ (w : World) (v : Inv w) (k : ℕ) (hk : k < length (w .accounts)) where
   abbrev s : Serial
   s = serialOf (a .serial)
 
-  -- NO TICKET for ever: a closed serial is refused by feed and close, over every table
-  pub closed-feed-is : a .closed ≡ true → (table : List ℕ) (piece : Word) → feedOf (w .desk) s table piece ≡ record { desk = w .desk; answer = F.NoTicket }
+  -- a closed serial is refused by feed and close, over every table
+  closed-feed-is : a .closed ≡ true → (table : List ℕ) (piece : Word) → feedOf (w .desk) s table piece ≡ record { desk = w .desk; answer = F.NoTicket }
   closed-feed-is c table piece = no-room-feed (w .desk) s table piece (closed-room w v k hk c)
 
-  pub closed-close-is : a .closed ≡ true → closeOf (w .desk) s ≡ record { desk = w .desk; answer = C.NoTicket }
+  closed-close-is : a .closed ≡ true → closeOf (w .desk) s ≡ record { desk = w .desk; answer = C.NoTicket }
   closed-close-is c = no-room-close (w .desk) s (closed-room w v k hk c)
 
-  pub open-close-is : a .closed ≡ false → closeOf (w .desk) s .answer ≡ C.Closed
+  open-close-is : a .closed ≡ false → closeOf (w .desk) s .answer ≡ C.Closed
   open-close-is c = go _ (closes (w .desk) s)
     where
       go : (r : Closing) → Closes (w .desk) s r → r .answer ≡ C.Closed
@@ -129,9 +130,9 @@ replaced-all-stale acts b set table c e count = go _ (replaces (w .desk) set (le
 
     go : (r : Replacing) → Replaces (w .desk) set (length table) r → Inv (replacing w set table (r .desk) (r .answer)) → r .answer ≡ R.Replaced e count
         → AllOlder w (replacing w set table (r .desk) (r .answer)) e
-    go r (replace-fault fault p) i q = absurd (let z : _≡_ {A = ℕ} 0 1 = cc in omega arith)
-    go r (replace-table machine short p) i q = absurd (let z : _≡_ {A = ℕ} 0 1 = cc in omega arith)
-    go r (replace-edition-end n p h) i q = absurd (let z : _≡_ {A = ℕ} 0 1 = cc in omega arith)
+    go r (replace-fault fault p) i q = differ cc
+    go r (replace-table machine short p) i q = differ cc
+    go r (replace-edition-end n p h) i q = differ cc
     go r (replace-done n p h) i q =
         let new : w .desk .edition .0 + 1 ≡ e .0 = number q in
         record {

@@ -1,6 +1,6 @@
 -- What the desk shows of a serial, by its account.
 use Prim.Native.Nat.{_<_, _≤_, suc, zero, ℕ}
-use mathlib.Core.Bool.{Bool, false, not, true}
+use mathlib.Core.Bool.{Bool, not, true}
 use mathlib.Core.List.{List}
 use mathlib.Core.Logic.{_⊎_, inl, inr}
 use mathlib.Core.Path.{_∙_, _≡_, ap, ap₂, refl, subst, sym}
@@ -12,6 +12,7 @@ use Rattle.desk.specs.Rooms.{roomOf, serialOf, ticketIn}
 use Rattle.desk.specs.declared.Serial.{Serial}
 use Rattle.history.specs.History.{Account, World, accountAt, noAccount, recordsDue, recordsFor, stream}
 use Rattle.history.specs.Laws.Invariant.{Inv, Stranger}
+use Rattle.history.specs.Laws.Numbers.{ltb-no}
 use Rattle.history.specs.Laws.Seats.{Seat, no-seat, seated}
 use Rattle.history.specs.Served.{TicketState, neverGiven, stateBy, stateOf, wasGiven}
 use Rattle.matching.specs.Laws.Bools.{and-both, and-l, and-r, is-false, is-true, to-T}
@@ -19,9 +20,6 @@ use Rattle.matching.specs.Laws.Bools.{and-both, and-l, and-r, is-false, is-true
 -- what an account says of its ticket, under an edition in force
 abbrev pub stateOfAccount : ℕ → Account → TicketState
 stateOfAccount edition a = stateBy true (not (a .closed)) (eqb (a .edition) edition)
-
-pub ltb-no : (m n : ℕ) → n ≤ m → ltb m n ≡ false
-ltb-no m n h = is-false (ltb m n) (λ e. omega (arith, ltb→lt m n (to-T (ltb m n) e)))
 
 module _ (w : World) (v : Inv w) where
   pub given-test : (k : ℕ) → k < length (w .accounts) → wasGiven (w .desk) (serialOf (suc k)) ≡ true
