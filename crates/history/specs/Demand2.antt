@@ -12,8 +12,8 @@ use lib.Dec.{ltb}
 use lib.ListN.{getD, length, take}
 use lib.Seq.{length-take-le, take-append-add, take-take}
 use borrow.Author.Tests.{ltb-false, ltb-true}
+use Rattle.history.specs.Laws.Numbers.{differ, ltb-no}
 use Rattle.history.specs.Laws.Rows.{AlikeRows, alike-rows, done-demanded, lawful, read-did, read-is, row-done}
-use Rattle.history.specs.Laws.States.{ltb-no}
 use Rattle.history.specs.Readings.{AsBuilt, DemandedRead, Row, Turn, TurnsOfBytes, inTurn, isLong, isRead, startPlace}
 use Rattle.matching.specs.Laws.Built.{enough-iff, placeAfter-start}
 use Rattle.matching.specs.Laws.Expected.{Done, expected-advances, expected-done}
@@ -28,8 +28,9 @@ use Rattle.reading.specs.Outside.{readBy, readOf, readTo}
 use Rattle.tables.specs.Building.{builtBy, builtOf, onSet, tableOf}
 use Rattle.tagset.specs.Grammar.{goodSet, setOf}
 
--- the occurrences that end in the first m bytes of a piece after v
-found-in : (ts : List Word) (v piece : Word) (m : ℕ) → m ≤ length piece → (e i : ℕ)
+-- what `Demanded` says is found: of the occurrences that end in the first m bytes of a piece after v, the record (e, i) is one exactly if byte e,
+-- counted from the opening, is one of those, i is a tag, and that tag's bytes end the first e bytes
+pub found-in : (ts : List Word) (v piece : Word) (m : ℕ) → m ≤ length piece → (e i : ℕ)
     → List·Memᴰ (record { end = e; tag = i }) (occurrencesFrom ts v (length v) (take m piece))
     ↔ ((length v < e) × (e ≤ length v + m) × (i < length ts) × (ends (getD ts i []) (take e (v ++ piece)) ≡ true))
 found-in ts v piece m h e i = (there, back)
@@ -149,8 +150,8 @@ split-slicing = record { machines = omega arith; byte = refl }
 pub whole-slicing : Slicing 8 1
 whole-slicing = record { machines = omega arith; byte = refl }
 
--- FOR SPACE: a good set of bytes is accepted, and so leaves its table, exactly if each machine has as many slots as distinct prefixes; that
--- else the lowest machine short of slots is named, with the states that it needs, is `table-iff` of building
+-- FOR SPACE: a good set of bytes is accepted, and so leaves its table, exactly if each machine has at least as many slots as distinct
+-- prefixes; that else the lowest machine short of slots is named, with the states that it needs, is `table-iff` of building
 pub for-space : (n k : ℕ) → Slicing n k → (set run : List ℕ) → Below 256 set → (ts : List Word) → setOf set ≡ goodSet ts
     → AsBuilt n k set run ts ↔ ((m : ℕ) → m < k → states (tagsFor n ts m) ≤ slotsIn n k (length run))
 unfolding builtOf
@@ -170,7 +171,7 @@ for-space n k cut set run bytes ts e = (λ b. there (b .answered), λ f. record 
         go (shortOfSlots m needs) z = absurd (no (ap (builtBy n ts) (sym z) ∙ sym shown ∙ q))
           where
             no : builtBy n ts (shortOfSlots m needs) ≡ B.Tags (length ts) → ⊥
-            no y = let x : _≡_ {A = ℕ} 0 1 = cc in omega arith
+            no y = differ cc
 
     back : ((m : ℕ) → m < k → states (tagsFor n ts m) ≤ s) → onSet n k s (setOf set) ≡ B.Tags (length ts)
     back f = shown ∙ ap (builtBy n ts) (enough-iff n s ts k .1 f)

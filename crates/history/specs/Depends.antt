@@ -18,6 +18,7 @@ use Rattle.desk.specs.Laws.Views.{Opens, open-done, open-no-room, open-no-set, 
 use Rattle.desk.specs.Reached.{Reached}
 use Rattle.desk.specs.Rooms.{freeRoom, isFree, roomOf, serialOf, ticketIn, ticketsHeld}
 use Rattle.desk.specs.declared.Desk.{Desk}
+use Rattle.desk.specs.declared.FeedAnswer.{FeedAnswer}
 use Rattle.desk.specs.declared.Opening.{Opening}
 use Rattle.desk.specs.declared.Serial.{Serial}
 use Rattle.desk.specs.declared.Ticket.{Ticket}
@@ -55,11 +56,24 @@ feed-depends d e s a table piece = go (ltb i 16) refl (ltb j 16) refl
     tests true true false true t u q =
         ap₂ (λ (x : Ticket) (n : ℕ). let r = read 1 (slotsIn 1 8 (length table)) table (x .place) (x .taken) (256 - n) piece in F.Fed (r .taken) (length (r .found)) (r .stop)) q (a .room)
 
-    same : i < 16 → feedBy d i (ticketIn (d .tickets) i) table piece true (eqb (ticketIn (d .tickets) i .edition .0) (d .edition .0)) (eqb (slotsIn 1 8 (length table)) (d .slots)) (ltb 4294967295 (ticketIn (d .tickets) i .taken + length piece)) (allBelow (slotsIn 1 8 (length table)) (ticketIn (d .tickets) i .place)) .answer
-        ≡ feedBy e j (ticketIn (e .tickets) j) table piece true (eqb (ticketIn (e .tickets) j .edition .0) (e .edition .0)) (eqb (slotsIn 1 8 (length table)) (e .slots)) (ltb 4294967295 (ticketIn (e .tickets) j .taken + length piece)) (allBelow (slotsIn 1 8 (length table)) (ticketIn (e .tickets) j .place)) .answer
+    -- the feed for a ticket t, by the tests of a ticket x under an edition and a slot count
+    by : Desk → ℕ → Ticket → Ticket → ℕ → ℕ → FeedAnswer
+    by c k t x m n =
+        feedBy c k t table piece true
+        (eqb (x .edition .0) m)
+        (eqb (slotsIn 1 8 (length table)) n)
+        (ltb 4294967295 (x .taken + length piece))
+        (allBelow (slotsIn 1 8 (length table)) (x .place)) .answer
+
+    same : i < 16 → by d i (ticketIn (d .tickets) i) (ticketIn (d .tickets) i) (d .edition .0) (d .slots) ≡ by e j (ticketIn (e .tickets) j) (ticketIn (e .tickets) j) (e .edition .0) (e .slots)
     same h =
-        tests (eqb (ticketIn (d .tickets) i .edition .0) (d .edition .0)) (eqb (slotsIn 1 8 (length table)) (d .slots)) (ltb 4294967295 (ticketIn (d .tickets) i .taken + length piece)) (allBelow (slotsIn 1 8 (length table)) (ticketIn (d .tickets) i .place)) (ticketIn (d .tickets) i) (ticketIn (e .tickets) j) (a .ticket h)
-        ∙ λ k. feedBy e j (ticketIn (e .tickets) j) table piece true (eqb (a .ticket h k .edition .0) (a .edition k)) (eqb (slotsIn 1 8 (length table)) (a .slots k)) (ltb 4294967295 (a .ticket h k .taken + length piece)) (allBelow (slotsIn 1 8 (length table)) (a .ticket h k .place)) .answer
+        tests
+        (eqb (ticketIn (d .tickets) i .edition .0) (d .edition .0))
+        (eqb (slotsIn 1 8 (length table)) (d .slots))
+        (ltb 4294967295 (ticketIn (d .tickets) i .taken + length piece))
+        (allBelow (slotsIn 1 8 (length table)) (ticketIn (d .tickets) i .place))
+        (ticketIn (d .tickets) i) (ticketIn (e .tickets) j) (a .ticket h)
+        ∙ λ k. by e j (ticketIn (e .tickets) j) (a .ticket h k) (a .edition k) (a .slots k)
 
     go : (x : Bool) → ltb i 16 ≡ x → (y : Bool) → ltb j 16 ≡ y → feedIn d i table piece .answer ≡ feedIn e j table piece .answer
     go true p true q = rw (p, q) (same (ltb-true i 16 p))
@@ -68,7 +82,8 @@ feed-depends d e s a table piece = go (ltb i 16) refl (ltb j 16) refl
     go false p true q = absurd (omega (arith, a .has-room .1 (ltb-true j 16 q), ltb-false i 16 p))
 
 -- OPEN: whether a set exists, the last serial, and how many tickets are open or stale
-pub open-depends : (d e : Desk) → Reached d → Reached e → (d .edition .0 ≡ 0) ↔ (e .edition .0 ≡ 0) → d .serial .0 ≡ e .serial .0 → ticketsHeld (d .tickets) ≡ ticketsHeld (e .tickets)
+pub open-depends : (d e : Desk) → Reached d → Reached e
+    → (d .edition .0 ≡ 0) ↔ (e .edition .0 ≡ 0) → d .serial .0 ≡ e .serial .0 → ticketsHeld (d .tickets) ≡ ticketsHeld (e .tickets)
     → openOf d .answer ≡ openOf e .answer
 open-depends d e rd re set serial held-same = go _ (opens d) _ (opens e)
   where

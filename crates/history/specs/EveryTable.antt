@@ -33,8 +33,9 @@ use Rattle.desk.specs.declared.Ticket.{Ticket}
 use Rattle.history.specs.History.{handedOut}
 use Rattle.history.specs.Laws.ByRoom.{close-by-room, feed-by-room, no-room-close, no-room-feed}
 use Rattle.history.specs.Laws.Given.{Given, given-all, given-run}
+use Rattle.history.specs.Laws.Numbers.{differ}
 use Rattle.history.specs.Laws.Ordered.{found-ordered}
-use Rattle.history.specs.Serials.{NeverOrClosed, Serials, closedBy, noSerials, serialsAfter, serialsOf}
+use Rattle.history.specs.Serials.{NeverOrClosed, Serials, closedBy, downFrom, noSerials, serialsAfter, serialsOf}
 use Rattle.matching.specs.Laws.AnyTable.{read-kept}
 use Rattle.matching.specs.Occurrence.{Occurrence, Ordered}
 use Rattle.matching.specs.Reading.{Outcome, allBelow, read}
@@ -43,6 +44,10 @@ use Rattle.matching.specs.Words.{Word}
 use Rattle.reading.specs.Outside.{readBy, readOf, readTo}
 use lib.Dec.{ltb}
 use mathlib.Core.Bool.{Bool, false, true}
+
+-- NO SERIAL TWICE: those that openings have answered are 1, 2, .. up to the desk's last serial, in order
+pub serials-in-order : (calls : List Call) → serialsOf noSerials calls .given ≡ downFrom (serialsOf noSerials calls .desk .serial .0)
+serials-in-order calls = given-all calls .numbers
 
 -- a serial has no room exactly if it was never given or is closed
 no-room-iff : (x : Serials) → Given x → (s : Serial) → (16 ≤ roomOf (x .desk .tickets) s) ↔ NeverOrClosed x s
@@ -107,8 +112,8 @@ read-ordered n k table place count piece list r = go (allBelow s place) (ltb 429
     x = read n (slotsIn n k (length table)) table place count (list / 2) piece
 
     go : (below long : Bool) → readBy (read n (slotsIn n k (length table)) table place count (list / 2) piece) below long ≡ readTo r → Ordered (r .found)
-    go false long q = absurd (let z : _≡_ {A = ℕ} 0 1 = cc in omega arith)
-    go true true q = absurd (let z : _≡_ {A = ℕ} 0 1 = cc in omega arith)
+    go false long q = differ cc
+    go true true q = differ cc
     go true false q = let e : x ≡ r = cc in subst (λ (y : Outcome). Ordered (y .found)) e (found-ordered n s table place count (list / 2) piece)
 
 -- what a call makes of the records held: a taking hands out the oldest, a feed puts those of its serial and its ticket's edition behind all

@@ -1,4 +1,5 @@
 -- How the theorems are shown.
+pub mod Numbers
 pub mod Snoc
 pub mod Accounts
 pub mod Seats

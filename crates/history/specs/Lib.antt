@@ -6,6 +6,7 @@ pub mod Serials
 pub mod Laws
 pub mod Demand2
 pub mod Answers
+pub mod TicketStates
 pub mod Demand3
 pub mod Stale
 pub mod EveryTable

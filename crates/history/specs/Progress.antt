@@ -20,6 +20,7 @@ use Rattle.history.specs.History.{Act, AllBytes, World, accountAt, run, 
 use Rattle.history.specs.Laws.Feeding.{force, read-due}
 use Rattle.history.specs.Laws.Invariant.{Inv, given}
 use Rattle.history.specs.Laws.LedgerSteps.{sound}
+use Rattle.history.specs.Laws.Numbers.{differ}
 use Rattle.history.specs.Served.{isOpen, stateBy, stateOf, wasGiven}
 use Rattle.matching.specs.Laws.Expected.{expected-advances}
 use Rattle.matching.specs.Words.{Below, Word}
@@ -40,9 +41,9 @@ open-has d s e = go (wasGiven d s) (ltb (roomOf (d .tickets) s) 16) refl (eqb (t
     go : (a b : Bool) → ltb (roomOf (d .tickets) s) 16 ≡ b → (c : Bool) → eqb (ticketIn (d .tickets) (roomOf (d .tickets) s) .edition .0) (d .edition .0) ≡ c → stateBy a b c ≡ isOpen
         → (roomOf (d .tickets) s < 16) × (ticketIn (d .tickets) (roomOf (d .tickets) s) .edition .0 ≡ d .edition .0)
     go true true p true q z = (ltb-true _ _ p, eqb-true _ _ q)
-    go true true p false q z = absurd (let y : _≡_ {A = ℕ} 0 1 = cc in omega arith)
-    go true false p c q z = absurd (let y : _≡_ {A = ℕ} 0 1 = cc in omega arith)
-    go false b p c q z = absurd (let y : _≡_ {A = ℕ} 0 1 = cc in omega arith)
+    go true true p false q z = differ cc
+    go true false p c q z = differ cc
+    go false b p c q z = differ cc
 
 -- PROGRESS: no byte has more than 16 matches, and an empty list has room for 256
 pub progress : (acts : List Act) → AllBytes acts → (s : Serial) → stateOf (run start acts .desk) s ≡ isOpen → run start acts .desk .records .count ≡ 0

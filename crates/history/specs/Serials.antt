@@ -1,10 +1,12 @@
 -- A history of calls on one desk, its feeds lent any tables, ours or not, that keeps only which serials were given and which were closed.
 use Rattle.desk.specs.declared.OpenAnswer.the-variants as O
 use Rattle.desk.specs.declared.CloseAnswer.the-variants as C
+use Prim.Native.Nat.{suc, zero, ℕ}
 use mathlib.Core.List.{List, List·Memᴰ, [], _++_, _∷_}
 use mathlib.Core.Logic.{_⊎_}
 use Rattle.desk.specs.Calls.{closeOf, newDesk, openOf}
 use Rattle.desk.specs.Reached.{Call, afterCall, callClose, callFeed, callOpen, callReplace, callTake}
+use Rattle.desk.specs.Rooms.{serialOf}
 use Rattle.desk.specs.declared.CloseAnswer.{CloseAnswer}
 use Rattle.desk.specs.declared.Desk.{Desk}
 use Rattle.desk.specs.declared.OpenAnswer.{OpenAnswer}
@@ -44,3 +46,8 @@ serialsOf x (c ∷ calls) = serialsOf (serialsAfter x c) calls
 -- a serial that was never given, or is closed
 abbrev pub NeverOrClosed : Serials → Serial → Type 0
 NeverOrClosed x s = (List·Memᴰ s (x .given) → ⊥) ⊎ List·Memᴰ s (x .closed)
+
+-- the serials n, .., 2, 1
+unfoldable pub downFrom : ℕ → List Serial
+downFrom zero = []
+downFrom (suc n) = serialOf (suc n) ∷ downFrom n

@@ -25,10 +25,11 @@ use Rattle.desk.specs.declared.Replacing.{Replacing}
 use Rattle.desk.specs.declared.Serial.{Serial}
 use Rattle.history.specs.History.{Account, Act, AllBytes, Gone, World, accountAt, actReplace, replacing, run, start, step}
 use Rattle.history.specs.Laws.Answering.{closed-room, gone-iff, open-room}
-use Rattle.history.specs.Laws.ByRoom.{close-by-room, feed-by-room, no-room-close, no-room-feed}
+use Rattle.history.specs.Laws.ByRoom.{feed-by-room, no-room-close, no-room-feed}
 use Rattle.history.specs.Laws.Invariant.{Inv}
 use Rattle.history.specs.Laws.Later.{goes-run}
 use Rattle.history.specs.Laws.LedgerSteps.{sound, sound-run}
+use Rattle.history.specs.Laws.Numbers.{differ}
 use Rattle.history.specs.Laws.Seats.{Agrees}
 use Rattle.history.specs.Laws.States.{state-is, stateOfAccount}
 use Rattle.history.specs.Laws.Steps.{inv-step}
@@ -42,7 +43,8 @@ use Rattle.matching.specs.Words.{Below, Word}
 pub record Older (w : World) (a : Account) : Type 0 where
   pub stale-state : a .closed ≡ false → stateOf (w .desk) (serialOf (a .serial)) ≡ isStale
   pub closed-state : a .closed ≡ true → stateOf (w .desk) (serialOf (a .serial)) ≡ isClosed
-  pub stale-feed : a .closed ≡ false → (table : List ℕ) (piece : Word) → feedOf (w .desk) (serialOf (a .serial)) table piece ≡ record { desk = w .desk; answer = F.Stale (editionOf (a .edition)) }
+  pub stale-feed : a .closed ≡ false → (table : List ℕ) (piece : Word)
+      → feedOf (w .desk) (serialOf (a .serial)) table piece ≡ record { desk = w .desk; answer = F.Stale (editionOf (a .edition)) }
   pub closed-feed : a .closed ≡ true → (table : List ℕ) (piece : Word) → feedOf (w .desk) (serialOf (a .serial)) table piece ≡ record { desk = w .desk; answer = F.NoTicket }
   pub stale-close : a .closed ≡ false → closeOf (w .desk) (serialOf (a .serial)) .answer ≡ C.Closed
   pub closed-close : a .closed ≡ true → closeOf (w .desk) (serialOf (a .serial)) ≡ record { desk = w .desk; answer = C.NoTicket }
@@ -54,21 +56,22 @@ module _ (w : World) (v : Inv w) (k : ℕ) (hk : k < length (w .accounts)) where
   abbrev s : Serial
   s = serialOf (a .serial)
 
-  -- NO TICKET for ever: a closed serial is refused by feed and close, over every table
-  pub closed-feed-is : a .closed ≡ true → (table : List ℕ) (piece : Word) → feedOf (w .desk) s table piece ≡ record { desk = w .desk; answer = F.NoTicket }
+  -- a closed serial is refused by feed and close, over every table
+  closed-feed-is : a .closed ≡ true → (table : List ℕ) (piece : Word) → feedOf (w .desk) s table piece ≡ record { desk = w .desk; answer = F.NoTicket }
   closed-feed-is c table piece = no-room-feed (w .desk) s table piece (closed-room w v k hk c)
 
-  pub closed-close-is : a .closed ≡ true → closeOf (w .desk) s ≡ record { desk = w .desk; answer = C.NoTicket }
+  closed-close-is : a .closed ≡ true → closeOf (w .desk) s ≡ record { desk = w .desk; answer = C.NoTicket }
   closed-close-is c = no-room-close (w .desk) s (closed-room w v k hk c)
 
-  pub open-close-is : a .closed ≡ false → closeOf (w .desk) s .answer ≡ C.Closed
+  open-close-is : a .closed ≡ false → closeOf (w .desk) s .answer ≡ C.Closed
   open-close-is c = go _ (closes (w .desk) s)
     where
       go : (r : Closing) → Closes (w .desk) s r → r .answer ≡ C.Closed
       go r (close-no-ticket h) = absurd (omega (arith, h, open-room w v k hk c .0))
       go r (close-done i e h) = refl
 
-  stale-feed-is : a .closed ≡ false → a .edition < w .edition → (table : List ℕ) (piece : Word) → feedOf (w .desk) s table piece ≡ record { desk = w .desk; answer = F.Stale (editionOf (a .edition)) }
+  stale-feed-is : a .closed ≡ false → a .edition < w .edition → (table : List ℕ) (piece : Word)
+      → feedOf (w .desk) s table piece ≡ record { desk = w .desk; answer = F.Stale (editionOf (a .edition)) }
   stale-feed-is c old table piece = go _ (feeds (w .desk) s table piece)
     where
       room : (roomOf (w .desk .tickets) s < 16) × Agrees (ticketIn (w .desk .tickets) (roomOf (w .desk .tickets) s)) a
@@ -127,9 +130,9 @@ replaced-all-stale acts b set table c e count = go _ (replaces (w .desk) set (le
 
     go : (r : Replacing) → Replaces (w .desk) set (length table) r → Inv (replacing w set table (r .desk) (r .answer)) → r .answer ≡ R.Replaced e count
         → AllOlder w (replacing w set table (r .desk) (r .answer)) e
-    go r (replace-fault fault p) i q = absurd (let z : _≡_ {A = ℕ} 0 1 = cc in omega arith)
-    go r (replace-table machine short p) i q = absurd (let z : _≡_ {A = ℕ} 0 1 = cc in omega arith)
-    go r (replace-edition-end n p h) i q = absurd (let z : _≡_ {A = ℕ} 0 1 = cc in omega arith)
+    go r (replace-fault fault p) i q = differ cc
+    go r (replace-table machine short p) i q = differ cc
+    go r (replace-edition-end n p h) i q = differ cc
     go r (replace-done n p h) i q =
         let new : w .desk .edition .0 + 1 ≡ e .0 = number q in
         record {
@@ -155,15 +158,8 @@ after-a-replacement acts more b c k h old =
     let t = sound-run w more c s in
     (l .bytes (inr old), l .closed, older-is (run w more) (t .inv) k (le-trans h (g .accounts)) (omega (arith, old, l .edition, g .edition)))
 
--- NO TICKET, exactly: after any history a close of a serial, or a feed of it over any table, is refused so exactly if no opening answered the
--- serial or its ticket was closed
-pub no-ticket-close : (acts : List Act) → AllBytes acts → (s : Serial) → (closeOf (run start acts .desk) s .answer ≡ C.NoTicket) ↔ Gone (run start acts) s
-no-ticket-close acts b s =
-    let w = run start acts in
-    let g = gone-iff w (sound acts b .inv) s in
-    let r = close-by-room (w .desk) s in
-    (λ e. g .0 (r .0 e), λ h. r .1 (g .1 h))
-
+-- NO TICKET, exactly: after any history a feed of a serial, over any table, is refused so exactly if no opening answered the serial or its ticket
+-- was closed
 pub no-ticket-feed : (acts : List Act) → AllBytes acts → (s : Serial) (table : List ℕ) (piece : Word)
     → (feedOf (run start acts .desk) s table piece .answer ≡ F.NoTicket) ↔ Gone (run start acts) s
 no-ticket-feed acts b s table piece =

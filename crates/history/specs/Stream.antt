@@ -73,7 +73,8 @@ adds-feeds w v s piece b = go _ (feeds (w .desk) s (w .table) piece)
         record {
           records = recordsOf (t .serial) (t .edition) (x .found);
           behind = stream-fed w v s (g .0) (g .1) (g .2) piece b h e m;
-          of-call = subst (λ (n : ℕ). recordsFor n (recordsOf (t .serial) (t .edition) (x .found)) ≡ recordsOf (t .serial) (t .edition) (x .found)) q (recordsFor-own (t .serial) (t .edition) (x .found));
+          of-call = subst (λ (n : ℕ). recordsFor n (recordsOf (t .serial) (t .edition) (x .found)) ≡ recordsOf (t .serial) (t .edition) (x .found))
+              q (recordsFor-own (t .serial) (t .edition) (x .found));
         }
 
 adds : (w : World) → Inv w → (a : Act) → OfBytes a → Adds w (step w a) a
@@ -126,7 +127,8 @@ in-set (a ∷ l) (suc k) y n h e = omega (arith, in-set l k y n (omega arith) e)
 abbrev Even : World → Type 0
 Even w = length (stream w) ≡ occurrencesIn (w .accounts)
 
-even-changed : (w : World) → Inv w → (s : Serial) (k : ℕ) → k < length (w .accounts) → s .0 ≡ suc k → (f : Account → Account) (v : World) → v .accounts ≡ onSerial (s .0) f (w .accounts)
+even-changed : (w : World) → Inv w → (s : Serial) (k : ℕ) → k < length (w .accounts) → s .0 ≡ suc k
+    → (f : Account → Account) (v : World) → v .accounts ≡ onSerial (s .0) f (w .accounts)
     → (n : ℕ) → length (stream v) ≡ length (stream w) + n
     → length (occurrences (f (accountAt w k) .tags) (f (accountAt w k) .bytes)) ≡ length (occurrences (accountAt w k .tags) (accountAt w k .bytes)) + n → Even w → Even v
 even-changed w i s k hk ek f v q n more due e =
@@ -148,11 +150,16 @@ even-feeds w v s piece b e = go _ (feeds (w .desk) s (w .table) piece)
         let a = accountAt w (g .0) in
         let more = take (x .taken) piece in
         let d = read-done w v s (g .0) (g .1) (g .2) h q piece b in
-        even-changed w v s (g .0) (g .1) (g .2) (grown more) (feeding w s piece (fedBy (w .desk) (roomOf (w .desk .tickets) s) t x .desk) (fedBy (w .desk) (roomOf (w .desk .tickets) s) t x .answer)) refl (length (x .found))
-        (ap {B = ℕ} length (stream-fed w v s (g .0) (g .1) (g .2) piece b h q m) ∙ length-append (stream w) (recordsOf (t .serial) (t .edition) (x .found)) ∙ ap (λ (n : ℕ). length (stream w) + n) (recordsOf-length (t .serial) (t .edition) (x .found)))
+        even-changed w v s (g .0) (g .1) (g .2) (grown more)
+        (feeding w s piece (fedBy (w .desk) (roomOf (w .desk .tickets) s) t x .desk) (fedBy (w .desk) (roomOf (w .desk .tickets) s) t x .answer))
+        refl (length (x .found))
+        (ap {B = ℕ} length (stream-fed w v s (g .0) (g .1) (g .2) piece b h q m)
+        ∙ length-append (stream w) (recordsOf (t .serial) (t .edition) (x .found))
+        ∙ ap (λ (n : ℕ). length (stream w) + n) (recordsOf-length (t .serial) (t .edition) (x .found)))
         (ap {B = ℕ} length (occurrencesFrom-append (a .tags) [] 0 (a .bytes) more)
         ∙ length-append (occurrences (a .tags) (a .bytes)) (occurrencesFrom (a .tags) (a .bytes) (0 + length (a .bytes)) more)
-        ∙ ap (λ (n : ℕ). length (occurrences (a .tags) (a .bytes)) + n) (ap {B = ℕ} (λ (n : ℕ). length (occurrencesFrom (a .tags) (a .bytes) n more)) (zero-add (length (a .bytes))) ∙ ap {B = ℕ} length (sym (d .found)))) e
+        ∙ ap (λ (n : ℕ). length (occurrences (a .tags) (a .bytes)) + n)
+        (ap {B = ℕ} (λ (n : ℕ). length (occurrencesFrom (a .tags) (a .bytes) n more)) (zero-add (length (a .bytes))) ∙ ap {B = ℕ} length (sym (d .found)))) e
 
 even-step : (w : World) → Inv w → (a : Act) → OfBytes a → Even w → Even (step w a)
 unfolding occurrencesIn occurrencesFrom

@@ -37,7 +37,8 @@ onSerial-hit n f l k h e =
 pub onSerial-miss : (n : ℕ) (f : Account → Account) (l : List Account) (k : ℕ) → k < length l → (getD l k noAccount .serial ≡ n → ⊥)
     → getD (onSerial n f l) k noAccount ≡ getD l k noAccount
 onSerial-miss n f l k h e =
-    onSerial-at n f l k h ∙ ap (λ (b : Bool). cond b (f (getD l k noAccount)) (getD l k noAccount)) (is-false (eqb (getD l k noAccount .serial) n) (λ q. e (eqb-eq (getD l k noAccount .serial) n q)))
+    onSerial-at n f l k h ∙ ap (λ (b : Bool). cond b (f (getD l k noAccount)) (getD l k noAccount))
+    (is-false (eqb (getD l k noAccount .serial) n) (λ q. e (eqb-eq (getD l k noAccount .serial) n q)))
 
 -- ---- the records of a serial
 

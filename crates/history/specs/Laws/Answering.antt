@@ -6,7 +6,6 @@ use mathlib.Core.Bool.{Bool, false, true}
 use mathlib.Core.List.{List, _++_}
 use mathlib.Core.Logic.{_↔_, _⊎_, inl, inr}
 use mathlib.Core.Path.{_∙_, _≡_, refl, subst, sym}
-use native.Mathlib.Decide.{decLe}
 use native.Mathlib.Omega.{arith}
 use lib.ListN.{length}
 use Rattle.desk.specs.Calls.{openOf}
@@ -29,6 +28,7 @@ use Rattle.history.specs.Laws.Fed.{stream-fed}
 use Rattle.history.specs.Laws.Feeding.{agrees, force, live, mine, now, read-done}
 use Rattle.history.specs.Laws.Invariant.{Inv, Stranger, given, wide}
 use Rattle.history.specs.Laws.LedgerSteps.{Sound}
+use Rattle.history.specs.Laws.Numbers.{lower}
 use Rattle.history.specs.Laws.Rows.{done-demanded}
 use Rattle.history.specs.Laws.Seats.{Agrees, Seat, no-seat, seated}
 use Rattle.history.specs.Laws.States.{known-or-not}
@@ -89,13 +89,6 @@ pub data FeedsFor (w : World) (s : Serial) (piece : Word) : Feeding → Type 0 w
       → Demanded (accountAt w k .tags) (accountAt w k .bytes) piece (256 - length (held (w .desk .records))) r → (d : Desk)
       → w .out ++ held (d .records) ≡ stream w ++ recordsOf s (editionOf (accountAt w k .edition)) (r .found)
       → FeedsFor w s piece (record { desk = d; answer = F.Fed (r .taken) (length (r .found)) (r .stop) })
-
-lower : (m n : ℕ) → m ≤ n → (m ≡ n → ⊥) → m < n
-lower m n h f = go (decLe (suc m) n)
-  where
-    go : Dec (suc m ≤ n) → m < n
-    go (yes p) = p
-    go (no p) = absurd (f (omega arith))
 
 -- the serial has a room, that of account k
 module _ (w : World) (v : Inv w) (s : Serial) (piece : Word) (h : roomOf (w .desk .tickets) s < 16) (k : ℕ) (hk : k < length (w .accounts)) (ek : s .0 ≡ suc k) where

@@ -11,6 +11,7 @@ use Rattle.desk.specs.declared.Replacing.{Replacing}
 use Rattle.history.specs.History.{Account, Act, AllBytes, OfBytes, Order, World, actReplace, replacing, run, step}
 use Rattle.history.specs.Laws.Ledger.{Fine, noOrder}
 use Rattle.history.specs.Laws.LedgerSteps.{Sound, sound-run}
+use Rattle.history.specs.Laws.Numbers.{differ}
 use Rattle.history.specs.Served.{NoneRefused, accepts, called}
 
 pub run-append : (w : World) (a b : List Act) → run w (a ++ b) ≡ run (run w a) b
@@ -66,8 +67,8 @@ replaced-one w s o f h = go _ (replaces (w .desk) (o .set) (length (o .run))) re
   where
     go : (r : Replacing) → Replaces (w .desk) (o .set) (length (o .run)) r → replaceOf (w .desk) (o .set) (length (o .run)) ≡ r
         → Becomes w (actReplace (o .set) (o .run) ∷ []) (w .orders ++ o ∷ []) (w .accounts)
-    go r (replace-fault fault e) q = absurd (let x = f .accepts in let z : _≡_ {A = ℕ} 0 1 = cc in omega arith)
-    go r (replace-table machine needs e) q = absurd (let x = f .accepts in let z : _≡_ {A = ℕ} 0 1 = cc in omega arith)
+    go r (replace-fault fault e) q = (let x = f .accepts in differ cc)
+    go r (replace-table machine needs e) q = (let x = f .accepts in differ cc)
     go r (replace-edition-end count e l) q = absurd (omega (arith, l, h, s .inv .edition))
     go r (replace-done count e l) q =
         becomes-one w (actReplace (o .set) (o .run)) (w .orders ++ o ∷ []) (w .accounts)

@@ -14,6 +14,7 @@ use Rattle.desk.specs.declared.Closing.{Closing}
 use Rattle.desk.specs.declared.Desk.{Desk}
 use Rattle.desk.specs.declared.Feeding.{Feeding}
 use Rattle.desk.specs.declared.Serial.{Serial}
+use Rattle.history.specs.Laws.Numbers.{differ}
 use Rattle.matching.specs.Words.{Word}
 
 pub no-room-close : (d : Desk) (s : Serial) → 16 ≤ roomOf (d .tickets) s → closeOf d s ≡ record { desk = d; answer = C.NoTicket }
@@ -28,7 +29,7 @@ close-by-room d s = (go _ (closes d s), λ g. ap (λ (r : Closing). r .answer) (
   where
     go : (r : Closing) → Closes d s r → r .answer ≡ C.NoTicket → 16 ≤ roomOf (d .tickets) s
     go r (close-no-ticket h) e = h
-    go r (close-done i p h) e = absurd (let z : _≡_ {A = ℕ} 0 1 = cc in omega arith)
+    go r (close-done i p h) e = differ cc
 
 pub no-room-feed : (d : Desk) (s : Serial) (table : List ℕ) (piece : Word) → 16 ≤ roomOf (d .tickets) s → feedOf d s table piece ≡ record { desk = d; answer = F.NoTicket }
 no-room-feed d s table piece g = go _ (feeds d s table piece)
@@ -46,8 +47,8 @@ feed-by-room d s table piece = (go _ (feeds d s table piece), λ g. ap (λ (r : 
   where
     go : (r : Feeding) → Feeds d (roomOf (d .tickets) s) table piece r → r .answer ≡ F.NoTicket → 16 ≤ roomOf (d .tickets) s
     go r (feed-no-ticket h) e = h
-    go r (feed-stale h x) e = absurd (let z : _≡_ {A = ℕ} 0 1 = cc in omega arith)
-    go r (feed-other-slots h x l) e = absurd (let z : _≡_ {A = ℕ} 0 1 = cc in omega arith)
-    go r (feed-long h x l m) e = absurd (let z : _≡_ {A = ℕ} 0 1 = cc in omega arith)
-    go r (feed-no-place h x l m y) e = absurd (let z : _≡_ {A = ℕ} 0 1 = cc in omega arith)
-    go r (feed-read h x l m) e = absurd (let z : _≡_ {A = ℕ} 0 1 = cc in omega arith)
+    go r (feed-stale h x) e = differ cc
+    go r (feed-other-slots h x l) e = differ cc
+    go r (feed-long h x l m) e = differ cc
+    go r (feed-no-place h x l m y) e = differ cc
+    go r (feed-read h x l m) e = differ cc

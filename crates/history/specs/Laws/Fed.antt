@@ -101,7 +101,9 @@ module _ (w : World) (v : Inv w) (s : Serial) (k : ℕ) (hk : k < length (w .acc
       ∙ ap₂ _++_ (v .records k hk) (recordsFor-own (serialOf (suc k)) (editionOf (a .edition)) (r .found))
       ∙ ap₂ (λ (n : ℕ) (l : List Occurrence). recordsDue a ++ recordsOf (serialOf n) (editionOf (a .edition)) l) (sym (v .numbered k hk)) (done .found)
       ∙ sym (recordsOf-append (serialOf (a .serial)) (editionOf (a .edition)) (occurrences (a .tags) (a .bytes)) (occurrencesFrom (a .tags) (a .bytes) (length (a .bytes)) more))
-      ∙ ap (recordsOf (serialOf (a .serial)) (editionOf (a .edition))) (sym (occurrencesFrom-append (a .tags) [] 0 (a .bytes) more ∙ ap {B = List Occurrence} (λ (n : ℕ). occurrences (a .tags) (a .bytes) ++ occurrencesFrom (a .tags) (a .bytes) n more) (zero-add (length (a .bytes)))))
+      ∙ ap (recordsOf (serialOf (a .serial)) (editionOf (a .edition)))
+      (sym (occurrencesFrom-append (a .tags) [] 0 (a .bytes) more
+      ∙ ap {B = List Occurrence} (λ (n : ℕ). occurrences (a .tags) (a .bytes) ++ occurrencesFrom (a .tags) (a .bytes) n more) (zero-add (length (a .bytes)))))
 
   -- another serial's are the same
   elsewhere : (n : ℕ) → (n ≡ suc k → ⊥) → recordsFor n (stream after) ≡ recordsFor n (stream w)
@@ -113,7 +115,8 @@ module _ (w : World) (v : Inv w) (s : Serial) (k : ℕ) (hk : k < length (w .acc
   seat : Seat (set rooms i (readOn t r)) (grown more a)
   seat =
       let q = seat-same rooms (wide w v) i (readOn t r) hi s refl read-for in
-      subst (λ (n : ℕ). Seat (set rooms i (readOn t r)) (record { serial = n; edition = a .edition; tags = a .tags; bytes = a .bytes ++ more; closed = a .closed })) (ek ∙ sym (v .numbered k hk))
+      subst (λ (n : ℕ). Seat (set rooms i (readOn t r)) (record { serial = n; edition = a .edition; tags = a .tags; bytes = a .bytes ++ more; closed = a .closed }))
+      (ek ∙ sym (v .numbered k hk))
       (seated (live w v s k hk ek hi) (omega (arith, q .0))
       (subst (λ (x : Ticket). Agrees x (record { serial = s .0; edition = a .edition; tags = a .tags; bytes = a .bytes ++ more; closed = a .closed })) (sym (q .1))
       (record {

@@ -3,8 +3,9 @@ use Prim.Native.Nat.{_+_, _<_, _≤_, ℕ}
 use mathlib.Core.Bool.{false, false≢true, true}
 use mathlib.Core.List.{List, List·Memᴰ, List·Memᴰ·cases-cons, List·Memᴰ·head, List·Memᴰ·not-nil, List·Memᴰ·tail, [], _++_, _∷_}
 use mathlib.Core.Logic.{_⊎_, inl, inr}
-use mathlib.Core.Path.{_≡_, ap, refl, subst, sym}
+use mathlib.Core.Path.{_∙_, _≡_, ap, refl, subst, sym}
 use native.Mathlib.Decide.{decLe, ℕ-discrete}
+use native.Mathlib.Numerals.{add-one}
 use native.Mathlib.Omega.{arith}
 use lib.ListN.{length, set}
 use Rattle.desk.specs.Calls.{openedIn, withTicket}
@@ -27,22 +28,25 @@ use Rattle.desk.specs.declared.Serial.{Serial}
 use Rattle.desk.specs.declared.Taking.{Taking}
 use Rattle.desk.specs.declared.Ticket.{Ticket}
 use Rattle.history.specs.Laws.Seats.{Unique, for-other, has-room, nobody-new, room-for, room-kept, seat-gone, seat-new, unique-new, unique-set}
-use Rattle.history.specs.Serials.{NeverOrClosed, Serials, closedBy, givenBy, noSerials, serialsAfter, serialsOf}
+use Rattle.history.specs.Serials.{NeverOrClosed, Serials, closedBy, downFrom, givenBy, noSerials, serialsAfter, serialsOf}
 use Rattle.matching.specs.Laws.Bools.{is-false, not-both}
 use Rattle.matching.specs.Words.{Word}
 
 pub record Given (x : Serials) : Type 0 where
   pub reached : Reached (x .desk)
   pub unique : Unique (x .desk .tickets)
+  pub numbers : x .given ≡ downFrom (x .desk .serial .0)
   pub upto : (s : Serial) → List·Memᴰ s (x .given) → s .0 ≤ x .desk .serial .0
   pub closed : (s : Serial) → List·Memᴰ s (x .closed) → List·Memᴰ s (x .given)
   pub has : (s : Serial) → roomOf (x .desk .tickets) s < 16 → List·Memᴰ s (x .given) × (List·Memᴰ s (x .closed) → ⊥)
   pub has-not : (s : Serial) → 16 ≤ roomOf (x .desk .tickets) s → NeverOrClosed x s
 
 given-new : Given noSerials
+unfolding downFrom
 given-new = record {
   reached = fromNew;
   unique = unique-new;
+  numbers = refl;
   upto = λ s m. absurd (List·Memᴰ·not-nil m);
   closed = λ s m. absurd (List·Memᴰ·not-nil m);
   has = λ s h. absurd (omega (arith, h, nobody-new s));
@@ -61,6 +65,7 @@ given-same : (x : Serials) (d : Desk) → Given x → Reached d → Unique (d .t
 given-same x d g r u same e = record {
   reached = r;
   unique = u;
+  numbers = g .numbers ∙ ap (λ (n : Serial). downFrom (n .0)) (sym e);
   upto = λ s m. subst (λ (n : Serial). s .0 ≤ n .0) (sym e) (g .upto s m);
   closed = g .closed;
   has = λ s h. g .has s (subst (λ (n : ℕ). n < 16) (same s) h);
@@ -84,7 +89,8 @@ module _ (x : Serials) (g : Given x) (i : ℕ) (ei : i ≡ freeRoom (x .desk .ti
 
   free : (s : Serial) → isFor s (ticketIn rooms i) ≡ false
   free s =
-      let h : isHeld (ticketIn rooms i) ≡ false = free-held (ticketIn rooms i) (subst (λ (j : ℕ). isFree (ticketIn rooms j) ≡ true) (sym ei) (firstRoom-holds isFree rooms (omega (arith, wide)))) in
+      let h : isHeld (ticketIn rooms i) ≡ false = free-held (ticketIn rooms i)
+      (subst (λ (j : ℕ). isFree (ticketIn rooms j) ≡ true) (sym ei) (firstRoom-holds isFree rooms (omega (arith, wide)))) in
       is-false (isFor s (ticketIn rooms i)) (λ q. not-both (for-held s (ticketIn rooms i) q .0) h)
 
   -- the new serial was never given
@@ -105,8 +111,10 @@ module _ (x : Serials) (g : Given x) (i : ℕ) (ei : i ≡ freeRoom (x .desk .ti
   kept s n = room-kept rooms wide i ticket hi s (free s) (for-other new s ticket mine (λ e. n (sym e)))
 
   given-opened : Given (record { desk = openedIn (x .desk) i; given = new ∷ x .given; closed = x .closed })
+  unfolding downFrom
   given-opened = record {
     reached = p;
+    numbers = ap {B = List Serial} (λ (l : List Serial). serialOf (x .desk .serial .0 + 1) ∷ l) (g .numbers) ∙ rw (add-one (x .desk .serial .0)) refl;
     unique = unique-set rooms wide i ticket hi (g .unique) (λ s j n a b.
         omega (arith, unseen, has-room rooms wide new j (subst (λ (y : Serial). isFor y (ticketIn rooms j) ≡ true) (serial-eq s new (sym (for-held s ticket b .1))) a)));
     upto = λ s m. below s (List·Memᴰ·cases-cons m);
@@ -131,7 +139,8 @@ module _ (x : Serials) (g : Given x) (i : ℕ) (ei : i ≡ freeRoom (x .desk .ti
       old s n (inl f) = inl (λ m. never s n f (List·Memᴰ·cases-cons m))
       old s n (inr m) = inr m
 
-      has-not : (s : Serial) → 16 ≤ roomOf (set rooms i ticket) s → Dec (s .0 ≡ new .0) → NeverOrClosed (record { desk = openedIn (x .desk) i; given = new ∷ x .given; closed = x .closed }) s
+      has-not : (s : Serial) → 16 ≤ roomOf (set rooms i ticket) s → Dec (s .0 ≡ new .0)
+          → NeverOrClosed (record { desk = openedIn (x .desk) i; given = new ∷ x .given; closed = x .closed }) s
       has-not s h (yes e) =
           absurd (omega (arith, hi, seat-new rooms wide i ticket hi new mine unseen .0, subst (λ (y : Serial). 16 ≤ roomOf (set rooms i ticket) y) (serial-eq s new e) h))
       has-not s h (no n) = old s n (g .has-not s (omega (arith, h, kept s n)))
@@ -154,6 +163,7 @@ module _ (x : Serials) (g : Given x) (gone : Serial) (i : ℕ) (ei : i ≡ roomO
   given-closed : Given (record { desk = withTicket (x .desk) i freeTicket; given = x .given; closed = gone ∷ x .closed })
   given-closed = record {
     reached = p;
+    numbers = g .numbers;
     unique = unique-set before sixteen i freeTicket hi (g .unique) (λ s j n a b. false≢true b);
     upto = g .upto;
     closed = λ s m. was s (List·Memᴰ·cases-cons m);
@@ -178,7 +188,8 @@ module _ (x : Serials) (g : Given x) (gone : Serial) (i : ℕ) (ei : i ≡ roomO
       old s (inl f) = inl f
       old s (inr m) = inr (List·Memᴰ·tail m)
 
-      has-not : (s : Serial) → 16 ≤ roomOf (set before i freeTicket) s → Dec (s .0 ≡ gone .0) → NeverOrClosed (record { desk = withTicket (x .desk) i freeTicket; given = x .given; closed = gone ∷ x .closed }) s
+      has-not : (s : Serial) → 16 ≤ roomOf (set before i freeTicket) s → Dec (s .0 ≡ gone .0)
+          → NeverOrClosed (record { desk = withTicket (x .desk) i freeTicket; given = x .given; closed = gone ∷ x .closed }) s
       has-not s h (yes e) = inr (List·Memᴰ·head (serial-eq s gone e))
       has-not s h (no n) = old s (g .has-not s (omega (arith, h, other s n)))
 

@@ -74,12 +74,15 @@ goes-opens w = go _ (opens (w .desk))
         }
 
 -- one account changed
-goes-changed : (w : World) → Inv w → (s : Serial) (k : ℕ) → k < length (w .accounts) → s .0 ≡ suc k → (f : Account → Account) (d : Desk) → Later (w .edition) (accountAt w k) (f (accountAt w k))
+goes-changed : (w : World) → Inv w → (s : Serial) (k : ℕ) → k < length (w .accounts) → s .0 ≡ suc k
+    → (f : Account → Account) (d : Desk) → Later (w .edition) (accountAt w k) (f (accountAt w k))
     → Goes w (withAccounts w d (onSerial (s .0) f (w .accounts)))
 goes-changed w v s k hk ek f d l = record {
   accounts = le-of-eq (sym (onSerial-length (s .0) f (w .accounts)));
   edition = omega arith;
-  each = λ j h. changed-each w v s k hk ek f (λ i x. Later (w .edition) (accountAt w i) x) (λ i a b. later-same (w .edition) (accountAt w i) (accountAt w i) refl) l j (omega (arith, h, onSerial-length (s .0) f (w .accounts)));
+  each = λ j h. changed-each w v s k hk ek f (λ i x. Later (w .edition) (accountAt w i) x)
+      (λ i a b. later-same (w .edition) (accountAt w i) (accountAt w i) refl)
+      l j (omega (arith, h, onSerial-length (s .0) f (w .accounts)));
 }
 
 goes-closes : (w : World) (s : Serial) → Inv w → Goes w (step w (actClose s))
@@ -94,7 +97,9 @@ goes-closes w s v = go _ (closes (w .desk) s)
 goes-feeds : (w : World) (s : Serial) (piece : Word) → Inv w → Goes w (step w (actFeed s piece))
 goes-feeds w s piece v = go _ (feeds (w .desk) s (w .table) piece)
   where
-    read-on : (h : roomOf (w .desk .tickets) s < 16) → ticketIn (w .desk .tickets) (roomOf (w .desk .tickets) s) .edition .0 ≡ w .desk .edition .0 → (k : ℕ) (hk : k < length (w .accounts)) (ek : s .0 ≡ suc k)
+    read-on : (h : roomOf (w .desk .tickets) s < 16)
+        → ticketIn (w .desk .tickets) (roomOf (w .desk .tickets) s) .edition .0 ≡ w .desk .edition .0
+        → (k : ℕ) (hk : k < length (w .accounts)) (ek : s .0 ≡ suc k)
         (more : Word) → Later (w .edition) (accountAt w k) (grown more (accountAt w k))
     read-on h e k hk ek more = record {
       serial = refl;

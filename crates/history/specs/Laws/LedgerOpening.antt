@@ -37,7 +37,8 @@ module _ (w : World) (v : Inv w) (g : Ledger w) (i : ℕ) (ei : i ≡ freeRoom (
   inside = omega (arith, wide w v)
 
   free : isHeld (ticketIn (w .desk .tickets) i) ≡ false
-  free = free-held (ticketIn (w .desk .tickets) i) (subst (λ (j : ℕ). isFree (ticketIn (w .desk .tickets) j) ≡ true) (sym ei) (firstRoom-holds isFree (w .desk .tickets) (omega (arith, wide w v, ei))))
+  free = free-held (ticketIn (w .desk .tickets) i)
+      (subst (λ (j : ℕ). isFree (ticketIn (w .desk .tickets) j) ≡ true) (sym ei) (firstRoom-holds isFree (w .desk .tickets) (omega (arith, wide w v, ei))))
 
   spare : lives (w .accounts) ≤ 15
   spare = go (ℕ-discrete (ticketsHeld (w .desk .tickets)) 16)
@@ -57,7 +58,14 @@ module _ (w : World) (v : Inv w) (g : Ledger w) (i : ℕ) (ei : i ≡ freeRoom (
     account-tags = λ k h. tags-new k (decLe (suc k) (length (w .accounts))) h;
     rising = λ a b h l. rising-new a b h l (decLe (suc b) (length (w .accounts)));
     roomy = λ k h. roomy-new k h (decLe (suc k) (length (w .accounts)));
-    rooms = lives-append (w .accounts) (new ∷ []) ∙ omega (arith, g .rooms, held-set (w .desk .tickets) i (newTicket (serialOf (w .desk .serial .0 + 1)) (w .desk .edition)) inside, freed, ap {B = ℕ} (λ (x : Bool). cond x 1 0) (new-held (w .desk .serial .0) (w .desk .edition)));
+    rooms = lives-append (w .accounts) (new ∷ [])
+        ∙ omega (
+          arith,
+          g .rooms,
+          held-set (w .desk .tickets) i (newTicket (serialOf (w .desk .serial .0 + 1)) (w .desk .edition)) inside,
+          freed,
+          ap {B = ℕ} (λ (x : Bool). cond x 1 0) (new-held (w .desk .serial .0) (w .desk .edition)),
+        );
   }
     where
       freed : _≡_ {A = ℕ} (cond (isHeld (ticketIn (w .desk .tickets) i)) 1 0) 0

@@ -70,7 +70,8 @@ ledger-closes w s v g = go _ (closes (w .desk) s)
         → Ledger (withAccounts w (withTicket (w .desk) i freeTicket) (onSerial (s .0) shut (w .accounts)))
     shutting i e h k hk ek =
         let open-still = live w v s k hk ek (omega (arith, e)) in
-        let held-still : isHeld (ticketIn (w .desk .tickets) i) ≡ true = subst (λ (j : ℕ). isHeld (ticketIn (w .desk .tickets) j) ≡ true) (sym e) (for-held s (ticketIn (w .desk .tickets) (roomOf (w .desk .tickets) s)) (room-for (w .desk .tickets) (wide w v) s (omega (arith, e))) .0) in
+        let held-still : isHeld (ticketIn (w .desk .tickets) i) ≡ true = subst (λ (j : ℕ). isHeld (ticketIn (w .desk .tickets) j) ≡ true) (sym e)
+        (for-held s (ticketIn (w .desk .tickets) (roomOf (w .desk .tickets) s)) (room-for (w .desk .tickets) (wide w v) s (omega (arith, e))) .0) in
         let a : _≡_ {A = ℕ} (cond (accountAt w k .closed) 0 1) 1 = ap (λ (b : Bool). cond b 0 1) open-still in
         let c : _≡_ {A = ℕ} (cond (isHeld (ticketIn (w .desk .tickets) i)) 1 0) 1 = ap (λ (b : Bool). cond b 1 0) held-still in
         subst (λ (l : List Account). Ledger (withAccounts w (withTicket (w .desk) i freeTicket) l)) (sym (changed-is w v s k hk ek shut))
@@ -85,7 +86,8 @@ ledger-feeds : (w : World) (s : Serial) (piece : Word) → Inv w → Ledger w �
 ledger-feeds w s piece v g = go _ (feeds (w .desk) s (w .table) piece)
   where
     reading : (h : roomOf (w .desk .tickets) s < 16) (r : Outcome) (more : Word) (k : ℕ) → k < length (w .accounts) → s .0 ≡ suc k
-        → Ledger (withAccounts w (fedBy (w .desk) (roomOf (w .desk .tickets) s) (ticketIn (w .desk .tickets) (roomOf (w .desk .tickets) s)) r .desk) (onSerial (s .0) (grown more) (w .accounts)))
+        → Ledger (withAccounts w (fedBy (w .desk) (roomOf (w .desk .tickets) s) (ticketIn (w .desk .tickets) (roomOf (w .desk .tickets) s)) r .desk)
+        (onSerial (s .0) (grown more) (w .accounts)))
     reading h r more k hk ek =
         let i = roomOf (w .desk .tickets) s in
         let t = ticketIn (w .desk .tickets) i in

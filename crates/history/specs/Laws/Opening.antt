@@ -52,7 +52,8 @@ module _ (w : World) (v : Inv w) (i : ℕ) (ei : i ≡ freeRoom (w .desk .ticket
   -- the room was free, and no ticket has the new serial
   free : (s : Serial) → isFor s (ticketIn rooms i) ≡ false
   free s =
-      let f : isHeld (ticketIn rooms i) ≡ false = free-held (ticketIn rooms i) (subst (λ (j : ℕ). isFree (ticketIn rooms j) ≡ true) (sym ei) (firstRoom-holds isFree rooms (omega (arith, wide w v)))) in
+      let f : isHeld (ticketIn rooms i) ≡ false = free-held (ticketIn rooms i)
+      (subst (λ (j : ℕ). isFree (ticketIn rooms j) ≡ true) (sym ei) (firstRoom-holds isFree rooms (omega (arith, wide w v)))) in
       is-false (isFor s (ticketIn rooms i)) (λ h. not-both (for-held s (ticketIn rooms i) h .0) f)
 
   unseen : 16 ≤ roomOf rooms serial
@@ -73,7 +74,8 @@ module _ (w : World) (v : Inv w) (i : ℕ) (ei : i ≡ freeRoom (w .desk .ticket
     edition = v .edition;
     force = v .force;
     kept = each (λ k a. Kept (w .edition) (w .tags) a) (v .kept) new-kept;
-    seats = each (λ k a. Seat (set rooms i ticket) a) (λ k h. seat-kept rooms (wide w v) i ticket hi (accountAt w k) (free _) (others _ (λ e. omega (arith, e, v .numbered k h, h, number))) (v .seats k h)) new-seat;
+    seats = each (λ k a. Seat (set rooms i ticket) a)
+        (λ k h. seat-kept rooms (wide w v) i ticket hi (accountAt w k) (free _) (others _ (λ e. omega (arith, e, v .numbered k h, h, number))) (v .seats k h)) new-seat;
     strangers = λ s h. le-trans (v .strangers s (stranger-less (length (w .accounts)) (length (after .accounts)) (s .0) (omega (arith, count)) h))
         (le-of-eq (sym (room-kept rooms (wide w v) i ticket hi s (free s) (others s (stranger s h)))));
     unique = unique-set rooms (wide w v) i ticket hi (v .unique) (λ s j n a b.

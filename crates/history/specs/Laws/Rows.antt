@@ -12,6 +12,7 @@ use lib.ListN.{drop, length, length-append, take}
 use lib.Seq.{length-take-le, take-all}
 use borrow.Author.Tests.{ltb-false, ltb-true}
 use Rattle.history.specs.Laws.Fed.{below-append, below-take}
+use Rattle.history.specs.Laws.Numbers.{differ}
 use Rattle.history.specs.Readings.{AsBuilt, Demanded, Row, Turn, TurnsOfBytes, inTurn, onTurn, rowThen, stoppedFull, tookAll}
 use Rattle.matching.specs.Laws.Built.{enough-iff, read-built}
 use Rattle.matching.specs.Laws.Expected.{Done, expected-alike, expected-done}
@@ -106,7 +107,7 @@ module _ (n k : ℕ) (set run : List ℕ) (ts : List Word) (b : AsBuilt n k set 
   read-did v piece list hv hp r e = go (ltb 4294967295 (length v + length piece)) (sym (read-is v piece list hv hp) ∙ e)
     where
       go : (long : Bool) → readBy (expected n k ts v (length v) (list / 2) piece) true long ≡ readTo r → r ≡ expected n k ts v (length v) (list / 2) piece
-      go true q = absurd (let z : _≡_ {A = ℕ} 0 1 = cc in omega arith)
+      go true q = differ cc
       go false q = cc
 
   -- ---- a row of them

@@ -104,7 +104,8 @@ module _ (rooms : List Ticket) (wide : length rooms ≡ 16) where
     where
       go : (j : ℕ) → isFor s (ticketIn (set rooms i freeTicket) j) ≡ true → Dec (j ≡ i) → ⊥
       go j k (yes p) = false≢true (subst (λ (x : Ticket). isFor s x ≡ true) (ap (λ (x : ℕ). ticketIn (set rooms i freeTicket) x) p ∙ set-same rooms i freeTicket (omega (arith, wide))) k)
-      go j k (no p) = p (u s j i (subst (λ (x : Ticket). isFor s x ≡ true) (set-other rooms i j freeTicket p) k) (subst (λ (x : ℕ). isFor s (ticketIn rooms x) ≡ true) (sym e) (room-for s (omega arith))))
+      go j k (no p) = p (u s j i (subst (λ (x : Ticket). isFor s x ≡ true) (set-other rooms i j freeTicket p) k)
+          (subst (λ (x : ℕ). isFor s (ticketIn rooms x) ≡ true) (sym e) (room-for s (omega arith))))
 
 -- a ticket of one serial is none of another's
 pub for-other : (s n : Serial) (t : Ticket) → isFor s t ≡ true → (s .0 ≡ n .0 → ⊥) → isFor n t ≡ false

@@ -106,7 +106,8 @@ at-fedWhole (suc most) w pre x t b small short enough =
     left some part (inr h) = omega (arith, length-drop c b, some (h .1), h .0, part)
 
     cases : ((v : World) (l : List Account) (y : Account) → Served v l y → (p : Word) → Below 256 p → length (y .bytes) + length p ≤ 4294967295 → Enough most v p
-        → Becomes v (fedWhole most (serialOf (y .serial)) p v) (v .orders) (l ++ grown p y ∷ [])) → ((f .stop ≡ S.All) × (c ≡ length b)) ⊎ ((f .stop ≡ S.Full) × (c < length b) × (w .desk .records .count ≡ 0 → 0 < c))
+        → Becomes v (fedWhole most (serialOf (y .serial)) p v) (v .orders) (l ++ grown p y ∷ []))
+        → ((f .stop ≡ S.All) × (c ≡ length b)) ⊎ ((f .stop ≡ S.Full) × (c < length b) × (w .desk .records .count ≡ 0 → 0 < c))
         → Becomes w (actFeed n b ∷ afterFull (F.Fed c (f .records) (f .stop)) more w1) (w .orders) (pre ++ grown b x ∷ [])
     cases more-feeds (inl q) =
         subst (λ (y : Stop). Becomes w (actFeed n b ∷ afterFull (F.Fed c (f .records) y) more w1) (w .orders) (pre ++ grown b x ∷ [])) (sym (q .0))
@@ -142,4 +143,5 @@ pub at-shutIf : (b : Bool) (w : World) (pre : List Account) (x : Account) → Se
 at-shutIf true w pre x t = closed-one w (t .sound) pre x (t .accounts) (t .live)
 at-shutIf false w pre x t =
     subst (λ (l : List Account). Becomes w [] (w .orders) l)
-    (t .accounts ∙ ap {B = List Account} (λ (c : Bool). pre ++ record { serial = x .serial; edition = x .edition; tags = x .tags; bytes = x .bytes; closed = c } ∷ []) (t .live)) (becomes-nothing w)
+    (t .accounts ∙ ap {B = List Account} (λ (c : Bool). pre ++ record { serial = x .serial; edition = x .edition; tags = x .tags; bytes = x .bytes; closed = c } ∷ [])
+    (t .live)) (becomes-nothing w)

@@ -148,7 +148,8 @@ module _ (os : List Order) (fine : AllFine os) (few : length os ≤ 4294967295) 
 
       four : Becomes w3 (shutIf (a .closed) n w3) (take (a .edition) os) (pre ++ a ∷ [])
       four =
-          subst₂ (λ (l : List Order) (b : Word). Becomes w3 (shutIf (a .closed) n w3) l (pre ++ record { serial = a .serial; edition = a .edition; tags = a .tags; bytes = b; closed = a .closed } ∷ []))
+          subst₂ (λ (l : List Order) (b : Word). Becomes w3 (shutIf (a .closed) n w3) l
+          (pre ++ record { serial = a .serial; edition = a .edition; tags = a .tags; bytes = b; closed = a .closed } ∷ []))
           (three .orders-are) bytes
           (at-shutIf (a .closed) w3 pre a1 (record { sound = s3; accounts = three .accounts-are; live = refl; now = sym (edition-is w3 s3 (a .edition) (r .upto) (three .orders-are)) }))
 
@@ -162,7 +163,8 @@ module _ (os : List Order) (fine : AllFine os) (few : length os ≤ 4294967295) 
   unfolding servedAll
   at-servedAll L ready rising cut cuts [] w pre q s above =
       let p = to-edition w pre s (length os) (s .low) (omega arith) in
-      let m : take (length os - w .edition) (drop (w .edition) os) ≡ drop (w .edition) os = take-all (length os - w .edition) (drop (w .edition) os) (omega (arith, length-drop (w .edition) os)) in
+      let m : take (length os - w .edition) (drop (w .edition) os) ≡ drop (w .edition) os =
+      take-all (length os - w .edition) (drop (w .edition) os) (omega (arith, length-drop (w .edition) os)) in
       subst₂ (λ (l : List Order) (x : List Account). Becomes w (called (drop (w .edition) os)) l x) (take-all (length os) os (omega arith)) (sym (append-nil pre) ∙ sym q)
       (subst (λ (l : List Order). Becomes w (called l) (take (length os) os) pre) m p)
   at-servedAll L ready rising cut cuts (a ∷ rest) w pre q s above =
@@ -170,11 +172,13 @@ module _ (os : List Order) (fine : AllFine os) (few : length os ≤ 4294967295) 
       let inside : k < length L = omega (arith, ap {B = ℕ} length q, length-append pre (a ∷ rest)) in
       let here : getD L k noAccount ≡ a = ap (λ (l : List Account). getD l k noAccount) q ∙ getD-at pre a rest noAccount k refl in
       let r = ready pre a rest q in
-      let one = at-servedOne w pre a s r (le-trans (above k (omega arith) inside) (le-of-eq (ap (λ (x : Account). x .edition) here))) (cut k) (cuts k inside ∙ ap (λ (x : Account). x .bytes) here) in
+      let one = at-servedOne w pre a s r (le-trans (above k (omega arith) inside) (le-of-eq (ap (λ (x : Account). x .edition) here)))
+      (cut k) (cuts k inside ∙ ap (λ (x : Account). x .bytes) here) in
       let w1 = run w (servedOne os a (cut k) w) in
       let s1 = becomes-sound w (servedOne os a (cut k) w) _ _ (s .sound) one in
       let e1 = edition-is w1 s1 (a .edition) (r .upto) (one .orders-are) in
-      let so : SoFar w1 (pre ++ a ∷ []) = record { sound = s1; accounts = one .accounts-are; orders = one .orders-are ∙ ap (λ (n : ℕ). take n os) (sym e1); low = omega (arith, e1, r .upto) } in
+      let so : SoFar w1 (pre ++ a ∷ []) =
+      record { sound = s1; accounts = one .accounts-are; orders = one .orders-are ∙ ap (λ (n : ℕ). take n os) (sym e1); low = omega (arith, e1, r .upto) } in
       let n : length (pre ++ a ∷ []) ≡ suc k = snoc-length pre a noAccount in
       let more = at-servedAll L ready rising cut cuts rest w1 (pre ++ a ∷ []) (q ∙ sym (append-assoc pre (a ∷ []) rest)) so
       (λ j l h. omega (arith, e1, rising k j (omega (arith, l, n)) h, ap (λ (x : Account). x .edition) here)) in

@@ -165,13 +165,15 @@ fed-one w s pre x e c now b small short = go _ (feeds (w .desk) (serialOf (x .se
     lawful = subst (λ (a : Account). Lawful (a .tags)) (last-is w s pre x e) (s .inv .kept (length pre) (last-in w s pre x e) .lawful)
 
     stops : ((r .stop ≡ S.All) × (r .taken ≡ length b)) ⊎ ((r .stop ≡ S.Full) × (r .taken < length b) × (w .desk .records .count ≡ 0 → 0 < r .taken))
-    stops = cases (subst (λ (o : Outcome). Done 1 8 (x .tags) (x .bytes) (length (x .bytes)) (256 - w .desk .records .count) b o) (sym due) (expected-done 1 8 (x .tags) b (x .bytes) (length (x .bytes)) (256 - w .desk .records .count)) .stopped)
+    stops = cases (subst (λ (o : Outcome). Done 1 8 (x .tags) (x .bytes) (length (x .bytes)) (256 - w .desk .records .count) b o)
+        (sym due) (expected-done 1 8 (x .tags) b (x .bytes) (length (x .bytes)) (256 - w .desk .records .count)) .stopped)
       where
         some : (v : Word) → r ≡ expected 1 8 (x .tags) (x .bytes) (length (x .bytes)) (256 - w .desk .records .count) v → r .taken < length v → w .desk .records .count ≡ 0 → 0 < r .taken
         some [] q l z = absurd (omega arith)
         some (h ∷ v) q l z = rw q (expected-advances 1 8 (x .tags) h v (x .bytes) (length (x .bytes)) (256 - w .desk .records .count) (omega (arith, lawful .few, z)))
 
-        cases : ((r .stop ≡ S.All) × (r .taken ≡ length b)) ⊎ ((r .stop ≡ S.Full) × (r .taken < length b) × (256 - w .desk .records .count < length (r .found) + length (tagsEnding (x .tags) (x .bytes ++ take (suc (r .taken)) b))))
+        cases : ((r .stop ≡ S.All) × (r .taken ≡ length b))
+            ⊎ ((r .stop ≡ S.Full) × (r .taken < length b) × (256 - w .desk .records .count < length (r .found) + length (tagsEnding (x .tags) (x .bytes ++ take (suc (r .taken)) b))))
             → ((r .stop ≡ S.All) × (r .taken ≡ length b)) ⊎ ((r .stop ≡ S.Full) × (r .taken < length b) × (w .desk .records .count ≡ 0 → 0 < r .taken))
         cases (inl q) = inl q
         cases (inr q) = inr (q .0, q .1, some b due (q .1))

@@ -1,6 +1,6 @@
 -- What the desk shows of a serial, by its account.
 use Prim.Native.Nat.{_<_, _≤_, suc, zero, ℕ}
-use mathlib.Core.Bool.{Bool, false, not, true}
+use mathlib.Core.Bool.{Bool, not, true}
 use mathlib.Core.List.{List}
 use mathlib.Core.Logic.{_⊎_, inl, inr}
 use mathlib.Core.Path.{_∙_, _≡_, ap, ap₂, refl, subst, sym}
@@ -12,6 +12,7 @@ use Rattle.desk.specs.Rooms.{roomOf, serialOf, ticketIn}
 use Rattle.desk.specs.declared.Serial.{Serial}
 use Rattle.history.specs.History.{Account, World, accountAt, noAccount, recordsDue, recordsFor, stream}
 use Rattle.history.specs.Laws.Invariant.{Inv, Stranger}
+use Rattle.history.specs.Laws.Numbers.{ltb-no}
 use Rattle.history.specs.Laws.Seats.{Seat, no-seat, seated}
 use Rattle.history.specs.Served.{TicketState, neverGiven, stateBy, stateOf, wasGiven}
 use Rattle.matching.specs.Laws.Bools.{and-both, and-l, and-r, is-false, is-true, to-T}
@@ -19,9 +20,6 @@ use Rattle.matching.specs.Laws.Bools.{and-both, and-l, and-r, is-false, is-true
 -- what an account says of its ticket, under an edition in force
 abbrev pub stateOfAccount : ℕ → Account → TicketState
 stateOfAccount edition a = stateBy true (not (a .closed)) (eqb (a .edition) edition)
-
-pub ltb-no : (m n : ℕ) → n ≤ m → ltb m n ≡ false
-ltb-no m n h = is-false (ltb m n) (λ e. omega (arith, ltb→lt m n (to-T (ltb m n) e)))
 
 module _ (w : World) (v : Inv w) where
   pub given-test : (k : ℕ) → k < length (w .accounts) → wasGiven (w .desk) (serialOf (suc k)) ≡ true
@@ -31,7 +29,7 @@ module _ (w : World) (v : Inv w) where
 
   pub state-is : (k : ℕ) → k < length (w .accounts) → stateOf (w .desk) (serialOf (suc k)) ≡ stateOfAccount (w .edition) (accountAt w k)
   unfolding stateOf
-  state-is k h = go (subst (λ (n : ℕ). Seat (w .desk .tickets) (record { serial = n; edition = accountAt w k .edition; tags = accountAt w k .tags; bytes = accountAt w k .bytes; closed = accountAt w k .closed })) (v .numbered k h) (v .seats k h))
+  state-is k h = go (subst (λ (n : ℕ). Seat (w .desk .tickets) (numbered n)) (v .numbered k h) (v .seats k h))
     where
       a : Account
       a = accountAt w k
@@ -39,7 +37,13 @@ module _ (w : World) (v : Inv w) where
       room : ℕ
       room = roomOf (w .desk .tickets) (serialOf (suc k))
 
-      go : Seat (w .desk .tickets) (record { serial = suc k; edition = a .edition; tags = a .tags; bytes = a .bytes; closed = a .closed }) → stateBy (wasGiven (w .desk) (serialOf (suc k))) (ltb room 16) (eqb (ticketIn (w .desk .tickets) room .edition .0) (w .desk .edition .0)) ≡ stateOfAccount (w .edition) a
+      -- the account under a number
+      numbered : ℕ → Account
+      numbered n = record { serial = n; edition = accountAt w k .edition; tags = accountAt w k .tags; bytes = accountAt w k .bytes; closed = accountAt w k .closed }
+
+      go : Seat (w .desk .tickets) (numbered (suc k))
+          → stateBy (wasGiven (w .desk) (serialOf (suc k))) (ltb room 16) (eqb (ticketIn (w .desk .tickets) room .edition .0) (w .desk .edition .0))
+          ≡ stateOfAccount (w .edition) a
       go (no-seat c q) =
           ap₂ (λ (x y : Bool). stateBy x y (eqb (ticketIn (w .desk .tickets) room .edition .0) (w .desk .edition .0))) (given-test k h) (ltb-no room 16 q)
           ∙ ap (λ (b : Bool). stateBy true (not b) (eqb (a .edition) (w .edition))) (sym c)
@@ -86,5 +90,6 @@ records-same w v i j e n = go (known-or-not w i n)
     go : ((k : ℕ) × (k < length (w .accounts)) × (n ≡ suc k)) ⊎ Stranger (length (w .accounts)) n → recordsFor n (stream v) ≡ recordsFor n (stream w)
     go (inl z) =
         subst (λ (x : ℕ). recordsFor x (stream v) ≡ recordsFor x (stream w)) (sym (z .2))
-        (j .records (z .0) (subst (λ (l : List Account). z .0 < length l) (sym e) (z .1)) ∙ ap (λ (l : List Account). recordsDue (getD l (z .0) noAccount)) e ∙ sym (i .records (z .0) (z .1)))
+        (j .records (z .0) (subst (λ (l : List Account). z .0 < length l) (sym e) (z .1))
+        ∙ ap (λ (l : List Account). recordsDue (getD l (z .0) noAccount)) e ∙ sym (i .records (z .0) (z .1)))
     go (inr h) = j .nobody n (subst (λ (l : List Account). Stranger (length l) n) (sym e) h) ∙ sym (i .nobody n h)
