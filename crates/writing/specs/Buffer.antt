@@ -1,7 +1,7 @@
 -- A buffer of 65,536 bytes on their way out: as many as are used wait at its front.
 use Prim.Native.Nat.{ℕ, _+_}
 use mathlib.Core.Bool.{Bool, true, false}
-use mathlib.Core.List.{List, [], _∷_}
+use mathlib.Core.List.{List, [], _∷_, _++_}
 use lib.Dec.{ltb}
 use lib.ListN.{set, take}
 
@@ -28,3 +28,13 @@ putByte b x = putBy b x (ltb (b .used) 65536)
 unfoldable pub putBytes : Buffer → List ℕ → Buffer
 putBytes b [] = b
 putBytes b (x ∷ xs) = putBytes (putByte b x) xs
+
+-- what is handed to the system meanwhile: all that waits, each time the buffer is full
+unfoldable pub handedBy : Buffer → Bool → List ℕ
+handedBy b true = []
+handedBy b false = waiting b
+
+unfoldable pub handed : Buffer → List ℕ → List ℕ
+unfolding handedBy putByte putBy
+handed b [] = []
+handed b (x ∷ xs) = handedBy b (ltb (b .used) 65536) ++ handed (putByte b x) xs

@@ -1,6 +1,5 @@
 use borrow.Author.Needs.{needs}
-use native.Mathlib.Omega.{arith}
-use Prim.Native.Nat.{_+_, _-_, _<_, _≤_}
+use Prim.Native.Nat.{_-_}
 use lib.ListN.{length}
 use mathlib.Core.Path.{_≡_, _∙_, sym, refl}
 use Rattle.writing.specs.Buffer.{buffer, putBytes}
@@ -8,9 +7,6 @@ use lib.ListN.{drop}
 use Rattle.writing.specs.Laws.Waiting.{put-next, put-last}
 use Rattle.writing.proofs.put_words.Statement.{statement}
 use Rattle.writing.proofs.put_words.Tie as tie
-use Rattle.writing.proofs.put_words.Reads as reads
-use Rattle.writing.proofs.put_words.Lts as lts
-use Rattle.writing.proofs.put_byte.Reads as put-byte-reads
 
 abbrev Inv-loop : tie.InvT-loop
 Inv-loop out₀ used words n₀ i₀ out n i = putBytes (buffer out₀ used) words ≡ putBytes (buffer out n) (drop i words)
@@ -18,34 +14,27 @@ Inv-loop out₀ used words n₀ i₀ out n i = putBytes (buffer out₀ used) wor
 abbrev μ-loop : tie.MeasureT-loop
 μ-loop out₀ used words n₀ i₀ out n i = length words - i
 
--- src/lib.rt:29:5
 loop-holds : tie.Need-loop-holds Inv-loop μ-loop
 loop-holds c = refl
 
--- src/lib.rt:30:30
 shared-slice-read-put-byte : tie.Need-shared-slice-read-put-byte Inv-loop μ-loop
 shared-slice-read-put-byte c = search needs
 
--- src/lib.rt:30:9
 put-byte-requires : tie.Need-put-byte-requires Inv-loop μ-loop
 put-byte-requires c κs = search needs
 
--- src/lib.rt:31:9
 add-i : tie.Need-add-i Inv-loop μ-loop
 add-i c = search needs
 
--- src/lib.rt:29:5
 loop-less : tie.Need-loop-less Inv-loop μ-loop
 loop-less c = search needs
 
--- src/lib.rt:29:5
 loop-again : tie.Need-loop-again Inv-loop μ-loop
 loop-again c =
     let l = c .before .before .before .before .loop in
     let a = c .before .before .before .before .before .before .args in
     l .inv ∙ put-next (buffer (l .out) (l .n)) (buffer (c .put-byte .last .0) (c .put-byte .result)) (a .words .now) (l .i) (search needs) (c .put-byte .ensures)
 
--- src/lib.rt:24:1
 returns : tie.Need-returns Inv-loop μ-loop
 returns c =
     let l = c .before .loop in

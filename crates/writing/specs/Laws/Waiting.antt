@@ -1,12 +1,15 @@
 -- What is put waits behind what waited.
 use Prim.Native.Nat.{ℕ, _+_, _<_, _≤_}
-use borrow.Author.Tests.{lt-ltb, le-ltb}
-use lib.ListN.{length, drop, getD, set, drop-of-length-le}
-use lib.Seq.{drop-cons}
-use mathlib.Core.List.{List}
-use mathlib.Core.Path.{_≡_, refl}
+use borrow.Author.Tests.{lt-ltb, le-ltb, ltb-true}
+use lib.ListN.{length, drop, getD, set, drop-of-length-le, length-set}
+use lib.Seq.{drop-cons, take-suc-set}
+use lib.Dec.{ltb}
+use mathlib.Core.Bool.{Bool, true, false}
+use mathlib.Core.List.{List, [], _∷_, _++_, append-nil, append-assoc}
+use mathlib.Core.Path.{_≡_, refl, sym, ap, _∙_}
 use native.Mathlib.Numerals.{add-one}
-use Rattle.writing.specs.Buffer.{Buffer, buffer, putBy, putByte, putBytes}
+use native.Mathlib.Omega.{arith}
+use Rattle.writing.specs.Buffer.{Buffer, buffer, waiting, putBy, putByte, putBytes, handed, handedBy}
 
 pub put-with-room : (b : Buffer) (x : ℕ) → b .used < 65536 → putByte b x ≡ buffer (set (b .bytes) (b .used) x) (b .used + 1)
 unfolding putByte putBy
@@ -24,3 +27,37 @@ put-next b c xs i h e = rw (add-one i, drop-cons xs i 0 h, e) refl
 pub put-last : (b : Buffer) (xs : List ℕ) (i : ℕ) → length xs ≤ i → putBytes b (drop i xs) ≡ b
 unfolding putBytes
 put-last b xs i h = rw (drop-of-length-le xs h) refl
+
+-- one byte: what is handed out and what waits is what waited, and the byte
+put-in-order : (b : Buffer) (x : ℕ) → length (b .bytes) ≡ 65536 → handedBy b (ltb (b .used) 65536) ++ waiting (putByte b x) ≡ waiting b ++ (x ∷ [])
+unfolding putByte putBy handedBy
+put-in-order b x h = go (ltb (b .used) 65536) refl
+  where
+    go : (t : Bool) → ltb (b .used) 65536 ≡ t → handedBy b t ++ waiting (putBy b x t) ≡ waiting b ++ (x ∷ [])
+    go true room =
+        let below : b .used < length (b .bytes) = omega (arith, h, ltb-true (b .used) 65536 room) in
+        rw (add-one (b .used), take-suc-set (b .bytes) (b .used) x below) refl
+    go false full =
+        let some : 0 < length (b .bytes) = omega (arith, h) in
+        rw (take-suc-set (b .bytes) 0 x some) refl
+
+put-length : (b : Buffer) (x : ℕ) → length (putByte b x .bytes) ≡ length (b .bytes)
+unfolding putByte putBy
+put-length b x = go (ltb (b .used) 65536)
+  where
+    go : (t : Bool) → length (putBy b x t .bytes) ≡ length (b .bytes)
+    go true = length-set (b .bytes) (b .used) x
+    go false = length-set (b .bytes) 0 x
+
+-- no byte is lost, doubled or moved: what was handed out and what waits is what waited and what was put
+pub in-order : (b : Buffer) (xs : List ℕ) → length (b .bytes) ≡ 65536 → handed b xs ++ waiting (putBytes b xs) ≡ waiting b ++ xs
+unfolding handed putBytes
+in-order b [] h = sym (append-nil (waiting b))
+in-order b (x ∷ xs) h =
+    let first = handedBy b (ltb (b .used) 65536) in
+    let next = putByte b x in
+    append-assoc first (handed next xs) (waiting (putBytes next xs))
+    ∙ ap (λ (l : List ℕ). first ++ l) (in-order next xs (put-length b x ∙ h))
+    ∙ sym (append-assoc first (waiting next) xs)
+    ∙ ap (λ (l : List ℕ). l ++ xs) (put-in-order b x h)
+    ∙ append-assoc (waiting b) (x ∷ []) xs
