@@ -2,6 +2,7 @@
 use Prim.Native.Nat.{ℕ, _+_}
 use mathlib.Core.Bool.{Bool, true, false}
 use mathlib.Core.List.{List, [], _∷_, _++_}
+use mathlib.Core.Path.{_≡_}
 use lib.Dec.{ltb}
 use lib.ListN.{set, take}
 
@@ -28,6 +29,10 @@ putByte b x = putBy b x (ltb (b .used) 65536)
 unfoldable pub putBytes : Buffer → List ℕ → Buffer
 putBytes b [] = b
 putBytes b (x ∷ xs) = putBytes (putByte b x) xs
+
+-- what a call that puts bytes makes of a buffer
+pub record Puts (before : Buffer) (xs : List ℕ) (after : Buffer) : Type 0 where
+  pub same : after ≡ putBytes before xs
 
 -- what is handed to the system meanwhile: all that waits, each time the buffer is full
 unfoldable pub handedBy : Buffer → Bool → List ℕ

@@ -1,5 +1,4 @@
 use borrow.Author.Needs.{needs}
-use mathlib.Core.Path.{sym}
 use Rattle.writing.specs.Buffer.{buffer}
 use Rattle.writing.specs.Laws.Waiting.{put-with-room, put-when-full}
 use Rattle.writing.proofs.put_byte.Statement.{statement}
@@ -12,7 +11,7 @@ add-result : tie.Need-add-result
 add-result c = search needs
 
 returns : tie.Need-returns
-returns c = let a = c .before .args in sym (put-with-room (buffer (a .out .now) (a .used)) (a .byte) (c .if1 .taken))
+returns c = let a = c .before .args in put-with-room (buffer (a .out .now) (a .used)) (a .byte) (c .if1 .taken)
 
 flush-requires : tie.Need-flush-requires
 flush-requires c κs = search needs
@@ -21,7 +20,7 @@ element-write-out-2 : tie.Need-element-write-out-2
 element-write-out-2 c = search needs
 
 returns-2 : tie.Need-returns-2
-returns-2 c = let a = c .before .before .before .args in sym (put-when-full (buffer (a .out .now) (a .used)) (a .byte) (c .before .before .if1 .left))
+returns-2 c = let a = c .before .before .before .args in put-when-full (buffer (a .out .now) (a .used)) (a .byte) (c .before .before .if1 .left)
 
 pub put-byte-spec : {M : Type 1} → statement M
 put-byte-spec =

@@ -21,7 +21,7 @@ returns : tie.Need-returns
 returns c =
     let d = c .before .before .before .decimal in
     let a = c .before .before .before .before .before .args in
-    c .put-words .ensures ∙ ap (putBytes (buffer (a .out .now) (a .used))) (d .ensures .1 .1 ∙ decimal-digits (a .number) (d .result) (search needs) (d .ensures .1 .0))
+    rw (d .ensures .1 .1, decimal-digits (a .number) (d .result) (search needs) (d .ensures .1 .0)) at (c .put-words .ensures)
 
 pub put-number-spec : {M : Type 1} → statement M
 put-number-spec =

@@ -1,21 +1,20 @@
 use borrow.Author.Needs.{needs}
 use Prim.Native.Nat.{_-_}
 use lib.ListN.{length}
-use mathlib.Core.Path.{_≡_, _∙_, sym, refl}
-use Rattle.writing.specs.Buffer.{buffer, putBytes}
-use lib.ListN.{drop}
-use Rattle.writing.specs.Laws.Waiting.{put-next, put-last}
+use Rattle.writing.specs.Buffer.{buffer, Puts}
+use lib.ListN.{take}
+use Rattle.writing.specs.Laws.Waiting.{put-none, put-next, put-all}
 use Rattle.writing.proofs.put_words.Statement.{statement}
 use Rattle.writing.proofs.put_words.Tie as tie
 
 abbrev Inv-loop : tie.InvT-loop
-Inv-loop out₀ used words n₀ i₀ out n i = putBytes (buffer out₀ used) words ≡ putBytes (buffer out n) (drop i words)
+Inv-loop out₀ used words n₀ i₀ out n i = Puts (buffer out₀ used) (take i words) (buffer out n)
 
 abbrev μ-loop : tie.MeasureT-loop
 μ-loop out₀ used words n₀ i₀ out n i = length words - i
 
 loop-holds : tie.Need-loop-holds Inv-loop μ-loop
-loop-holds c = refl
+loop-holds c = put-none _
 
 shared-slice-read-put-byte : tie.Need-shared-slice-read-put-byte Inv-loop μ-loop
 shared-slice-read-put-byte c = search needs
@@ -33,12 +32,12 @@ loop-again : tie.Need-loop-again Inv-loop μ-loop
 loop-again c =
     let l = c .before .before .before .before .loop in
     let a = c .before .before .before .before .before .before .args in
-    l .inv ∙ put-next (buffer (l .out) (l .n)) (buffer (c .put-byte .last .0) (c .put-byte .result)) (a .words .now) (l .i) (search needs) (c .put-byte .ensures)
+    put-next (a .words .now) (l .i) (search needs) (l .inv) (c .put-byte .ensures)
 
 returns : tie.Need-returns Inv-loop μ-loop
 returns c =
     let l = c .before .loop in
-    sym (l .inv ∙ put-last (buffer (l .out) (l .n)) (c .before .before .before .args .words .now) (l .i) (search needs))
+    put-all (c .before .before .before .args .words .now) (l .i) (search needs) (l .inv)
 
 pub put-words-spec : {M : Type 1} → statement M
 put-words-spec =

@@ -1,32 +1,44 @@
 -- What is put waits behind what waited.
 use Prim.Native.Nat.{ℕ, _+_, _<_, _≤_}
 use borrow.Author.Tests.{lt-ltb, le-ltb, ltb-true}
-use lib.ListN.{length, drop, getD, set, drop-of-length-le, length-set}
-use lib.Seq.{drop-cons, take-suc-set}
+use lib.ListN.{length, getD, set, take, length-set}
+use lib.Seq.{take-suc, take-suc-set, take-all}
 use lib.Dec.{ltb}
 use mathlib.Core.Bool.{Bool, true, false}
 use mathlib.Core.List.{List, [], _∷_, _++_, append-nil, append-assoc}
 use mathlib.Core.Path.{_≡_, refl, sym, ap, _∙_}
 use native.Mathlib.Numerals.{add-one}
 use native.Mathlib.Omega.{arith}
-use Rattle.writing.specs.Buffer.{Buffer, buffer, waiting, putBy, putByte, putBytes, handed, handedBy}
+use Rattle.writing.specs.Buffer.{Buffer, buffer, waiting, putBy, putByte, putBytes, Puts, handed, handedBy}
 
-pub put-with-room : (b : Buffer) (x : ℕ) → b .used < 65536 → putByte b x ≡ buffer (set (b .bytes) (b .used) x) (b .used + 1)
-unfolding putByte putBy
-put-with-room b x h = rw (lt-ltb (b .used) 65536 h) refl
+pub put-with-room : (b : Buffer) (x : ℕ) → b .used < 65536 → Puts b (x ∷ []) (buffer (set (b .bytes) (b .used) x) (b .used + 1))
+unfolding putBytes putByte putBy
+put-with-room b x h = record { same = rw (lt-ltb (b .used) 65536 h) refl }
 
-pub put-when-full : (b : Buffer) (x : ℕ) → 65536 ≤ b .used → putByte b x ≡ buffer (set (b .bytes) 0 x) 1
-unfolding putByte putBy
-put-when-full b x h = rw (le-ltb (b .used) 65536 h) refl
+pub put-when-full : (b : Buffer) (x : ℕ) → 65536 ≤ b .used → Puts b (x ∷ []) (buffer (set (b .bytes) 0 x) 1)
+unfolding putBytes putByte putBy
+put-when-full b x h = record { same = rw (le-ltb (b .used) 65536 h) refl }
 
--- the next of many bytes, and the last
-pub put-next : (b c : Buffer) (xs : List ℕ) (i : ℕ) → i < length xs → c ≡ putByte b (getD xs i 0) → putBytes b (drop i xs) ≡ putBytes c (drop (i + 1) xs)
+pub put-none : (b : Buffer) → Puts b [] b
 unfolding putBytes
-put-next b c xs i h e = rw (add-one i, drop-cons xs i 0 h, e) refl
+put-none b = record { same = refl }
 
-pub put-last : (b : Buffer) (xs : List ℕ) (i : ℕ) → length xs ≤ i → putBytes b (drop i xs) ≡ b
+put-append : (b : Buffer) (xs ys : List ℕ) → putBytes b (xs ++ ys) ≡ putBytes (putBytes b xs) ys
 unfolding putBytes
-put-last b xs i h = rw (drop-of-length-le xs h) refl
+put-append b [] ys = refl
+put-append b (x ∷ xs) ys = put-append (putByte b x) xs ys
+
+-- bytes, and then more: so a line is put part by part
+pub put-then : {b c d : Buffer} {xs ys : List ℕ} → Puts b xs c → Puts c ys d → Puts b (xs ++ ys) d
+put-then {b} {c} {d} {xs} {ys} p q =
+    record { same = q .same ∙ ap (λ (e : Buffer). putBytes e ys) (p .same) ∙ sym (put-append b xs ys) }
+
+-- the first bytes of a list, and one more
+pub put-next : {b c d : Buffer} (xs : List ℕ) (i : ℕ) → i < length xs → Puts b (take i xs) c → Puts c (getD xs i 0 ∷ []) d → Puts b (take (i + 1) xs) d
+put-next xs i h p q = rw (add-one i, take-suc xs i 0 h) (put-then p q)
+
+pub put-all : {b c : Buffer} (xs : List ℕ) (i : ℕ) → length xs ≤ i → Puts b (take i xs) c → Puts b xs c
+put-all xs i h p = rw (take-all i xs h) at p
 
 -- one byte: what is handed out and what waits is what waited, and the byte
 put-in-order : (b : Buffer) (x : ℕ) → length (b .bytes) ≡ 65536 → handedBy b (ltb (b .used) 65536) ++ waiting (putByte b x) ≡ waiting b ++ (x ∷ [])
