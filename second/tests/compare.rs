@@ -99,7 +99,7 @@ fn a_fault_is_found_and_shrunk() {
     assert!(lines[2].starts_with("second:  refused 13 "), "{said}");
     assert_eq!(lines[3], "program: refused 12");
     let file = lines[4].strip_prefix("script: ").expect("a file is named");
-    let shrink = format!("compare {} --shrink {file}", program.display());
+    let shrink = format!("{COMPARE} {} --shrink {file}", program.display());
     assert_eq!(lines[5].strip_prefix("shrink: "), Some(shrink.as_str()));
     let (code, shrunk) = compare(&folder, &program, &["--shrink", file]);
     assert_eq!(code, Some(1), "{shrunk}");

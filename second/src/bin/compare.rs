@@ -95,13 +95,15 @@ fn compare(asked: &Asked) -> io::Result<bool> {
 
 /// Says what differs, keeps the script and says how to shrink it.
 fn report(asked: &Asked, seed: u64, script: &[u8], found: &Difference) -> io::Result<()> {
-    let file = format!("difference-{seed}.txt");
+    let file = std::env::current_dir()?.join(format!("difference-{seed}.txt"));
     std::fs::write(&file, script)?;
-    let program = asked.program.display();
+    let (file, program) = (file.display(), asked.program.display());
+    // Named as it was called, so that the line can be run as it stands.
+    let compare = std::env::args().next().unwrap_or("compare".to_string());
     println!("difference: seed {seed}, calls {}", asked.calls);
     println!("{}", told(found));
     println!("script: {file}");
-    println!("shrink: compare {program} --shrink {file}");
+    println!("shrink: {compare} {program} --shrink {file}");
     Ok(())
 }
 
