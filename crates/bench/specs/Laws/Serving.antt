@@ -120,3 +120,18 @@ module _ (s : Serial) (table : List ℕ) (d : Desk) (piece : Word) (before : Buf
     served = rw (add-zero from) at (far .on now [] 0 (rw (drop-of-length-le piece h) all-taken));
     put = put-then (far .put) (put-none after);
   }
+
+-- a piece is served in one way
+module _ (s : Serial) (table : List ℕ) where
+  pub served-once : {d e f : Desk} {rest : Word} {a b : List ℕ} {m n : ℕ} → Served s table d rest e a m → Served s table d rest f b n → (e ≡ f) × (a ≡ b) × (m ≡ n)
+  served-once all-taken all-taken = (refl, refl, refl)
+  served-once all-taken (none-taken some none) = absurd (omega arith)
+  served-once {d} all-taken (some-taken some more) = absurd (omega (arith, some, fed-at-most d s table []))
+  served-once (none-taken some none) all-taken = absurd (omega arith)
+  served-once (none-taken some none) (none-taken other nothing) = (refl, refl, refl)
+  served-once (none-taken some none) (some-taken other more) = absurd (omega (arith, none, other))
+  served-once {d} (some-taken some more) all-taken = absurd (omega (arith, some, fed-at-most d s table []))
+  served-once (some-taken some more) (none-taken other nothing) = absurd (omega (arith, some, nothing))
+  served-once {d} {rest = rest} (some-taken some more) (some-taken other again) =
+      let same = served-once more again in
+      (same .0, ap (λ (l : List ℕ). restLines s table d rest ++ l) (same .1), ap (λ (k : ℕ). restTaken s table d rest + k) (same .2))
