@@ -8,7 +8,9 @@ use desk::ReplaceAnswer;
 use desk::Replacing;
 use desk::Serial;
 ghost use mathlib.Core.Path.{_≡_};
-ghost use lib.ListN.{length};
+ghost use lib.ListN.{length, take};
+ghost use Rattle.desk.specs.Calls.{newDesk};
+ghost use Rattle.desk.specs.Replace.{replaceOf, replacedRun};
 
 // 479 slots of 24 numbers: what the largest set needs.
 fn new_table() -> [u16; 11496]
@@ -17,7 +19,7 @@ fn new_table() -> [u16; 11496]
     [0u16; 11496]
 }
 
-// The first bytes of the file of the set; none where it is missing. The faults of a longer set stand in its first 580 bytes.
+// The first bytes of the file of the set; none where it is missing. A longer set is judged by its first 580 bytes (Laws.FirstBytes).
 fn read_set(bytes: &mut [u8; 4096]) -> usize {
     let fd = os::open_read(b"set.bin");
     if fd < 0 {
@@ -29,7 +31,9 @@ fn read_set(bytes: &mut [u8; 4096]) -> usize {
 }
 
 // A new desk under the set of the first n bytes.
-fn replaced(set: &[u8; 4096], n: usize, table: &mut [u16; 11496]) -> Replacing {
+fn replaced(set: &[u8; 4096], n: usize, table: &mut [u16; 11496]) -> Replacing
+    ensures { λ r. ⌜ (r ≡ replaceOf newDesk (take n (now (set .entry))) (length (now (table .entry)))) × (now (table .exit) ≡ replacedRun newDesk (take n (now (set .entry))) (now (table .entry))) ⌝ }
+{
     let bytes: &[u8] = set;
     if n < bytes.len() {
         return Desk::new().replace(&bytes[0..n], table);
