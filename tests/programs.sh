@@ -45,17 +45,32 @@ for seed in {1..20}; do
 done
 echo 'bench: 20 random cases beside the second program'
 
-# each script of tests/replay and examples with what it must answer
+# output that cannot be written: the run ends all the same
+cd "$work/million_records"
+timeout 60 "$root/target/bin/bench" >/dev/full || fail "bench with a full device ended with status $?"
+
+# each script of tests/replay and examples with what it must answer, by name and on standard input
 cd "$root"
+answer() { timeout 60 "$@" >"$work/answers" || fail "$*: ended with status $?"; }
 scripts=0
 for script in tests/replay/*.replay examples/*.replay; do
   for program in target/bin/replay "$second"; do
-    "$program" "$script" >"$work/answers" || fail "$script: $program ended with status $?"
-    same "$program on $script" "${script%.replay}.expected" "$work/answers"
+    answer "$program" "$script"
+    same "$program $script" "${script%.replay}.expected" "$work/answers"
+    answer "$program" <"$script"
+    same "$program on standard input, $script" "${script%.replay}.expected" "$work/answers"
   done
   scripts=$((scripts + 1))
 done
 echo "replay: $scripts samples"
+
+# a script that cannot be read: one line on standard error, no answer; and output that cannot be written
+for name in "$work/absent" "$work"; do
+  timeout 60 target/bin/replay "$name" >"$work/answers" 2>"$work/said" || true
+  [[ ! -s $work/answers && $(wc -l <"$work/said") == 1 ]] || fail "replay $name: $(cat "$work/answers" "$work/said")"
+done
+timeout 60 target/bin/replay examples/incident.replay >/dev/full || fail "replay with a full device ended with status $?"
+echo 'replay: scripts that cannot be read'
 
 # the comparison: equal lines, byte for byte. A difference leaves its script in target/
 cd "$root/target"
