@@ -16,6 +16,8 @@ pub mod script;
 
 pub mod differ;
 pub mod generate;
+pub mod mutate;
+pub mod report;
 pub mod rng;
 pub mod shrink;
 pub mod tally;

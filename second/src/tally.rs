@@ -37,7 +37,7 @@ impl Tally {
 }
 
 /// The refusal's number, the reason for stopping, or the first word.
-fn kind_of(answer: &str) -> String {
+pub fn kind_of(answer: &str) -> String {
     let words: Vec<&str> = answer.split(' ').take(4).collect();
     match words[..] {
         ["refused", number, ..] => format!("refused {number}"),

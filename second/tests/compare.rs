@@ -99,7 +99,7 @@ fn a_fault_is_found_and_shrunk() {
     assert!(lines[2].starts_with("second:  refused 13 "), "{said}");
     assert_eq!(lines[3], "program: refused 12");
     let file = lines[4].strip_prefix("script: ").expect("a file is named");
-    let shrink = format!("compare {} --shrink {file}", program.display());
+    let shrink = format!("{COMPARE} {} --shrink {file}", program.display());
     assert_eq!(lines[5].strip_prefix("shrink: "), Some(shrink.as_str()));
     let (code, shrunk) = compare(&folder, &program, &["--shrink", file]);
     assert_eq!(code, Some(1), "{shrunk}");
@@ -166,4 +166,22 @@ fn a_file_that_cannot_be_read() {
         ran.expect("second runs").stdout,
         b"refused 9\nline 2: not a call\n"
     );
+}
+
+#[test]
+fn fuzzing_finds_a_fault_and_agrees_with_itself() {
+    let folder = folder("fuzz");
+    let fuzz = |program: &Path| {
+        let mut command = Command::new(env!("CARGO_BIN_EXE_fuzz"));
+        command.current_dir(&folder).arg(program);
+        command.args(["--scripts", "300", "--seconds", "600"]);
+        let Output { status, stdout, .. } = command.output().expect("fuzz runs");
+        (status.code(), String::from_utf8_lossy(&stdout).into_owned())
+    };
+    let (code, said) = fuzz(Path::new(SECOND));
+    assert_eq!(code, Some(0), "{said}");
+    assert!(said.starts_with("fuzzed 300 scripts, "), "{said}");
+    let (code, said) = fuzz(&broken(&folder, "s/^refused 15$/refused 14/"));
+    assert_eq!(code, Some(1), "{said}");
+    assert!(said.contains("second:  refused 15"), "{said}");
 }

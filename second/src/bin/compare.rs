@@ -1,8 +1,9 @@
 //! `compare PROGRAM`: compares another replay program with this one, script
 //! after script; or shrinks a script on which they differ.
 
-use second::differ::{answers, difference, Difference};
+use second::differ::{answers, difference};
 use second::generate::script;
+use second::report::{report, told};
 use second::shrink::shrink;
 use second::tally::Tally;
 use std::io::{self, Write};
@@ -74,7 +75,9 @@ fn compare(asked: &Asked) -> io::Result<bool> {
         let script = script(seed, asked.calls);
         let answers = answers(&script);
         if let Some(found) = difference(&asked.program, &script, &answers)? {
-            report(asked, seed, &script, &found)?;
+            println!("difference: seed {seed}, calls {}", asked.calls);
+            let name = format!("difference-{seed}.txt");
+            report(&asked.program, &name, &script, &found)?;
             return Ok(false);
         }
         let mut last = 0;
@@ -91,25 +94,6 @@ fn compare(asked: &Asked) -> io::Result<bool> {
     let scripts = asked.scripts;
     println!("compared {scripts} scripts, {calls} calls; {tally}; 0 differences");
     Ok(true)
-}
-
-/// Says what differs, keeps the script and says how to shrink it.
-fn report(asked: &Asked, seed: u64, script: &[u8], found: &Difference) -> io::Result<()> {
-    let file = format!("difference-{seed}.txt");
-    std::fs::write(&file, script)?;
-    let program = asked.program.display();
-    println!("difference: seed {seed}, calls {}", asked.calls);
-    println!("{}", told(found));
-    println!("script: {file}");
-    println!("shrink: compare {program} --shrink {file}");
-    Ok(())
-}
-
-/// The line of the script and both answers.
-fn told(found: &Difference) -> String {
-    let (line, call) = (found.line, &found.call);
-    let (second, other) = (&found.second, &found.other);
-    format!("line {line}: {call}\nsecond:  {second}\nprogram: {other}")
 }
 
 /// Prints the shortest script found that still differs, then the difference on

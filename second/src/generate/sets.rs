@@ -55,7 +55,9 @@ fn drawn(rng: &mut Rng, alphabet: &[u8], longest: usize) -> Vec<Vec<u8>> {
 
 /// a, aa, aaa ...: as many matches at a byte as there are tags.
 pub fn nested(rng: &mut Rng) -> Vec<Vec<u8>> {
-    let count = rng.between(1, 16);
+    let any = rng.between(1, 16);
+    // Only 16 tags stop FULL with room for 15.
+    let count = rng.one_of(&[any, any, any, 16]);
     let letter = rng.one_of(&[97, 0, 255, 128]) as u8;
     let mut tags: Vec<Vec<u8>> = (1..=count).map(|length| vec![letter; length]).collect();
     if rng.once_in(2) {
