@@ -55,8 +55,8 @@ env -u CARGO_TARGET_DIR SLEETBARLEY="$PWD" tests/library/follow.sh docs/EMBEDDIN
 
 note "generated scripts: the library's answers and the second program's"
 cargo build --quiet --release --manifest-path second/Cargo.toml
-cargo test --quiet --release --manifest-path tests/replay/Cargo.toml
-cargo build --quiet --release --manifest-path tests/replay/Cargo.toml
+cargo test --quiet --release --manifest-path tests/library/replay/Cargo.toml
+cargo build --quiet --release --manifest-path tests/library/replay/Cargo.toml
 cd "$out"
 "$built/compare" "$out/examples/replay" --scripts "$scripts" --calls 400
 "$built/compare" "$built/library-replay" --scripts "$scripts" --calls 400

@@ -74,4 +74,4 @@ echo 'replay: scripts that cannot be read'
 
 # the comparison: equal lines, byte for byte. A difference leaves its script in target/
 cd "$root/target"
-"$compare" "$root/target/bin/replay" --seed 1 --scripts 200 --calls 400
+"$compare" "$root/target/bin/replay" --seed 1 --scripts 250 --calls 400
