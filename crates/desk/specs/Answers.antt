@@ -8,6 +8,7 @@ use lib.ListN.{length}
 use Rattle.desk.specs.Conditions.{Current, HasRoom, SameSlots, TooLong, ticketOf}
 use Rattle.desk.specs.Feed.{fedBy, feedOf, readOn}
 use Rattle.desk.specs.Laws.Good.{good, on-place}
+use Rattle.desk.specs.Laws.Faults.{fault-numbers}
 use Rattle.desk.specs.Laws.Rooms.{set-other, set-same}
 use Rattle.desk.specs.Laws.Shared.{held-pushAll, recordsOf-length}
 use Rattle.desk.specs.Laws.Views.{Feeds, Replaces, feed-long, feed-no-place, feed-no-ticket, feed-other-slots, feed-read, feed-stale, feeds, replace-done, replace-edition-end, replace-fault, replace-table, replaces}
@@ -18,6 +19,7 @@ use Rattle.desk.specs.Rooms.{roomOf, ticketIn}
 use Rattle.desk.specs.Shared.{held, recordsOf}
 use Rattle.desk.specs.declared.Desk.{Desk}
 use Rattle.desk.specs.declared.Feeding.{Feeding}
+use Rattle.desk.specs.declared.ReplaceAnswer.{ReplaceAnswer}
 use Rattle.desk.specs.declared.Replacing.{Replacing}
 use Rattle.desk.specs.declared.Serial.{Serial}
 use Rattle.matching.specs.Laws.AnyTable.{read-kept}
@@ -102,12 +104,15 @@ module _ (d : Desk) (s : Serial) (table : List ℕ) (piece : Word) where
         })
 
 -- what is returned with a refusal of building is returned with replace's, and nothing with EDITION
-pub replace-values : (d : Desk) (bytes : List ℕ) (len : ℕ) → (replaceNumber (replaceOf d bytes len .answer) ≡ 0 → ⊥)
-    → replaceValues (replaceOf d bytes len .answer) ≡ builtValues (builtOf 1 8 bytes len)
+pub record ReplaceValues (bytes : List ℕ) (len : ℕ) (a : ReplaceAnswer) : Type 0 where
+  pub of-building : (replaceNumber a ≡ 0 → ⊥) → (replaceNumber a ≡ 8 → ⊥) → replaceValues a ≡ builtValues (builtOf 1 8 bytes len)
+  pub of-edition : replaceNumber a ≡ 8 → replaceValues a ≡ []
+
+pub replace-values : (d : Desk) (bytes : List ℕ) (len : ℕ) → ReplaceValues bytes len (replaceOf d bytes len .answer)
 replace-values d bytes len = go _ (replaces d bytes len)
   where
-    go : (r : Replacing) → Replaces d bytes len r → (replaceNumber (r .answer) ≡ 0 → ⊥) → replaceValues (r .answer) ≡ builtValues (builtOf 1 8 bytes len)
-    go r (replace-fault fault e) n = rw e
-    go r (replace-table machine short e) n = rw e
-    go r (replace-edition-end count e l) n = rw e
-    go r (replace-done count e l) n = absurd (n refl)
+    go : (r : Replacing) → Replaces d bytes len r → ReplaceValues bytes len (r .answer)
+    go r (replace-fault fault e) = record { of-building = λ n m. rw e; of-edition = λ n. absurd (omega (arith, n, fault-numbers fault)) }
+    go r (replace-table machine short e) = record { of-building = λ n m. rw e; of-edition = λ n. absurd (omega (arith, n)) }
+    go r (replace-edition-end count e l) = record { of-building = λ n m. absurd (m refl); of-edition = λ n. refl }
+    go r (replace-done count e l) = record { of-building = λ n m. absurd (n refl); of-edition = λ n. absurd (omega (arith, n)) }

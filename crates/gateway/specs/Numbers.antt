@@ -1,6 +1,4 @@
 -- Answers as numbers, for C and Rust: the number of a refusal in the document's table and what is returned with it; or 0 and what the call gives.
-use Rattle.tables.specs.declared.Built.the-variants as B
-use Rattle.tables.specs.declared.Needed.the-variants as N
 use Rattle.reading.specs.declared.Ending.the-variants as E
 use Prim.Native.Nat.{ℕ}
 use mathlib.Core.List.{List, [], _∷_}
@@ -12,32 +10,25 @@ use Rattle.desk.specs.declared.OpenAnswer.{OpenAnswer}
 use Rattle.desk.specs.declared.ReplaceAnswer.{ReplaceAnswer}
 use Rattle.desk.specs.declared.TakeAnswer.{TakeAnswer}
 use Rattle.gateway.specs.declared.answers.Answer.{Answer}
-use Rattle.reading.specs.Outside.{readNumber}
+use Rattle.reading.specs.Outside.{readNumber, readValues}
 use Rattle.reading.specs.declared.Ending.{Ending}
 use Rattle.reading.specs.declared.SplitAnswer.{SplitAnswer}
 use Rattle.reading.specs.declared.WholeAnswer.{WholeAnswer}
-use Rattle.tables.specs.Building.{builtNumber, builtValues}
+use Rattle.tables.specs.Building.{builtNumber, builtValues, neededNumber, neededValues}
 use Rattle.tables.specs.declared.Built.{Built}
 use Rattle.tables.specs.declared.Needed.{Needed}
-use Rattle.tagset.specs.Answer.{faultNumber, faultValues}
 
 -- a number and up to four values; those that there aren't are 0
 abbrev pub answerOf : ℕ → List ℕ → Answer
 answerOf n values = record { refusal = n; a = getD values 0 0; b = getD values 1 0; c = getD values 2 0; d = getD values 3 0 }
 
 -- building: the number of tags, or what is returned with its refusal
-abbrev pub builtGives : Built → List ℕ
-builtGives (B.Tags count) = count ∷ []
-builtGives (B.Fault fault) = builtValues (B.Fault fault)
-builtGives (B.Table machine short) = builtValues (B.Table machine short)
-
 abbrev pub builtAnswer : Built → Answer
-builtAnswer r = answerOf (builtNumber r) (builtGives r)
+builtAnswer r = answerOf (builtNumber r) (builtValues r)
 
 -- the size query: the slots of the split and of the whole-byte layout
 abbrev pub neededAnswer : Needed → Answer
-neededAnswer (N.Slots split whole) = answerOf 0 (split ∷ whole ∷ [])
-neededAnswer (N.Fault fault) = answerOf (faultNumber fault) (faultValues fault)
+neededAnswer r = answerOf (neededNumber r) (neededValues r)
 
 -- the desk's calls, each by the desk's own numbers and values
 abbrev pub replaceAnswer : ReplaceAnswer → Answer
@@ -58,7 +49,7 @@ takeAnswer r = answerOf (takeNumber r) (takeValues r)
 -- a read outside: the bytes taken, why it stopped, and the records written
 abbrev pub readAnswer : ℕ → ℕ → Ending → Answer
 readAnswer count records (E.Stopped stop) = answerOf 0 (count ∷ stopNumber stop ∷ records ∷ [])
-readAnswer count records (E.Refused why) = answerOf (readNumber why) []
+readAnswer count records (E.Refused why) = answerOf (readNumber why) (readValues why)
 
 abbrev pub splitSaid : SplitAnswer → Answer
 splitSaid r = readAnswer (r .taken) (r .records) (r .ending)

@@ -46,7 +46,10 @@ abbrev pub wholeBy : ℕ → ReadOf → WholeAnswer
 wholeBy place (refusedRead why) = record { taken = 0; place = place; records = 0; ending = Refused why }
 wholeBy place (readTo r) = record { taken = r .taken; place = getD (r .place) 0 0; records = length (r .found); ending = Stopped (r .stop) }
 
--- the number of a refusal in the table of refusals; nothing is returned with it
+-- the number of a refusal in the table of refusals, and what is returned with it: nothing
 abbrev pub readNumber : ReadRefusal → ℕ
 readNumber Place = 15
 readNumber Long = 14
+
+abbrev pub readValues : ReadRefusal → List ℕ
+readValues why = []

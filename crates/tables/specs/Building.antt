@@ -59,13 +59,21 @@ neededBy (goodSet ts) = N.Slots (mostStates 1 ts 0 8) (mostStates 8 ts 0 1)
 unfoldable pub neededOf : List ℕ → Needed
 neededOf bytes = neededBy (setOf bytes)
 
--- the number of an answer in the table of refusals, 0 where it is none, and what is returned with it
+-- the number of an answer in the table of refusals, 0 where it is none; and what is returned with it, or given
 abbrev pub builtNumber : Built → ℕ
 builtNumber (B.Tags count) = 0
 builtNumber (B.Fault fault) = faultNumber fault
 builtNumber (B.Table machine needs) = 7
 
 abbrev pub builtValues : Built → List ℕ
-builtValues (B.Tags count) = []
+builtValues (B.Tags count) = count ∷ []
 builtValues (B.Fault fault) = faultValues fault
 builtValues (B.Table machine needs) = machine ∷ needs ∷ []
+
+abbrev pub neededNumber : Needed → ℕ
+neededNumber (N.Slots split whole) = 0
+neededNumber (N.Fault fault) = faultNumber fault
+
+abbrev pub neededValues : Needed → List ℕ
+neededValues (N.Slots split whole) = split ∷ whole ∷ []
+neededValues (N.Fault fault) = faultValues fault

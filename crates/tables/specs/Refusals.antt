@@ -3,7 +3,6 @@ use Prim.Native.Nat.{_<_, _≤_, ℕ}
 use mathlib.Core.List.{List, [], _∷_}
 use mathlib.Core.Path.{_≡_}
 use lib.ListN.{length}
-use borrow.Author.Needs.{needs}
 use Rattle.matching.specs.Laws.Tables.{Lowest}
 use Rattle.matching.specs.Machine.{states}
 use Rattle.matching.specs.Table.{slotsIn, tagsFor}
@@ -33,8 +32,8 @@ pub record Builds (n k : ℕ) (bytes : List ℕ) (len count : ℕ) : Type 0 wher
   pub counted : count ≡ length tags
   pub enough : Enough n k tags (slotsIn n k len)
 
--- the number and the values that building answers: set faults, then TABLE; 0 and nothing where it is done
+-- the number and the values that building answers: set faults, then TABLE; 0 and the number of tags where it is done
 pub data Answers (n k : ℕ) (bytes : List ℕ) (len : ℕ) : ℕ → List ℕ → Type 0 where
   aFault : {fault : SetFault} → Refused bytes fault → Answers n k bytes len (faultNumber fault) (faultValues fault)
   aTable : {name needs : ℕ} → TooFewSlots n k bytes len name needs → Answers n k bytes len 7 (name ∷ needs ∷ [])
-  aTags : {count : ℕ} → Builds n k bytes len count → Answers n k bytes len 0 []
+  aTags : {count : ℕ} → Builds n k bytes len count → Answers n k bytes len 0 (count ∷ [])

@@ -8,7 +8,6 @@ use mathlib.Core.Path.{_∙_, _≡_, ap, refl, subst, sym}
 use native.Mathlib.Decide.{decLt, ℕ-discrete}
 use native.Mathlib.Omega.{arith}
 use lib.ListN.{set}
-use borrow.Author.Needs.{needs}
 use Rattle.matching.specs.Laws.Built.{enough-iff}
 use Rattle.matching.specs.Laws.Tables.{Judged, Lowest, all-fit, judged, one-short}
 use Rattle.matching.specs.Machine.{states}

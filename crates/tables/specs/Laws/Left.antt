@@ -5,7 +5,6 @@ use mathlib.Core.List.{List}
 use mathlib.Core.Path.{_∙_, _≡_, ap, refl}
 use native.Mathlib.Omega.{arith}
 use lib.ListN.{drop, length, length-append, length-drop}
-use borrow.Author.Needs.{needs}
 use Rattle.matching.specs.Laws.Built.{enough-iff}
 use Rattle.matching.specs.Laws.Slots.{slots-fit}
 use Rattle.matching.specs.Laws.Tables.{built-length}
