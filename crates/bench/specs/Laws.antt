@@ -1,3 +1,4 @@
+pub mod Acts
 pub mod FirstBytes
 pub mod Lines
 pub mod Serving

@@ -2,3 +2,4 @@
 pub mod Lines
 pub mod Serving
 pub mod Laws
+pub mod Occurrences

@@ -1,8 +1,8 @@
 -- What the bench program does with a piece: it feeds what is left of it and takes every record, until all is taken or a feed takes nothing.
 use Prim.Native.Nat.{ℕ, _+_, _<_}
-use mathlib.Core.List.{List, [], _++_}
+use mathlib.Core.List.{List, [], _∷_, _++_}
 use mathlib.Core.Path.{_≡_}
-use lib.ListN.{drop, length}
+use lib.ListN.{drop, length, take}
 use Rattle.desk.specs.declared.Desk.{Desk}
 use Rattle.desk.specs.declared.FeedAnswer.{FeedAnswer}
 use Rattle.desk.specs.declared.FeedAnswer.the-variants as F
@@ -53,3 +53,9 @@ module _ (s : Serial) (table : List ℕ) where
     pub lines : List ℕ
     pub served : Served d piece (r .desk) lines (r .taken)
     pub put : Puts before lines after
+
+  -- the pieces of an input, one after another: the lines, and the bytes taken
+  pub data ServedAll : Desk → List Word → Desk → List ℕ → Word → Type 0 where
+    no-piece : {d : Desk} → ServedAll d [] d [] []
+    one-piece : {d e f : Desk} {piece : Word} {pieces : List Word} {lines more : List ℕ} {n : ℕ} {bytes : Word} → Served d piece e lines n
+        → ServedAll e pieces f more bytes → ServedAll d (piece ∷ pieces) f (lines ++ more) (take n piece ++ bytes)
