@@ -1,4 +1,0 @@
-pub mod Acts
-pub mod FirstBytes
-pub mod Lines
-pub mod Serving
