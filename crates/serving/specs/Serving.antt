@@ -6,7 +6,6 @@ use lib.ListN.{drop, length, take}
 use Rattle.desk.specs.declared.Desk.{Desk}
 use Rattle.desk.specs.declared.FeedAnswer.{FeedAnswer}
 use Rattle.desk.specs.declared.FeedAnswer.the-variants as F
-use Rattle.desk.specs.declared.Record.{Record}
 use Rattle.desk.specs.declared.Serial.{Serial}
 use Rattle.desk.specs.Feed.{feedOf}
 use Rattle.desk.specs.TakeMany.{manyOf, oldest, takeManyOf}

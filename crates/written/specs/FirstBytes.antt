@@ -1,6 +1,6 @@
 -- A set is judged by its first 580 bytes: sixteen entries of 36, and the four that make a seventeenth. So a longer one need not be read.
 use Prim.Native.Nat.{ℕ, zero, suc, _+_, _*_, _-_, _<_, _≤_}
-use mathlib.Core.List.{List, [], _∷_, _++_}
+use mathlib.Core.List.{List, [], _++_}
 use mathlib.Core.Logic.{_⊎_, inl, inr, ⊎-elim}
 use mathlib.Core.Path.{_∙_, _≡_, ap, refl, sym}
 use native.Mathlib.Nat.{eq-or-lt-of-le, eq-zero-or-pos}

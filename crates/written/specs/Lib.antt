@@ -2,3 +2,4 @@
 pub mod FirstBytes
 pub mod Laws
 pub mod Occurrences
+pub mod Whole

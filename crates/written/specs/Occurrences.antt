@@ -1,10 +1,10 @@
 -- WHAT THE BENCH PROGRAM WRITES. Under a set that is accepted, with one ticket and the list emptied whenever a feed stops, the lines of
 -- records are the occurrences of the set's tags in the bytes taken, in order, however the input is cut into pieces.
 use Rattle.desk.specs.declared.ReplaceAnswer.the-variants as R
-use Prim.Native.Nat.{ℕ, zero, suc, _+_, _<_}
+use Prim.Native.Nat.{ℕ, _+_, _<_}
 use mathlib.Core.Bool.{Bool, true, false, cond}
 use mathlib.Core.List.{List, [], _∷_, _++_, append-nil}
-use mathlib.Core.Path.{_≡_, _∙_, refl, sym, ap, subst}
+use mathlib.Core.Path.{_≡_, _∙_, refl, sym, ap}
 use native.Mathlib.Omega.{arith}
 use lib.Dec.{eqb}
 use lib.ListN.{getD, length}
@@ -46,18 +46,19 @@ only-one n (r ∷ rs) f = go (eqb (r .serial .0) n) refl (only-one n rs (λ m ot
         let none : (r ∷ recordsFor (r .serial .0) rs) ≡ [] = rw own at (f (r .serial .0) (eqb-false (r .serial .0) n e)) in
         absurd (let z : _≡_ {A = ℕ} 0 1 = cc in omega arith)
 
-abbrev accountOf : List Word → Word → Account
+abbrev pub accountOf : List Word → Word → Account
 accountOf ts bytes = record { serial = 1; edition = 1; tags = ts; bytes = bytes; closed = false }
 
 -- the set replaced and the ticket opened: what the history then says
-record Begun (ts : List Word) (w : World) (d : Desk) (table : List ℕ) : Type 0 where
-  desk-is : w .desk ≡ d
-  table-is : w .table ≡ table
-  out-is : w .out ≡ []
-  accounts-are : w .accounts ≡ accountOf ts [] ∷ []
-  empty : w .desk .records .count ≡ 0
+pub record Begun (ts : List Word) (w : World) (d : Desk) (table : List ℕ) : Type 0 where
+  pub desk-is : w .desk ≡ d
+  pub table-is : w .table ≡ table
+  pub out-is : w .out ≡ []
+  pub accounts-are : w .accounts ≡ accountOf ts [] ∷ []
+  pub edition-is : w .edition ≡ 1
+  pub empty : w .desk .records .count ≡ 0
 
-begun : (set lent : List ℕ) (ts : List Word) (edition : Edition) (count : ℕ) → setOf set ≡ goodSet ts → replaceOf newDesk set (length lent) .answer ≡ R.Replaced edition count
+pub begun : (set lent : List ℕ) (ts : List Word) (edition : Edition) (count : ℕ) → setOf set ≡ goodSet ts → replaceOf newDesk set (length lent) .answer ≡ R.Replaced edition count
     → Begun ts (step (step start (actReplace set lent)) actOpen) (openOf (replaceOf newDesk set (length lent) .desk) .desk) (replacedRun newDesk set lent)
 unfolding openOf firstRoom
 begun set lent ts edition count tags accepted = go _ (replaces newDesk set (length lent)) accepted
@@ -71,6 +72,7 @@ begun set lent ts edition count tags accepted = go _ (replaces newDesk set (leng
       desk-is = refl;
       table-is = refl;
       out-is = refl;
+      edition-is = refl;
       accounts-are = ap (λ (x : SetOf). accountOf (tagsOfSet x) [] ∷ []) tags;
       empty = refl;
     }

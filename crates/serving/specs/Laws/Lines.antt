@@ -1,10 +1,9 @@
 -- The lines of records that stand in a list as numbers.
 use Prim.Native.Nat.{ℕ, zero, suc, _+_, _*_, _%_}
-use mathlib.Core.List.{List, [], _∷_, _++_, append-assoc, append-nil}
+use mathlib.Core.List.{List, _∷_, _++_, append-assoc, append-nil}
 use mathlib.Core.Path.{_≡_, _∙_, refl, sym, ap}
 use native.Mathlib.Omega.{arith}
 use lib.ListN.{getD}
-use Rattle.desk.specs.declared.Record.{Record}
 use Rattle.desk.specs.declared.Records.{Records}
 use Rattle.desk.specs.TakeMany.{oldest, recordNumbers}
 use Rattle.desk.specs.Shared.{noRecord, popped}

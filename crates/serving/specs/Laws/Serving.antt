@@ -1,6 +1,6 @@
 -- A feed takes no more than it is given; a piece is served in one way.
 use Prim.Native.Nat.{ℕ, _+_, _*_, _-_, _<_, _≤_}
-use mathlib.Core.List.{List, [], _++_, append-assoc, append-nil}
+use mathlib.Core.List.{List, [], _++_, append-assoc}
 use mathlib.Core.Path.{_≡_, _∙_, refl, sym, ap, subst}
 use native.Mathlib.Nat.{zero-add, add-zero, add-assoc, min-le-right}
 use native.Mathlib.Omega.{arith}
@@ -15,7 +15,7 @@ use Rattle.desk.specs.Rooms.{ticketIn, roomOf}
 use Rattle.matching.specs.Laws.AnyTable.{read-kept}
 use Rattle.matching.specs.Table.{slotsIn}
 use Rattle.matching.specs.Words.{Word}
-use Rattle.desk.specs.TakeMany.{listTaken, manyOf, oldest, recordNumbers, takeManyOf}
+use Rattle.desk.specs.TakeMany.{listTaken, manyOf, oldest, takeManyOf}
 use Rattle.desk.specs.declared.TakingMany.{TakingMany}
 use Rattle.serving.specs.Laws.Lines.{numbered-lines}
 use Rattle.serving.specs.Lines.{linesOf, recordLines}

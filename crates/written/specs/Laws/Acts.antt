@@ -1,6 +1,5 @@
 -- Serving a piece is a history of calls: feeds, each followed by as many takings as there are records.
 use Rattle.desk.specs.declared.FeedAnswer.the-variants as F
-use Rattle.desk.specs.declared.TakeAnswer.the-variants as K
 use Prim.Native.Nat.{ℕ, zero, suc, _+_, _-_}
 use mathlib.Core.Bool.{Bool, true, false, cond}
 use mathlib.Core.List.{List, [], _∷_, _++_, append-assoc, append-nil}
@@ -8,9 +7,9 @@ use mathlib.Core.Path.{_≡_, _∙_, refl, sym, ap, ap₂, subst}
 use native.Mathlib.Nat.{min-eq-left, min-le-left, sub-zero}
 use native.Mathlib.Omega.{arith}
 use lib.Dec.{eqb}
-use lib.ListN.{drop, length, replicate, take}
+use lib.ListN.{drop, replicate, take}
 use lib.Seq.{take-add}
-use Rattle.desk.specs.Calls.{takeOf, withRecords}
+use Rattle.desk.specs.Calls.{takeOf}
 use Rattle.desk.specs.Feed.{feedOf}
 use Rattle.desk.specs.Laws.Good.{good}
 use Rattle.desk.specs.Laws.TakeMany.{Takings, many-takings, no-more, one-more, take-many-reached}
@@ -23,7 +22,7 @@ use Rattle.desk.specs.declared.FeedAnswer.{FeedAnswer}
 use Rattle.desk.specs.declared.Record.{Record}
 use Rattle.desk.specs.declared.Serial.{Serial}
 use Rattle.desk.specs.declared.TakeAnswer.{TakeAnswer}
-use Rattle.history.specs.History.{Account, Act, AllBytes, World, actFeed, actTake, feeding, grown, handedOut, onSerial, run, step, withAccounts}
+use Rattle.history.specs.History.{Account, Act, AllBytes, World, actFeed, actTake, feeding, grown, handedOut, onSerial, run, step}
 use Rattle.history.specs.Laws.Becomes.{run-append}
 use Rattle.matching.specs.Words.{AllBelow, Below, Word}
 use Rattle.serving.specs.Lines.{linesOf, recordLine}
@@ -90,6 +89,12 @@ module _ (w : World) (s : Serial) (piece : Word) (d : Desk) where
   fed-out (F.Stale e) = refl
   fed-out F.Long = refl
 
+  fed-edition : (a : FeedAnswer) → feeding w s piece d a .edition ≡ w .edition
+  fed-edition (F.Fed taken records stop) = refl
+  fed-edition F.NoTicket = refl
+  fed-edition (F.Stale e) = refl
+  fed-edition F.Long = refl
+
   fed-accounts : (a : FeedAnswer) → feeding w s piece d a .accounts ≡ onSerial (s .0) (grown (take (takenBy a) piece)) (w .accounts)
   fed-accounts (F.Fed taken records stop) = refl
   fed-accounts F.NoTicket = sym (grown-none (s .0) (w .accounts))
@@ -105,6 +110,7 @@ pub record Comes (w : World) (s : Serial) (taken : Word) (e : Desk) (lines : Lis
   pub desk-is : run w acts .desk ≡ e
   pub table-is : run w acts .table ≡ w .table
   pub out-is : run w acts .out ≡ w .out ++ records
+  pub edition-is : run w acts .edition ≡ w .edition
   pub accounts-are : run w acts .accounts ≡ onSerial (s .0) (grown taken) (w .accounts)
   pub reached : Reached (w .desk) → Reached e
   pub empty : Reached (w .desk) → w .desk .records .count ≡ 0 → e .records .count ≡ 0
@@ -130,6 +136,7 @@ rest-comes w s rest below = record {
   desk-is = ap (λ (x : World). x .desk) taken;
   table-is = ap (λ (x : World). x .table) taken ∙ fed-table w s rest fed answer;
   out-is = ap (λ (x : World). x .out) taken ∙ ap (λ (l : List Record). l ++ oldest m (fed .records)) (fed-out w s rest fed answer);
+  edition-is = ap (λ (x : World). x .edition) taken ∙ fed-edition w s rest fed answer;
   accounts-are = ap (λ (x : World). x .accounts) taken ∙ fed-accounts w s rest fed answer;
   reached = λ r. take-many-reached fed 1024 (byCall r (callFeed s (w .table) rest));
   empty = λ r none. emptied fed (byCall r (callFeed s (w .table) rest));
@@ -150,7 +157,7 @@ rest-comes w s rest below = record {
     taken : run after (replicate m actTake) ≡ withOut after (restDesk s (w .table) (w .desk) rest) (after .out ++ oldest m (fed .records))
     taken = takes-run after (fed-desk w s rest fed answer) (many-takings m fed (min-le-left (fed .records .count) 256))
 
-below-rest : (n : ℕ) (x : Word) → Below 256 x → Below 256 (drop n x)
+pub below-rest : (n : ℕ) (x : Word) → Below 256 x → Below 256 (drop n x)
 below-rest zero x h = h
 below-rest (suc n) [] h = h
 below-rest (suc n) (c ∷ x) h = below-rest n x (h .1)
@@ -162,12 +169,12 @@ lines-append (r ∷ a) b =
     let line = recordLine (r .serial .0) (r .end) (r .tag .0) in
     ap (λ (l : List ℕ). line ++ l) (lines-append a b) ∙ sym (append-assoc line (linesOf a) (linesOf b))
 
-bytes-append : (a b : List Act) → AllBytes a → AllBytes b → AllBytes (a ++ b)
+pub bytes-append : (a b : List Act) → AllBytes a → AllBytes b → AllBytes (a ++ b)
 bytes-append [] b h k = k
 bytes-append (x ∷ a) b h k = (h .0, bytes-append a b (h .1) k)
 
 -- what a feed of the rest comes to, by the desk and the table that it meets
-rest-comes-by : (w : World) (s : Serial) (table : List ℕ) (d : Desk) (rest : Word) → w .desk ≡ d → w .table ≡ table → Below 256 rest
+pub rest-comes-by : (w : World) (s : Serial) (table : List ℕ) (d : Desk) (rest : Word) → w .desk ≡ d → w .table ≡ table → Below 256 rest
     → Comes w s (take (restTaken s table d rest) rest) (restDesk s table d rest) (restLines s table d rest)
 rest-comes-by w s table d rest at lent below = rw (← at, ← lent) (rest-comes w s rest below)
 
@@ -185,6 +192,7 @@ comes-then w s x y c next = record {
       ∙ next .out-is
       ∙ ap (λ (l : List Record). l ++ next .records) (c .out-is)
       ∙ append-assoc (w .out) (c .records) (next .records);
+  edition-is = ap (λ (v : World). v .edition) (run-append w (c .acts) (next .acts)) ∙ next .edition-is ∙ c .edition-is;
   accounts-are =
       ap (λ (v : World). v .accounts) (run-append w (c .acts) (next .acts))
       ∙ next .accounts-are
@@ -205,6 +213,7 @@ comes-none w s at = record {
   desk-is = at;
   table-is = refl;
   out-is = sym (append-nil (w .out));
+  edition-is = refl;
   accounts-are = sym (grown-none (s .0) (w .accounts));
   reached = λ r. subst Reached at r;
   empty = λ r none. ap (λ (x : Desk). x .records .count) (sym at) ∙ none;
