@@ -1,7 +1,4 @@
 // The bench program (document 01): feeds input.bin to one ticket under the set of set.bin, and writes every record.
-mod lines;
-mod serving;
-
 use desk::Desk;
 use desk::OpenAnswer;
 use desk::ReplaceAnswer;
@@ -19,7 +16,7 @@ fn new_table() -> [u16; 11496]
     [0u16; 11496]
 }
 
-// The first bytes of the file of the set; none where it is missing. A longer set is judged by its first 580 bytes (Laws.FirstBytes).
+// The first bytes of the file of the set; none where it is missing. A longer set is judged by its first 580 bytes (written, FirstBytes).
 fn read_set(bytes: &mut [u8; 4096]) -> usize {
     let fd = os::open_read(b"set.bin");
     if fd < 0 {
@@ -55,6 +52,73 @@ fn serial_of(answer: OpenAnswer) -> Serial {
     }
 }
 
+// The desk and the bytes that wait after a piece, and whether there may be more.
+struct Turn {
+    desk: Desk,
+    used: usize,
+    more: bool,
+}
+
+// Reads a piece of at most 4,096 bytes and feeds it.
+fn next_piece(
+    fd: i32,
+    desk: Desk,
+    serial: Serial,
+    table: &[u16; 11496],
+    out: &mut [u8; 65536],
+    used: usize,
+) -> Turn {
+    let mut piece = io::buffer();
+    let n = io::read_full(fd, &mut piece);
+    if n == 0 {
+        return Turn {
+            desk,
+            used,
+            more: false,
+        };
+    }
+    let fed = serving::feed_piece(desk, serial, table, &piece[..n], out, used);
+    let next = fed.desk;
+    Turn {
+        desk: next,
+        used: fed.used,
+        more: fed.taken == n,
+    }
+}
+
+// The bytes taken by the one ticket, whose room is the first.
+fn taken_in_all(desk: Desk) -> u32 {
+    let tickets = desk.tickets;
+    let ticket = tickets[0];
+    ticket.taken
+}
+
+// Feeds piece after piece to the end of the input, or to a piece that is not taken whole. Nothing says that an input ends: a count
+// of turns that no run uses up does.
+fn feed_all(
+    fd: i32,
+    desk: Desk,
+    serial: Serial,
+    table: &[u16; 11496],
+    out: &mut [u8; 65536],
+    used: usize,
+) -> usize {
+    let mut now = desk;
+    let mut put = used;
+    let mut turns = u64::MAX;
+    while turns > 0 {
+        let turn = next_piece(fd, now, serial, table, out, put);
+        let next = turn.desk;
+        now = next;
+        put = turn.used;
+        if !turn.more {
+            return serving::lines::put_taken(out, put, taken_in_all(now));
+        }
+        turns -= 1;
+    }
+    put
+}
+
 // Opens the ticket and feeds it the whole input.
 fn serve(desk: Desk, table: &[u16; 11496], out: &mut [u8; 65536], used: usize) -> usize {
     let opening = desk.open();
@@ -62,7 +126,7 @@ fn serve(desk: Desk, table: &[u16; 11496], out: &mut [u8; 65536], used: usize) -
     let answer = opening.answer;
     let serial = serial_of(answer);
     let fd = os::open_read(b"input.bin");
-    serving::feed_all(fd, opened, serial, table, out, used)
+    feed_all(fd, opened, serial, table, out, used)
 }
 
 fn main() {
@@ -73,7 +137,7 @@ fn main() {
     let replacing = replaced(&set, n, &mut table);
     let desk = replacing.desk;
     let answer = replacing.answer;
-    let used = lines::put_answer(&mut out, 0, answer);
+    let used = serving::lines::put_answer(&mut out, 0, answer);
     if !is_replaced(answer) {
         writing::flush(&out, used);
         return;

@@ -1,12 +1,12 @@
 -- The digits that the kit's io writes for a number are these: its fewest decimal digits.
-use Prim.Native.Nat.{ℕ, zero, suc, _+_, _*_, _-_, _/_, _%_, _^_, _<_, _≤_}
+use Prim.Native.Nat.{ℕ, zero, suc, _+_, _-_, _/_, _%_, _^_, _<_, _≤_}
 use borrow.Author.Tests.{lt-ltb, le-ltb}
 use mathlib.Core.List.{List, [], _∷_, _++_}
 use mathlib.Core.Logic.{_⊎_, inl, inr}
 use mathlib.Core.Path.{_≡_, refl, ap}
 use native.Mathlib.Nat.{eq-zero-or-pos, div-lt-iff-lt-mul, le-div-iff-mul-le, mod-lt, mod-eq-of-lt, pow-suc, pow-le-pow-right}
 use native.Mathlib.Omega.{arith}
-use Rattle.io.specs.Digits.{digits, glyph, Fewest}
+use Rattle.io.specs.Digits.{digits, Fewest}
 use Rattle.writing.specs.Decimal.{decimalIn, decimalOf}
 
 -- a number of more digits than one is no smaller than its first digit's place

@@ -1,3 +1,0 @@
-pub mod FirstBytes
-pub mod Lines
-pub mod Serving

@@ -1,0 +1,45 @@
+use Rattle.writing.specs.Laws.Waiting.{put-then}
+use borrow.Author.Needs.{needs}
+use Rattle.serving.proofs.lines.put_accepted.Statement.{statement}
+use Rattle.serving.proofs.lines.put_accepted.Tie as tie
+
+slice-aggregate-put-words : tie.Need-slice-aggregate-put-words
+slice-aggregate-put-words c = search needs
+
+put-words-requires : tie.Need-put-words-requires
+put-words-requires c κs = search needs
+
+put-number-requires : tie.Need-put-number-requires
+put-number-requires c κs = search needs
+
+slice-aggregate-put-words-2 : tie.Need-slice-aggregate-put-words-2
+slice-aggregate-put-words-2 c = search needs
+
+put-words-requires-2 : tie.Need-put-words-requires-2
+put-words-requires-2 c κs = search needs
+
+put-number-requires-2 : tie.Need-put-number-requires-2
+put-number-requires-2 c κs = search needs
+
+put-line-end-requires : tie.Need-put-line-end-requires
+put-line-end-requires c κs = search needs
+
+returns : tie.Need-returns
+returns c =
+    put-then (c .before .before .before .before .before .before .before .before .before .put-words .ensures)
+    (put-then (c .before .before .before .before .before .before .before .put-number .ensures)
+    (put-then (c .before .before .before .before .put-words2 .ensures)
+    (put-then (c .before .before .put-number2 .ensures) (c .put-line-end .ensures))))
+
+pub put-accepted-spec : {M : Type 1} → statement M
+put-accepted-spec =
+    tie.close
+    (tie.spec
+    slice-aggregate-put-words
+    put-words-requires
+    put-number-requires
+    slice-aggregate-put-words-2
+    put-words-requires-2
+    put-number-requires-2
+    put-line-end-requires
+    returns)

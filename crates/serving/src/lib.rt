@@ -1,0 +1,100 @@
+// What the bench program does between its files: feeding a piece to the ticket, taking all records whenever a feed stops, and the lines.
+pub mod lines;
+
+use desk::Desk;
+use desk::FeedAnswer;
+use desk::Serial;
+ghost use mathlib.Core.Path.{_≡_};
+ghost use lib.ListN.{length};
+ghost use Rattle.writing.specs.Buffer.{buffer};
+ghost use Rattle.serving.specs.Serving.{takenBy, FeedsRest, FeedsPiece};
+
+// The desk and the bytes that wait after a step, and what it took.
+pub struct Fed {
+    pub desk: Desk,
+    pub used: usize,
+    pub taken: usize,
+}
+
+// A list for all records that a desk can hold, four numbers each.
+fn new_list() -> [u32; 1024]
+    ensures { λ r. ⌜ 1024 ≡ length r ⌝ }
+{
+    [0u32; 1024]
+}
+
+// The bytes that a feed took; none where it was refused.
+fn taken_by(answer: FeedAnswer) -> usize
+    ensures { λ r. ⌜ r ≡ takenBy answer ⌝ }
+{
+    match answer {
+        FeedAnswer::Fed {
+            taken,
+            records: _,
+            stop: _,
+        } => taken,
+        FeedAnswer::NoTicket => 0,
+        FeedAnswer::Stale(_) => 0,
+        FeedAnswer::Long => 0,
+    }
+}
+
+// One feed of what is left of a piece; then every record is taken and written.
+fn feed_rest(
+    desk: Desk,
+    serial: Serial,
+    table: &[u16],
+    rest: &[u8],
+    out: &mut [u8; 65536],
+    used: usize,
+) -> Fed
+    ensures { λ r. ⌜ FeedsRest serial (now (table .entry)) desk (now (rest .entry)) (buffer (now (out .entry)) used) r (buffer (now (out .exit)) (r .used)) ⌝ }
+{
+    let feeding = desk.feed(serial, table, rest);
+    let fed = feeding.desk;
+    let answer = feeding.answer;
+    let mut list = new_list();
+    let taking = fed.take_many(&mut list);
+    let next = taking.desk;
+    let put = lines::put_records(out, used, &list, taking.count);
+    Fed {
+        desk: next,
+        used: put,
+        taken: taken_by(answer),
+    }
+}
+
+// Feeds until the piece is taken, or a feed takes nothing: LONG is refused before the first byte.
+pub fn feed_piece(
+    desk: Desk,
+    serial: Serial,
+    table: &[u16],
+    piece: &[u8],
+    out: &mut [u8; 65536],
+    used: usize,
+) -> Fed
+    ensures { λ r. ⌜ FeedsPiece serial (now (table .entry)) desk (now (piece .entry)) (buffer (now (out .entry)) used) r (buffer (now (out .exit)) (r .used)) ⌝ }
+{
+    let mut now = desk;
+    let mut put = used;
+    let mut from: usize = 0;
+    while from < piece.len() {
+        let fed = feed_rest(now, serial, table, &piece[from..], out, put);
+        let next = fed.desk;
+        now = next;
+        put = fed.used;
+        if fed.taken == 0 {
+            return Fed {
+                desk: now,
+                used: put,
+                taken: from,
+            };
+        }
+        from = from + fed.taken;
+    }
+    Fed {
+        desk: now,
+        used: put,
+        taken: from,
+    }
+}
