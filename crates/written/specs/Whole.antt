@@ -73,7 +73,7 @@ module _ {ts : List Word} {before : Word} {acts : List Act} (ready : Ready ts be
       go r (feed-no-place h n m l k) q = absurd (let z : _≡_ {A = ℕ} 0 1 = cc in omega arith)
       go r (feed-read h n m l) q = absurd (let z : _≡_ {A = ℕ} 0 1 = cc in omega arith)
       go r (feed-long h n m l) q =
-          omega (arith, l, few, agrees w v (serialOf 1) 0 one refl h n .taken, ap (λ (a : Account). length (a .bytes)) account)
+          omega (arith, l, few, agrees w v (serialOf 1) 0 one refl h .taken, ap (λ (a : Account). length (a .bytes)) account)
 
   some-bytes : (c : ℕ) (piece : Word) → Below 256 (c ∷ piece) → length before + length (c ∷ piece) ≤ 4294967295 → 0 < restTaken (serialOf 1) (w .table) (w .desk) (c ∷ piece)
   some-bytes c piece below few =
