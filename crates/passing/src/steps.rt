@@ -1,7 +1,7 @@
 // One byte for all machines of a slicing: n bits each, 8 / n machines. Called with constants, each is compiled for its slicing.
 use crate::places::byte;
-use crate::places::wide;
 use matching::letters;
+use crate::places::wide;
 ghost use mathlib.Core.Path.{_≡_};
 ghost use mathlib.Core.Bool.{true};
 ghost use Prim.Native.Nat.{_+_, _*_, _/_, _<_, _≤_};
