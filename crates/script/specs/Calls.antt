@@ -1,5 +1,5 @@
 -- What call a line makes: each call of the replay script, with its numbers and bytes.
-use Prim.Native.Nat.{ℕ, zero, suc, _+_}
+use Prim.Native.Nat.{ℕ, zero, suc, _+_, _≤_, _<_}
 use mathlib.Core.Bool.{Bool, true, false, _||_, cond}
 use mathlib.Core.List.{List, [], _∷_}
 use lib.Dec.{eqb, leb, ltb}
@@ -59,6 +59,23 @@ meant place bytes (C.Build layout) = callBuild layout
 meant place bytes (C.Read layout count room n) = callRead layout count room (take (machinesOf layout) place) (take n bytes)
 meant place bytes (C.Poke at value) = callPoke at value
 meant place bytes (C.Peek at count) = callPeek at count
+
+-- a call's numbers stand within what the program holds, and its bytes within the buffer
+abbrev pub Bounded : Call → Type 0
+Bounded C.PassedOver = Unit {0}
+Bounded C.NotACall = Unit {0}
+Bounded (C.Set n) = n ≤ 4096
+Bounded (C.Lend lent) = lent ≤ 131841
+Bounded C.Replace = Unit {0}
+Bounded C.Open = Unit {0}
+Bounded (C.Feed serial n) = n ≤ 20000
+Bounded (C.Close serial) = Unit {0}
+Bounded C.Take = Unit {0}
+Bounded C.Show = Unit {0}
+Bounded (C.Build layout) = Unit {0}
+Bounded (C.Read layout count room n) = (room ≤ 2048) × (n ≤ 20000)
+Bounded (C.Poke at value) = at < 131841
+Bounded (C.Peek at count) = at + count ≤ 131841
 
 -- the name of a layout
 unfoldable pub layoutOf : List ℕ → Layouts

@@ -8,7 +8,7 @@ ghost use Prim.Native.Nat.{_+_, _*_, _<_, _≤_, _/_, _%_};
 ghost use lib.ListN.{length, getD, take};
 ghost use lib.Seq.{paste};
 ghost use Rattle.script.specs.Numbers.{digitOf, allDigits};
-ghost use Rattle.script.specs.Bytes.{bytesIn, hexOf, pairs, quotedOf, bytesOf};
+ghost use Rattle.script.specs.Bytes.{bytesIn, countOf, hexOf, pairs, quotedOf, bytesOf};
 
 // The buffer begins with so many bytes; or the word is none.
 pub enum Bytes {
@@ -42,6 +42,7 @@ fn pair(digits: &[u8], at: usize) -> u8
 fn put_pairs(buffer: &mut [u8], digits: &[u8]) -> usize
     requires { ⌜ (allDigits 16 (now digits) ≡ true) × (length (now digits) ≤ length (now buffer)) × (length (now digits) % 2 ≡ 0) ⌝ }
     ensures { λ r. ⌜ take r (now (buffer .exit)) ≡ pairs (now (digits .entry)) ⌝ }
+    ensures { λ r. ⌜ r ≤ length (now (digits .entry)) ⌝ }
 {
     let count = digits.len() / 2;
     let mut n: usize = 0;
@@ -55,6 +56,7 @@ fn put_pairs(buffer: &mut [u8], digits: &[u8]) -> usize
 fn hex(digits: &[u8], buffer: &mut [u8]) -> Bytes
     requires { ⌜ length (now digits) ≤ length (now buffer) ⌝ }
     ensures { λ r. ⌜ bytesIn (now (buffer .exit)) r ≡ hexOf (now (digits .entry)) ⌝ }
+    ensures { λ r. ⌜ countOf r ≤ length (now (digits .entry)) ⌝ }
 {
     if digits.len() % 2 != 0 {
         return Bytes::NoBytes;
@@ -70,6 +72,7 @@ fn hex(digits: &[u8], buffer: &mut [u8]) -> Bytes
 fn quoted(rest: &[u8], buffer: &mut [u8]) -> Bytes
     requires { ⌜ length (now rest) ≤ length (now buffer) ⌝ }
     ensures { λ r. ⌜ bytesIn (now (buffer .exit)) r ≡ quotedOf (now (rest .entry)) ⌝ }
+    ensures { λ r. ⌜ countOf r ≤ length (now (rest .entry)) ⌝ }
 {
     let n = reach(rest, b'"');
     if n + 1 != rest.len() {
@@ -82,6 +85,7 @@ fn quoted(rest: &[u8], buffer: &mut [u8]) -> Bytes
 pub fn bytes_of(word: &[u8], buffer: &mut [u8]) -> Bytes
     requires { ⌜ length (now word) ≤ length (now buffer) ⌝ }
     ensures { λ r. ⌜ bytesIn (now (buffer .exit)) r ≡ bytesOf (now (word .entry)) ⌝ }
+    ensures { λ r. ⌜ countOf r ≤ length (now (word .entry)) ⌝ }
 {
     if word.len() == 0 {
         return Bytes::NoBytes;

@@ -24,7 +24,7 @@ ghost use Rattle.script.specs.Words.{behind as behind·of};
 ghost use Rattle.script.specs.Numbers.{numberOf};
 ghost use Rattle.script.specs.Bytes.{bytesOf};
 ghost use Rattle.script.specs.Sets.{setOf};
-ghost use Rattle.script.specs.Calls.{callOf, callBy, meant, setBy, lendBy, feedBy, closeBy, buildBy, pokeBy, peekBy, layoutOf, machinesOf, placeIn, placeOf, readFrom, readOver, readOn};
+ghost use Rattle.script.specs.Calls.{Bounded, callOf, callBy, meant, setBy, lendBy, feedBy, closeBy, buildBy, pokeBy, peekBy, layoutOf, machinesOf, placeIn, placeOf, readFrom, readOver, readOn};
 
 pub enum Layout {
     Split,
@@ -67,6 +67,7 @@ const LARGEST: u32 = 4294967295;
 // The call of a line without its end; its bytes are put into the buffer.
 pub fn call_of(line: &[u8], buffer: &mut [u8; 20000]) -> Line
     ensures { λ r. ⌜ meant (r .place) (now (buffer .exit)) (r .call) ≡ callOf (now (line .entry)) ⌝ }
+    ensures { λ r. ⌜ Bounded (r .call) ⌝ }
 {
     if LONGEST < line.len() {
         return plain(Call::NotACall);
@@ -93,6 +94,7 @@ fn plain(call: Call) -> Line
 fn by_name(name: Name, whole: bool, words: &[u8], buffer: &mut [u8]) -> Line
     requires { ⌜ (length (now words) ≤ 20000) × (20000 ≤ length (now buffer)) ⌝ }
     ensures { λ r. ⌜ meant (r .place) (now (buffer .exit)) (r .call) ≡ callBy name whole (now (words .entry)) ⌝ }
+    ensures { λ r. ⌜ Bounded (r .call) ⌝ }
 {
     match name {
         Name::Set => plain(set(words, buffer)),
@@ -123,6 +125,7 @@ fn alone(whole: bool, call: Call) -> Call
 fn set(words: &[u8], buffer: &mut [u8]) -> Call
     requires { ⌜ (length (now words) ≤ 20000) × (20000 ≤ length (now buffer)) ⌝ }
     ensures { λ r. ⌜ ((place : List ℕ) → meant place (now (buffer .exit)) r ≡ setBy (setOf (now (words .entry)))) ⌝ }
+    ensures { λ r. ⌜ Bounded r ⌝ }
 {
     let Bytes::Are(n) = sets::set_bytes(words, buffer) else {
         return Call::NotACall;
@@ -132,6 +135,7 @@ fn set(words: &[u8], buffer: &mut [u8]) -> Call
 
 fn lend(words: &[u8]) -> Call
     ensures { λ r. ⌜ ((place bytes : List ℕ) → meant place bytes r ≡ lendBy (numberOf 131841 (now (words .entry)))) ⌝ }
+    ensures { λ r. ⌜ Bounded r ⌝ }
 {
     let Number::Is(lent) = number_of(words, 131841) else {
         return Call::NotACall;
@@ -142,6 +146,7 @@ fn lend(words: &[u8]) -> Call
 fn feed(words: &[u8], buffer: &mut [u8]) -> Call
     requires { ⌜ (length (now words) ≤ 20000) × (20000 ≤ length (now buffer)) ⌝ }
     ensures { λ r. ⌜ ((place : List ℕ) → meant place (now (buffer .exit)) r ≡ feedBy (numberOf 4294967295 (wordOf (now (words .entry)))) (bytesOf (behind·of (now (words .entry))))) ⌝ }
+    ensures { λ r. ⌜ Bounded r ⌝ }
 {
     let Number::Is(serial) = number_of(word(words), LARGEST) else {
         return Call::NotACall;
@@ -154,6 +159,7 @@ fn feed(words: &[u8], buffer: &mut [u8]) -> Call
 
 fn close(words: &[u8]) -> Call
     ensures { λ r. ⌜ ((place bytes : List ℕ) → meant place bytes r ≡ closeBy (numberOf 4294967295 (now (words .entry)))) ⌝ }
+    ensures { λ r. ⌜ Bounded r ⌝ }
 {
     let Number::Is(serial) = number_of(words, LARGEST) else {
         return Call::NotACall;
@@ -163,6 +169,7 @@ fn close(words: &[u8]) -> Call
 
 fn build(words: &[u8]) -> Call
     ensures { λ r. ⌜ ((place bytes : List ℕ) → meant place bytes r ≡ buildBy (layoutOf (now (words .entry)))) ⌝ }
+    ensures { λ r. ⌜ Bounded r ⌝ }
 {
     let Layouts::Named(layout) = names::layout_of(words) else {
         return Call::NotACall;
@@ -172,6 +179,7 @@ fn build(words: &[u8]) -> Call
 
 fn poke(words: &[u8]) -> Call
     ensures { λ r. ⌜ ((place bytes : List ℕ) → meant place bytes r ≡ pokeBy (numberOf 131840 (wordOf (now (words .entry)))) (numberOf 65535 (behind·of (now (words .entry))))) ⌝ }
+    ensures { λ r. ⌜ Bounded r ⌝ }
 {
     let Number::Is(at) = number_of(word(words), 131840) else {
         return Call::NotACall;
@@ -184,6 +192,7 @@ fn poke(words: &[u8]) -> Call
 
 fn peek(words: &[u8]) -> Call
     ensures { λ r. ⌜ ((place bytes : List ℕ) → meant place bytes r ≡ peekBy (numberOf 4294967295 (wordOf (now (words .entry)))) (numberOf 256 (behind·of (now (words .entry))))) ⌝ }
+    ensures { λ r. ⌜ Bounded r ⌝ }
 {
     let Number::Is(at) = number_of(word(words), LARGEST) else {
         return Call::NotACall;
@@ -243,6 +252,7 @@ fn place_of(words: &[u8], k: usize) -> Place
 fn read(words: &[u8], buffer: &mut [u8]) -> Line
     requires { ⌜ (length (now words) ≤ 20000) × (20000 ≤ length (now buffer)) ⌝ }
     ensures { λ r. ⌜ meant (r .place) (now (buffer .exit)) (r .call) ≡ readOn (layoutOf (wordOf (now (words .entry)))) (behind·of (now (words .entry))) ⌝ }
+    ensures { λ r. ⌜ Bounded (r .call) ⌝ }
 {
     let Layouts::Named(layout) = names::layout_of(word(words)) else {
         return plain(Call::NotACall);
@@ -254,6 +264,7 @@ fn read(words: &[u8], buffer: &mut [u8]) -> Line
 fn read_over(layout: Layout, words: &[u8], buffer: &mut [u8]) -> Line
     requires { ⌜ (length (now words) ≤ 20000) × (20000 ≤ length (now buffer)) ⌝ }
     ensures { λ r. ⌜ meant (r .place) (now (buffer .exit)) (r .call) ≡ readOver layout (now (words .entry)) ⌝ }
+    ensures { λ r. ⌜ Bounded (r .call) ⌝ }
 {
     let Number::Is(count) = number_of(word(words), LARGEST) else {
         return plain(Call::NotACall);
@@ -266,8 +277,9 @@ fn read_over(layout: Layout, words: &[u8], buffer: &mut [u8]) -> Line
 
 // PLACE... BYTES
 fn read_from(layout: Layout, count: u32, room: u32, words: &[u8], buffer: &mut [u8]) -> Line
-    requires { ⌜ (length (now words) ≤ 20000) × (20000 ≤ length (now buffer)) ⌝ }
+    requires { ⌜ (length (now words) ≤ 20000) × (20000 ≤ length (now buffer)) × (room ≤ 2048) ⌝ }
     ensures { λ r. ⌜ meant (r .place) (now (buffer .exit)) (r .call) ≡ readFrom layout count room (now (words .entry)) ⌝ }
+    ensures { λ r. ⌜ Bounded (r .call) ⌝ }
 {
     let k = machines(layout);
     let place = place_of(words, k);

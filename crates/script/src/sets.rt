@@ -64,6 +64,7 @@ fn put_entry(buffer: &mut [u8], n: usize, payload: &[u8]) -> Bytes
 fn entries(words: &[u8], buffer: &mut [u8]) -> Bytes
     requires { ⌜ 4096 ≤ length (now buffer) ⌝ }
     ensures { λ r. ⌜ bytesIn (now (buffer .exit)) r ≡ within 4096 (entriesOf (length (now (words .entry))) (now (words .entry))) ⌝ }
+    ensures { λ r. ⌜ countOf r ≤ 4096 ⌝ }
 {
     let mut rest = words;
     let mut left = words.len();
@@ -90,6 +91,7 @@ fn entries(words: &[u8], buffer: &mut [u8]) -> Bytes
 pub fn set_bytes(words: &[u8], buffer: &mut [u8]) -> Bytes
     requires { ⌜ (length (now words) ≤ length (now buffer)) × (4096 ≤ length (now buffer)) ⌝ }
     ensures { λ r. ⌜ bytesIn (now (buffer .exit)) r ≡ setOf (now (words .entry)) ⌝ }
+    ensures { λ r. ⌜ countOf r ≤ 4096 ⌝ }
 {
     if words.len() == 0 {
         return Bytes::NoBytes;
@@ -100,18 +102,8 @@ pub fn set_bytes(words: &[u8], buffer: &mut [u8]) -> Bytes
     let Bytes::Are(n) = bytes_of(words, buffer) else {
         return Bytes::NoBytes;
     };
-    if MOST < length_of(buffer, n) {
+    if MOST < n {
         return Bytes::NoBytes;
     }
     Bytes::Are(n)
-}
-
-// How many the first n bytes of a buffer are.
-fn length_of(buffer: &[u8], n: usize) -> usize
-    ensures { λ r. ⌜ r ≡ length (take n (now (buffer .entry))) ⌝ }
-{
-    if n < buffer.len() {
-        return n;
-    }
-    buffer.len()
 }

@@ -6,6 +6,7 @@ use mathlib.Core.Path.{refl, sym, ap, _∙_}
 use Rattle.script.specs.Calls.{callBy}
 use Rattle.script.specs.declared.names.Name.{Name}
 use Rattle.script.specs.Laws.Calls.{by-plain, alone-means}
+use Rattle.script.specs.Laws.Calls.{by-bounded, alone-bounded}
 
 enum-told : tie.Need-enum-told
 enum-told c = search needs
@@ -122,49 +123,49 @@ same-length : tie.Need-same-length
 same-length c = search needs
 
 returns : tie.Need-returns
-returns c = by-plain (c .before .before .before .set .last .1 .0) (c .plain .result) (c .plain .ensures) (c .before .before .before .set .ensures) ∙ sym (ap (λ (n : Name). callBy n (c .before .before .before .before .before .before .before .before .before .args .whole) (c .before .before .before .before .before .before .before .before .before .args .words .now)) (c .before .before .before .before .before .enum-told .given .1))
+returns c = (by-plain (c .before .before .before .set .last .1 .0) (c .plain .result) (c .plain .ensures) (c .before .before .before .set .ensures .0) ∙ sym (ap (λ (n : Name). callBy n (c .before .before .before .before .before .before .before .before .before .args .whole) (c .before .before .before .before .before .before .before .before .before .args .words .now)) (c .before .before .before .before .before .enum-told .given .1)), by-bounded (c .plain .result) (c .plain .ensures) (c .before .before .before .set .ensures .1))
 
 returns-2 : tie.Need-returns-2
-returns-2 c = by-plain (c .before .before .before .before .before .before .args .buffer .now) (c .plain2 .result) (c .plain2 .ensures) (λ p. c .before .lend .ensures p _) ∙ sym (ap (λ (n : Name). callBy n (c .before .before .before .before .before .before .args .whole) (c .before .before .before .before .before .before .args .words .now)) (c .before .before .enum-told2 .given .1))
+returns-2 c = (by-plain (c .before .before .before .before .before .before .args .buffer .now) (c .plain2 .result) (c .plain2 .ensures) (λ p. c .before .lend .ensures .0 p _) ∙ sym (ap (λ (n : Name). callBy n (c .before .before .before .before .before .before .args .whole) (c .before .before .before .before .before .before .args .words .now)) (c .before .before .enum-told2 .given .1)), by-bounded (c .plain2 .result) (c .plain2 .ensures) (c .before .lend .ensures .1))
 
 returns-3 : tie.Need-returns-3
-returns-3 c = by-plain (c .before .before .before .before .before .before .args .buffer .now) (c .plain3 .result) (c .plain3 .ensures) (λ p. alone-means (c .before .before .before .before .before .before .args .whole) p _ _ (c .before .alone .result) (c .before .alone .ensures)) ∙ sym (ap (λ (n : Name). callBy n (c .before .before .before .before .before .before .args .whole) (c .before .before .before .before .before .before .args .words .now)) (c .before .before .enum-told3 .given .1))
+returns-3 c = (by-plain (c .before .before .before .before .before .before .args .buffer .now) (c .plain3 .result) (c .plain3 .ensures) (λ p. alone-means (c .before .before .before .before .before .before .args .whole) p _ _ (c .before .alone .result) (c .before .alone .ensures)) ∙ sym (ap (λ (n : Name). callBy n (c .before .before .before .before .before .before .args .whole) (c .before .before .before .before .before .before .args .words .now)) (c .before .before .enum-told3 .given .1)), by-bounded (c .plain3 .result) (c .plain3 .ensures) (alone-bounded (c .before .before .before .before .before .before .args .whole) _ (c .before .alone .result) (c .before .alone .ensures) tt))
 
 returns-4 : tie.Need-returns-4
-returns-4 c = by-plain (c .before .before .before .before .before .before .args .buffer .now) (c .plain4 .result) (c .plain4 .ensures) (λ p. alone-means (c .before .before .before .before .before .before .args .whole) p _ _ (c .before .alone2 .result) (c .before .alone2 .ensures)) ∙ sym (ap (λ (n : Name). callBy n (c .before .before .before .before .before .before .args .whole) (c .before .before .before .before .before .before .args .words .now)) (c .before .before .enum-told4 .given .1))
+returns-4 c = (by-plain (c .before .before .before .before .before .before .args .buffer .now) (c .plain4 .result) (c .plain4 .ensures) (λ p. alone-means (c .before .before .before .before .before .before .args .whole) p _ _ (c .before .alone2 .result) (c .before .alone2 .ensures)) ∙ sym (ap (λ (n : Name). callBy n (c .before .before .before .before .before .before .args .whole) (c .before .before .before .before .before .before .args .words .now)) (c .before .before .enum-told4 .given .1)), by-bounded (c .plain4 .result) (c .plain4 .ensures) (alone-bounded (c .before .before .before .before .before .before .args .whole) _ (c .before .alone2 .result) (c .before .alone2 .ensures) tt))
 
 same-length-2 : tie.Need-same-length-2
 same-length-2 c = search needs
 
 returns-5 : tie.Need-returns-5
-returns-5 c = by-plain (c .before .before .before .feed .last .1 .0) (c .plain5 .result) (c .plain5 .ensures) (c .before .before .before .feed .ensures) ∙ sym (ap (λ (n : Name). callBy n (c .before .before .before .before .before .before .before .before .before .args .whole) (c .before .before .before .before .before .before .before .before .before .args .words .now)) (c .before .before .before .before .before .enum-told5 .given .1))
+returns-5 c = (by-plain (c .before .before .before .feed .last .1 .0) (c .plain5 .result) (c .plain5 .ensures) (c .before .before .before .feed .ensures .0) ∙ sym (ap (λ (n : Name). callBy n (c .before .before .before .before .before .before .before .before .before .args .whole) (c .before .before .before .before .before .before .before .before .before .args .words .now)) (c .before .before .before .before .before .enum-told5 .given .1)), by-bounded (c .plain5 .result) (c .plain5 .ensures) (c .before .before .before .feed .ensures .1))
 
 returns-6 : tie.Need-returns-6
-returns-6 c = by-plain (c .before .before .before .before .before .before .args .buffer .now) (c .plain6 .result) (c .plain6 .ensures) (λ p. c .before .close .ensures p _) ∙ sym (ap (λ (n : Name). callBy n (c .before .before .before .before .before .before .args .whole) (c .before .before .before .before .before .before .args .words .now)) (c .before .before .enum-told6 .given .1))
+returns-6 c = (by-plain (c .before .before .before .before .before .before .args .buffer .now) (c .plain6 .result) (c .plain6 .ensures) (λ p. c .before .close .ensures .0 p _) ∙ sym (ap (λ (n : Name). callBy n (c .before .before .before .before .before .before .args .whole) (c .before .before .before .before .before .before .args .words .now)) (c .before .before .enum-told6 .given .1)), by-bounded (c .plain6 .result) (c .plain6 .ensures) (c .before .close .ensures .1))
 
 returns-7 : tie.Need-returns-7
-returns-7 c = by-plain (c .before .before .before .before .before .before .args .buffer .now) (c .plain7 .result) (c .plain7 .ensures) (λ p. alone-means (c .before .before .before .before .before .before .args .whole) p _ _ (c .before .alone3 .result) (c .before .alone3 .ensures)) ∙ sym (ap (λ (n : Name). callBy n (c .before .before .before .before .before .before .args .whole) (c .before .before .before .before .before .before .args .words .now)) (c .before .before .enum-told7 .given .1))
+returns-7 c = (by-plain (c .before .before .before .before .before .before .args .buffer .now) (c .plain7 .result) (c .plain7 .ensures) (λ p. alone-means (c .before .before .before .before .before .before .args .whole) p _ _ (c .before .alone3 .result) (c .before .alone3 .ensures)) ∙ sym (ap (λ (n : Name). callBy n (c .before .before .before .before .before .before .args .whole) (c .before .before .before .before .before .before .args .words .now)) (c .before .before .enum-told7 .given .1)), by-bounded (c .plain7 .result) (c .plain7 .ensures) (alone-bounded (c .before .before .before .before .before .before .args .whole) _ (c .before .alone3 .result) (c .before .alone3 .ensures) tt))
 
 returns-8 : tie.Need-returns-8
-returns-8 c = by-plain (c .before .before .before .before .before .before .args .buffer .now) (c .plain8 .result) (c .plain8 .ensures) (λ p. alone-means (c .before .before .before .before .before .before .args .whole) p _ _ (c .before .alone4 .result) (c .before .alone4 .ensures)) ∙ sym (ap (λ (n : Name). callBy n (c .before .before .before .before .before .before .args .whole) (c .before .before .before .before .before .before .args .words .now)) (c .before .before .enum-told8 .given .1))
+returns-8 c = (by-plain (c .before .before .before .before .before .before .args .buffer .now) (c .plain8 .result) (c .plain8 .ensures) (λ p. alone-means (c .before .before .before .before .before .before .args .whole) p _ _ (c .before .alone4 .result) (c .before .alone4 .ensures)) ∙ sym (ap (λ (n : Name). callBy n (c .before .before .before .before .before .before .args .whole) (c .before .before .before .before .before .before .args .words .now)) (c .before .before .enum-told8 .given .1)), by-bounded (c .plain8 .result) (c .plain8 .ensures) (alone-bounded (c .before .before .before .before .before .before .args .whole) _ (c .before .alone4 .result) (c .before .alone4 .ensures) tt))
 
 returns-9 : tie.Need-returns-9
-returns-9 c = by-plain (c .before .before .before .before .before .before .args .buffer .now) (c .plain9 .result) (c .plain9 .ensures) (λ p. c .before .build .ensures p _) ∙ sym (ap (λ (n : Name). callBy n (c .before .before .before .before .before .before .args .whole) (c .before .before .before .before .before .before .args .words .now)) (c .before .before .enum-told9 .given .1))
+returns-9 c = (by-plain (c .before .before .before .before .before .before .args .buffer .now) (c .plain9 .result) (c .plain9 .ensures) (λ p. c .before .build .ensures .0 p _) ∙ sym (ap (λ (n : Name). callBy n (c .before .before .before .before .before .before .args .whole) (c .before .before .before .before .before .before .args .words .now)) (c .before .before .enum-told9 .given .1)), by-bounded (c .plain9 .result) (c .plain9 .ensures) (c .before .build .ensures .1))
 
 same-length-3 : tie.Need-same-length-3
 same-length-3 c = search needs
 
 returns-10 : tie.Need-returns-10
-returns-10 c = c .before .before .read .ensures ∙ sym (ap (λ (n : Name). callBy n (c .before .before .before .before .before .before .before .before .args .whole) (c .before .before .before .before .before .before .before .before .args .words .now)) (c .before .before .before .before .enum-told10 .given .1))
+returns-10 c = (c .before .before .read .ensures .0 ∙ sym (ap (λ (n : Name). callBy n (c .before .before .before .before .before .before .before .before .args .whole) (c .before .before .before .before .before .before .before .before .args .words .now)) (c .before .before .before .before .enum-told10 .given .1)), c .before .before .read .ensures .1)
 
 returns-11 : tie.Need-returns-11
-returns-11 c = by-plain (c .before .before .before .before .before .before .args .buffer .now) (c .plain10 .result) (c .plain10 .ensures) (λ p. c .before .poke .ensures p _) ∙ sym (ap (λ (n : Name). callBy n (c .before .before .before .before .before .before .args .whole) (c .before .before .before .before .before .before .args .words .now)) (c .before .before .enum-told11 .given .1))
+returns-11 c = (by-plain (c .before .before .before .before .before .before .args .buffer .now) (c .plain10 .result) (c .plain10 .ensures) (λ p. c .before .poke .ensures .0 p _) ∙ sym (ap (λ (n : Name). callBy n (c .before .before .before .before .before .before .args .whole) (c .before .before .before .before .before .before .args .words .now)) (c .before .before .enum-told11 .given .1)), by-bounded (c .plain10 .result) (c .plain10 .ensures) (c .before .poke .ensures .1))
 
 returns-12 : tie.Need-returns-12
-returns-12 c = by-plain (c .before .before .before .before .before .before .args .buffer .now) (c .plain11 .result) (c .plain11 .ensures) (λ p. c .before .peek .ensures p _) ∙ sym (ap (λ (n : Name). callBy n (c .before .before .before .before .before .before .args .whole) (c .before .before .before .before .before .before .args .words .now)) (c .before .before .enum-told12 .given .1))
+returns-12 c = (by-plain (c .before .before .before .before .before .before .args .buffer .now) (c .plain11 .result) (c .plain11 .ensures) (λ p. c .before .peek .ensures .0 p _) ∙ sym (ap (λ (n : Name). callBy n (c .before .before .before .before .before .before .args .whole) (c .before .before .before .before .before .before .args .words .now)) (c .before .before .enum-told12 .given .1)), by-bounded (c .plain11 .result) (c .plain11 .ensures) (c .before .peek .ensures .1))
 
 returns-13 : tie.Need-returns-13
-returns-13 c = by-plain (c .before .before .before .before .before .args .buffer .now) (c .plain12 .result) (c .plain12 .ensures) (λ p. refl) ∙ sym (ap (λ (n : Name). callBy n (c .before .before .before .before .before .args .whole) (c .before .before .before .before .before .args .words .now)) (c .before .enum-told13 .given .1))
+returns-13 c = (by-plain (c .before .before .before .before .before .args .buffer .now) (c .plain12 .result) (c .plain12 .ensures) (λ p. refl) ∙ sym (ap (λ (n : Name). callBy n (c .before .before .before .before .before .args .whole) (c .before .before .before .before .before .args .words .now)) (c .before .enum-told13 .given .1)), by-bounded (c .plain12 .result) (c .plain12 .ensures) (tt))
 
 pub by-name-spec : {M : Type 1} → statement M
 by-name-spec =

@@ -13,10 +13,10 @@ enum-told : tie.Need-enum-told
 enum-told c = search needs
 
 returns : tie.Need-returns
-returns c = λ place bytes. cc
+returns c = ((λ place bytes. cc), tt)
 
 returns-2 : tie.Need-returns-2
-returns-2 c = λ place bytes. cc
+returns-2 c = ((λ place bytes. cc), tt)
 
 pub close-spec : {M : Type 1} → statement M
 close-spec = tie.close (tie.spec number-of-requires enum-known-serial enum-told returns returns-2)

@@ -25,7 +25,7 @@ enum-told : tie.Need-enum-told
 enum-told c = search needs
 
 returns : tie.Need-returns
-returns c = let w = c .before .before .before .before .before .before .args .words .now in λ place. rw (number-said 4294967295 (wordOf w) NoNumber (c .before .before .number-of .ensures) (c .before .before .before .word .ensures) (c .enum-told .given .1))
+returns c = (let w = c .before .before .before .before .before .before .args .words .now in λ place. rw (number-said 4294967295 (wordOf w) NoNumber (c .before .before .number-of .ensures) (c .before .before .before .word .ensures) (c .enum-told .given .1)), tt)
 
 behind-requires : tie.Need-behind-requires
 behind-requires c κs = search needs
@@ -43,13 +43,13 @@ same-length : tie.Need-same-length
 same-length c = search needs
 
 returns-2 : tie.Need-returns-2
-returns-2 c = let w = c .before .before .before .before .before .before .before .before .before .before .before .before .before .before .args .words .now in λ place. rw (number-said 4294967295 (wordOf w) (Is (c .before .before .before .before .before .before .before .before .serial .given .0 .0)) (c .before .before .before .before .before .before .before .before .before .before .number-of .ensures) (c .before .before .before .before .before .before .before .before .before .before .before .word .ensures) (c .before .before .before .before .before .before .before .before .serial .given .1), bytes-said (behind w) (c .before .before .before .before .bytes-of .last .1 .0) NoBytes (c .before .before .before .before .bytes-of .ensures) (c .before .before .before .before .before .before .behind .ensures) (c .enum-told2 .given .1))
+returns-2 c = (let w = c .before .before .before .before .before .before .before .before .before .before .before .before .before .before .args .words .now in λ place. rw (number-said 4294967295 (wordOf w) (Is (c .before .before .before .before .before .before .before .before .serial .given .0 .0)) (c .before .before .before .before .before .before .before .before .before .before .number-of .ensures) (c .before .before .before .before .before .before .before .before .before .before .before .word .ensures) (c .before .before .before .before .before .before .before .before .serial .given .1), bytes-said (behind w) (c .before .before .before .before .bytes-of .last .1 .0) NoBytes (c .before .before .before .before .bytes-of .ensures .0) (c .before .before .before .before .before .before .behind .ensures) (c .enum-told2 .given .1)), tt)
 
 same-length-2 : tie.Need-same-length-2
 same-length-2 c = search needs
 
 returns-3 : tie.Need-returns-3
-returns-3 c = let w = c .before .before .before .before .before .before .before .before .before .before .before .before .before .before .before .args .words .now in λ place. rw (number-said 4294967295 (wordOf w) (Is (c .before .before .before .before .before .before .before .before .before .serial .given .0 .0)) (c .before .before .before .before .before .before .before .before .before .before .before .number-of .ensures) (c .before .before .before .before .before .before .before .before .before .before .before .before .word .ensures) (c .before .before .before .before .before .before .before .before .before .serial .given .1), bytes-said (behind w) (c .before .before .before .before .before .bytes-of .last .1 .0) (Are (c .before .n .given .0 .0)) (c .before .before .before .before .before .bytes-of .ensures) (c .before .before .before .before .before .before .before .behind .ensures) (c .before .n .given .1))
+returns-3 c = (let w = c .before .before .before .before .before .before .before .before .before .before .before .before .before .before .before .args .words .now in λ place. rw (number-said 4294967295 (wordOf w) (Is (c .before .before .before .before .before .before .before .before .before .serial .given .0 .0)) (c .before .before .before .before .before .before .before .before .before .before .before .number-of .ensures) (c .before .before .before .before .before .before .before .before .before .before .before .before .word .ensures) (c .before .before .before .before .before .before .before .before .before .serial .given .1), bytes-said (behind w) (c .before .before .before .before .before .bytes-of .last .1 .0) (Are (c .before .n .given .0 .0)) (c .before .before .before .before .before .bytes-of .ensures .0) (c .before .before .before .before .before .before .before .behind .ensures) (c .before .n .given .1)), omega (arith, rw (c .before .n .given .1) at (c .before .before .before .before .before .bytes-of .ensures .1), ap length (c .before .before .before .before .before .before .before .behind .ensures), length-behind (c .before .before .before .before .before .before .before .before .before .before .before .before .before .before .before .args .words .now), c .before .before .before .before .before .before .before .before .before .before .before .before .before .before .before .pre .0))
 
 pub feed-spec : {M : Type 1} → statement M
 feed-spec =

@@ -21,7 +21,7 @@ enum-told : tie.Need-enum-told
 enum-told c = search needs
 
 returns : tie.Need-returns
-returns c = let w = c .before .before .before .before .before .args .words .now in λ place bytes. rw (number-said 131840 (wordOf w) NoNumber (c .before .before .number-of .ensures) (c .before .before .before .word .ensures) (c .enum-told .given .1))
+returns c = (let w = c .before .before .before .before .before .args .words .now in λ place bytes. rw (number-said 131840 (wordOf w) NoNumber (c .before .before .number-of .ensures) (c .before .before .before .word .ensures) (c .enum-told .given .1)), tt)
 
 behind-requires : tie.Need-behind-requires
 behind-requires c κs = search needs
@@ -36,7 +36,7 @@ enum-told-2 : tie.Need-enum-told-2
 enum-told-2 c = search needs
 
 returns-2 : tie.Need-returns-2
-returns-2 c = let w = c .before .before .before .before .before .before .before .before .before .before .args .words .now in λ place bytes. rw (number-said 131840 (wordOf w) (Is (c .before .before .before .before .before .at .given .0 .0)) (c .before .before .before .before .before .before .before .number-of .ensures) (c .before .before .before .before .before .before .before .before .word .ensures) (c .before .before .before .before .before .at .given .1), number-said 65535 (behind w) NoNumber (c .before .before .number-of2 .ensures) (c .before .before .before .behind .ensures) (c .enum-told2 .given .1))
+returns-2 c = (let w = c .before .before .before .before .before .before .before .before .before .before .args .words .now in λ place bytes. rw (number-said 131840 (wordOf w) (Is (c .before .before .before .before .before .at .given .0 .0)) (c .before .before .before .before .before .before .before .number-of .ensures) (c .before .before .before .before .before .before .before .before .word .ensures) (c .before .before .before .before .before .at .given .1), number-said 65535 (behind w) NoNumber (c .before .before .number-of2 .ensures) (c .before .before .before .behind .ensures) (c .enum-told2 .given .1)), tt)
 
 cast-t8 : tie.Need-cast-t8
 cast-t8 c = search needs
@@ -45,7 +45,7 @@ cast-t9 : tie.Need-cast-t9
 cast-t9 c = omega (arith, number-most 65535 (c .before .before .before .before .behind .result .now) (c .before .value .given .0 .0) (sym (c .before .before .before .number-of2 .ensures) ∙ c .before .value .given .1))
 
 returns-3 : tie.Need-returns-3
-returns-3 c = let w = c .before .before .before .before .before .before .before .before .before .before .before .args .words .now in λ place bytes. rw (number-said 131840 (wordOf w) (Is (c .before .before .before .before .before .before .at .given .0 .0)) (c .before .before .before .before .before .before .before .before .number-of .ensures) (c .before .before .before .before .before .before .before .before .before .word .ensures) (c .before .before .before .before .before .before .at .given .1), number-said 65535 (behind w) (Is (c .before .value .given .0 .0)) (c .before .before .before .number-of2 .ensures) (c .before .before .before .before .behind .ensures) (c .before .value .given .1))
+returns-3 c = (let w = c .before .before .before .before .before .before .before .before .before .before .before .args .words .now in λ place bytes. rw (number-said 131840 (wordOf w) (Is (c .before .before .before .before .before .before .at .given .0 .0)) (c .before .before .before .before .before .before .before .before .number-of .ensures) (c .before .before .before .before .before .before .before .before .before .word .ensures) (c .before .before .before .before .before .before .at .given .1), number-said 65535 (behind w) (Is (c .before .value .given .0 .0)) (c .before .before .before .number-of2 .ensures) (c .before .before .before .before .behind .ensures) (c .before .value .given .1)), omega (arith, number-most 131840 (c .before .before .before .before .before .before .before .before .before .word .result .now) (c .before .before .before .before .before .before .at .given .0 .0) (sym (c .before .before .before .before .before .before .before .before .number-of .ensures) ∙ c .before .before .before .before .before .before .at .given .1)))
 
 pub poke-spec : {M : Type 1} → statement M
 poke-spec =

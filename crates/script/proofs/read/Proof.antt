@@ -13,6 +13,7 @@ use Rattle.script.specs.declared.names.Layouts.{Layouts}
 use Rattle.script.specs.declared.names.Layouts.the-variants.{Named, Unnamed}
 use Rattle.script.specs.Laws.Words.{length-behind}
 use Rattle.script.specs.Laws.Calls.{by-plain, layout-said}
+use Rattle.script.specs.Laws.Calls.{by-bounded}
 
 word-requires : tie.Need-word-requires
 word-requires c κs = search needs
@@ -30,7 +31,7 @@ plain-requires : tie.Need-plain-requires
 plain-requires c κs = search needs
 
 returns : tie.Need-returns
-returns c = let w = c .before .before .before .before .before .before .before .args .words .now in by-plain (c .before .before .before .before .before .before .before .args .buffer .now) (c .plain .result) (c .plain .ensures) (λ p. sym (ap (λ (x : Layouts). readOn x (behind w)) (layout-said (wordOf w) Unnamed (c .before .before .before .layout-of .ensures) (c .before .before .before .before .word .ensures) (c .before .enum-told .given .1))))
+returns c = (let w = c .before .before .before .before .before .before .before .args .words .now in by-plain (c .before .before .before .before .before .before .before .args .buffer .now) (c .plain .result) (c .plain .ensures) (λ p. sym (ap (λ (x : Layouts). readOn x (behind w)) (layout-said (wordOf w) Unnamed (c .before .before .before .layout-of .ensures) (c .before .before .before .before .word .ensures) (c .before .enum-told .given .1)))), by-bounded (c .plain .result) (c .plain .ensures) tt)
 
 behind-requires : tie.Need-behind-requires
 behind-requires c κs = search needs
@@ -42,7 +43,7 @@ same-length : tie.Need-same-length
 same-length c = search needs
 
 returns-2 : tie.Need-returns-2
-returns-2 c = let w = c .before .before .before .before .before .before .before .before .before .before .before .before .args .words .now in let l = c .before .before .before .before .before .before .layout .given .0 .0 in c .before .before .read-over .ensures ∙ ap (readOver l) (c .before .before .before .before .behind .ensures) ∙ sym (ap (λ (x : Layouts). readOn x (behind w)) (layout-said (wordOf w) (Named l) (c .before .before .before .before .before .before .before .before .layout-of .ensures) (c .before .before .before .before .before .before .before .before .before .word .ensures) (c .before .before .before .before .before .before .layout .given .1)))
+returns-2 c = (let w = c .before .before .before .before .before .before .before .before .before .before .before .before .args .words .now in let l = c .before .before .before .before .before .before .layout .given .0 .0 in c .before .before .read-over .ensures .0 ∙ ap (readOver l) (c .before .before .before .before .behind .ensures) ∙ sym (ap (λ (x : Layouts). readOn x (behind w)) (layout-said (wordOf w) (Named l) (c .before .before .before .before .before .before .before .before .layout-of .ensures) (c .before .before .before .before .before .before .before .before .before .word .ensures) (c .before .before .before .before .before .before .layout .given .1))), c .before .before .read-over .ensures .1)
 
 pub read-spec : {M : Type 1} → statement M
 read-spec =

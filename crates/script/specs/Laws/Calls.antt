@@ -2,7 +2,7 @@
 use Prim.Native.Nat.{ℕ, zero, suc, _+_, _-_, _≤_, _<_}
 use native.Mathlib.Omega.{arith}
 use native.Mathlib.Numerals.{add-one}
-use mathlib.Core.Path.{_≡_, refl, sym, ap, _∙_}
+use mathlib.Core.Path.{_≡_, refl, sym, ap, subst, _∙_}
 use mathlib.Core.Bool.{Bool, true, false, cond, _||_, or-true}
 use mathlib.Core.List.{List, [], _∷_, _++_, append-assoc, append-nil}
 use lib.Dec.{eqb, leb, ltb}
@@ -12,7 +12,7 @@ use borrow.Author.Tests.{eq-eqb, ne-eqb, le-leb, lt-leb, lt-ltb, le-ltb}
 use Rattle.script.specs.Words.{reach, wordOf, behind, skipped}
 use Rattle.script.specs.Bytes.{BytesOf, these, noBytes, bytesOf}
 use Rattle.script.specs.Numbers.{numberOf}
-use Rattle.script.specs.Calls.{CallOf, passedOver, notACall, callPeek, peekBy, NumbersOf, numbersAre, noNumbers, placeBy, placeOf, machinesOf, placeIn, readBy, readFrom, readOver, callRead, layoutOf, meant, alone, nameOf, callBy, callOf}
+use Rattle.script.specs.Calls.{CallOf, passedOver, notACall, callPeek, peekBy, NumbersOf, numbersAre, noNumbers, placeBy, placeOf, machinesOf, placeIn, readBy, readFrom, readOver, callRead, layoutOf, meant, Bounded, alone, nameOf, callBy, callOf}
 use Rattle.script.specs.declared.Call.{Call}
 use Rattle.script.specs.declared.Call.the-variants.{NotACall}
 use Rattle.script.specs.declared.Layout.{Layout}
@@ -89,6 +89,14 @@ machines-most Whole = omega arith
 -- a line without a place says what its call says
 pub by-plain : (bytes : List ℕ) {x : CallOf} (l : Line) {call : Call} → l .call ≡ call → ((place : List ℕ) → meant place bytes call ≡ x) → meant (l .place) bytes (l .call) ≡ x
 by-plain bytes l e f = ap (meant (l .place) bytes) e ∙ f (l .place)
+
+-- and keeps to its bounds
+pub by-bounded : (l : Line) {call : Call} → l .call ≡ call → Bounded call → Bounded (l .call)
+by-bounded l e h = subst Bounded (sym e) h
+
+pub alone-bounded : (whole : Bool) (call r : Call) → r ≡ cond whole call NotACall → Bounded call → Bounded r
+alone-bounded true call r e h = subst Bounded (sym e) h
+alone-bounded false call r e h = subst Bounded (sym e) tt
 
 pub alone-means : (whole : Bool) (place bytes : List ℕ) (call r : Call) → r ≡ cond whole call NotACall → meant place bytes r ≡ alone whole (meant place bytes call)
 alone-means true place bytes call r e = ap (meant place bytes) e

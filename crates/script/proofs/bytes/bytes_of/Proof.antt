@@ -11,16 +11,16 @@ use Rattle.script.specs.Laws.Words.{lent-short, rest-lent}
 use Rattle.script.specs.Laws.Bytes.{bytes-empty, bytes-alone, bytes-dash, bytes-hex, bytes-quoted, bytes-other}
 
 returns : tie.Need-returns
-returns c = sym (bytes-empty (c .before .before .before .args .word .now) (c .if1 .taken))
+returns c = (sym (bytes-empty (c .before .before .before .args .word .now) (c .if1 .taken)), omega arith)
 
 shared-slice-read-first : tie.Need-shared-slice-read-first
 shared-slice-read-first c = search needs
 
 returns-2 : tie.Need-returns-2
-returns-2 c = sym (bytes-alone (c .before .before .before .before .before .before .args .word .now) (c .before .if2 .taken) (c .if3 .taken))
+returns-2 c = (sym (bytes-alone (c .before .before .before .before .before .before .args .word .now) (c .before .if2 .taken) (c .if3 .taken)), omega arith)
 
 returns-3 : tie.Need-returns-3
-returns-3 c = sym (bytes-dash (c .before .before .before .before .before .before .args .word .now) (c .before .if2 .taken) (c .if3 .left))
+returns-3 c = (sym (bytes-dash (c .before .before .before .before .before .before .args .word .now) (c .before .if2 .taken) (c .if3 .left)), omega arith)
 
 sub-hex : tie.Need-sub-hex
 sub-hex c = search needs
@@ -38,7 +38,7 @@ same-length : tie.Need-same-length
 same-length c = search needs
 
 returns-4 : tie.Need-returns-4
-returns-4 c = let w = c .before .before .before .before .before .before .before .before .before .before .before .args .word .now in c .before .before .hex .ensures ∙ ap hexOf (rest-lent w 1) ∙ sym (bytes-hex w (c .before .before .before .before .before .if4 .taken))
+returns-4 c = (let w = c .before .before .before .before .before .before .before .before .before .before .before .args .word .now in c .before .before .hex .ensures .0 ∙ ap hexOf (rest-lent w 1) ∙ sym (bytes-hex w (c .before .before .before .before .before .if4 .taken)), let w = c .before .before .before .before .before .before .before .before .before .before .before .args .word .now in omega (arith, c .before .before .hex .ensures .1, lent-short (length w - 1) 1 w))
 
 sub-quoted : tie.Need-sub-quoted
 sub-quoted c = search needs
@@ -56,10 +56,10 @@ same-length-2 : tie.Need-same-length-2
 same-length-2 c = search needs
 
 returns-5 : tie.Need-returns-5
-returns-5 c = let w = c .before .before .before .before .before .before .before .before .before .before .before .before .args .word .now in c .before .before .quoted .ensures ∙ ap quotedOf (rest-lent w 1) ∙ sym (bytes-quoted w (c .before .before .before .before .before .if5 .taken))
+returns-5 c = (let w = c .before .before .before .before .before .before .before .before .before .before .before .before .args .word .now in c .before .before .quoted .ensures .0 ∙ ap quotedOf (rest-lent w 1) ∙ sym (bytes-quoted w (c .before .before .before .before .before .if5 .taken)), let w = c .before .before .before .before .before .before .before .before .before .before .before .before .args .word .now in omega (arith, c .before .before .quoted .ensures .1, lent-short (length w - 1) 1 w))
 
 returns-6 : tie.Need-returns-6
-returns-6 c = sym (bytes-other (c .before .before .before .before .before .before .before .args .word .now) (c .before .before .if2 .left) (c .before .if4 .left) (c .if5 .left))
+returns-6 c = (sym (bytes-other (c .before .before .before .before .before .before .before .args .word .now) (c .before .before .if2 .left) (c .before .if4 .left) (c .if5 .left)), omega arith)
 
 pub bytes-of-spec : {M : Type 1} → statement M
 bytes-of-spec =

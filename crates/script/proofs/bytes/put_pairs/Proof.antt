@@ -41,7 +41,8 @@ same-length : tie.Need-same-length Inv-loop μ-loop
 same-length c = search needs
 
 returns : tie.Need-returns Inv-loop μ-loop
-returns c = let a = c .before .before .before .before .args in let l = c .before .loop in let h : length (a .digits .now) ≤ 2 * l .n = omega arith in sym (l .inv .1 .1 ∙ ap (λ (m : List ℕ). take (l .n) (l .buffer) ++ m) (pairs-end (a .digits .now) (2 * l .n) h) ∙ append-nil (take (l .n) (l .buffer)))
+returns c =
+    (let a = c .before .before .before .before .args in let l = c .before .loop in let h : length (a .digits .now) ≤ 2 * l .n = omega arith in sym (l .inv .1 .1 ∙ ap (λ (m : List ℕ). take (l .n) (l .buffer) ++ m) (pairs-end (a .digits .now) (2 * l .n) h) ∙ append-nil (take (l .n) (l .buffer))), omega arith)
 
 pub put-pairs-spec : {M : Type 1} → statement M
 put-pairs-spec =

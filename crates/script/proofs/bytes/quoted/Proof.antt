@@ -15,7 +15,7 @@ add-if1 : tie.Need-add-if1
 add-if1 c = omega (arith, c .reach .ensures, reach-le 34 (c .before .before .before .args .rest .now))
 
 returns : tie.Need-returns
-returns c = sym (quoted-none (c .before .before .before .before .args .rest .now) (c .before .reach .result) (c .before .reach .ensures) (c .if1 .taken))
+returns c = (sym (quoted-none (c .before .before .before .before .args .rest .now) (c .before .reach .result) (c .before .reach .ensures) (c .if1 .taken)), omega arith)
 
 sub-put : tie.Need-sub-put
 sub-put c = search needs
@@ -33,7 +33,7 @@ same-length : tie.Need-same-length
 same-length c = search needs
 
 returns-2 : tie.Need-returns-2
-returns-2 c = quoted-put (c .before .before .before .before .before .before .before .before .before .args .buffer .now) (c .before .before .put .last .0) (c .before .before .before .before .before .before .before .before .before .args .rest .now) (c .before .before .before .before .before .before .reach .result) (c .before .before .before .before .before .before .reach .ensures) (c .before .before .before .before .before .if1 .left) (c .before .before .put .ensures)
+returns-2 c = (quoted-put (c .before .before .before .before .before .before .before .before .before .args .buffer .now) (c .before .before .put .last .0) (c .before .before .before .before .before .before .before .before .before .args .rest .now) (c .before .before .before .before .before .before .reach .result) (c .before .before .before .before .before .before .reach .ensures) (c .before .before .before .before .before .if1 .left) (c .before .before .put .ensures), omega (arith, c .before .before .before .before .before .if1 .left))
 
 pub quoted-spec : {M : Type 1} → statement M
 quoted-spec =

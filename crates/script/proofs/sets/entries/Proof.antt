@@ -32,7 +32,7 @@ same-length : tie.Need-same-length Inv-loop μ-loop
 same-length c = c .before .before .before .before .loop .inv .0
 
 returns : tie.Need-returns Inv-loop μ-loop
-returns c = let l = c .before .before .before .before .loop in entered-fails (l .inv .1) (c .before .before .before .loop-test .taken) (sym (c .before .before .quoted-at .ensures) ∙ c .enum-told .given .1)
+returns c = (let l = c .before .before .before .before .loop in entered-fails (l .inv .1) (c .before .before .before .loop-test .taken) (sym (c .before .before .quoted-at .ensures) ∙ c .enum-told .given .1), omega arith)
 
 enum-known-quoted : tie.Need-enum-known-quoted Inv-loop μ-loop
 enum-known-quoted c = search needs
@@ -56,7 +56,7 @@ same-length-2 : tie.Need-same-length-2 Inv-loop μ-loop
 same-length-2 c = c .before .before .put-entry .kept .0 ∙ c .before .before .before .before .before .before .before .before .before .before .loop .inv .0
 
 returns-2 : tie.Need-returns-2 Inv-loop μ-loop
-returns-2 c = let l = c .before .before .before .before .before .before .before .before .before .before .loop in entered-last (c .before .before .before .before .before .before .quoted .given .0 .0) _ (l .inv .1) (c .before .before .before .before .before .before .before .before .before .loop-test .taken) (sym (c .before .before .before .before .before .before .before .before .quoted-at .ensures) ∙ c .before .before .before .before .before .before .quoted .given .1) (c .before .before .put-entry .ensures .0)
+returns-2 c = (let l = c .before .before .before .before .before .before .before .before .before .before .loop in entered-last (c .before .before .before .before .before .before .quoted .given .0 .0) _ (l .inv .1) (c .before .before .before .before .before .before .before .before .before .loop-test .taken) (sym (c .before .before .before .before .before .before .before .before .quoted-at .ensures) ∙ c .before .before .before .before .before .before .quoted .given .1) (c .before .before .put-entry .ensures .0), c .before .before .put-entry .ensures .1)
 
 enum-known-quoted-2 : tie.Need-enum-known-quoted-2 Inv-loop μ-loop
 enum-known-quoted-2 c = search needs
@@ -86,7 +86,7 @@ same-length-3 : tie.Need-same-length-3 Inv-loop μ-loop
 same-length-3 c = c .before .before .before .before .put-entry2 .kept .0 ∙ c .before .before .before .before .before .before .before .before .before .before .before .before .loop .inv .0
 
 returns-3 : tie.Need-returns-3 Inv-loop μ-loop
-returns-3 c = let l = c .before .before .before .before .before .before .before .before .before .before .before .before .loop in entered-full (c .before .before .before .before .before .before .before .before .quoted2 .given .0 .0) (l .inv .1) (c .before .before .before .before .before .before .before .before .before .before .before .loop-test .taken) (sym (c .before .before .before .before .before .before .before .before .before .before .quoted-at .ensures) ∙ c .before .before .before .before .before .before .before .before .quoted2 .given .1) (sym (ap (bytesIn (c .before .before .before .before .put-entry2 .last .0)) (c .enum-told2 .given .1)) ∙ c .before .before .before .before .put-entry2 .ensures .0)
+returns-3 c = (let l = c .before .before .before .before .before .before .before .before .before .before .before .before .loop in entered-full (c .before .before .before .before .before .before .before .before .quoted2 .given .0 .0) (l .inv .1) (c .before .before .before .before .before .before .before .before .before .before .before .loop-test .taken) (sym (c .before .before .before .before .before .before .before .before .before .before .quoted-at .ensures) ∙ c .before .before .before .before .before .before .before .before .quoted2 .given .1) (sym (ap (bytesIn (c .before .before .before .before .put-entry2 .last .0)) (c .enum-told2 .given .1)) ∙ c .before .before .before .before .put-entry2 .ensures .0), omega arith)
 
 add-next : tie.Need-add-next Inv-loop μ-loop
 add-next c = omega (arith, followed-fits (c .before .before .before .before .before .before .before .before .before .before .before .before .before .loop .rest .now) (c .before .before .before .before .before .before .before .before .before .quoted2 .given .0 .0) (sym (c .before .before .before .before .before .before .before .before .before .before .before .quoted-at .ensures) ∙ c .before .before .before .before .before .before .before .before .before .quoted2 .given .1), c .before .before .before .before .before .before .before .before .before .before .before .before .before .loop .inv .1 .inside, c .before .before .before .before .before .before .before .before .before .before .before .before .before .before .before .before .good .0 .0)
@@ -110,7 +110,7 @@ same-length-4 : tie.Need-same-length-4 Inv-loop μ-loop
 same-length-4 c = c .before .loop .inv .0
 
 returns-4 : tie.Need-returns-4 Inv-loop μ-loop
-returns-4 c = entered-out (c .before .loop .inv .1) (c .loop-test .left)
+returns-4 c = (entered-out (c .before .loop .inv .1) (c .loop-test .left), omega arith)
 
 pub entries-spec : {M : Type 1} → statement M
 entries-spec =
