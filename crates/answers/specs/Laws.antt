@@ -1,0 +1,2 @@
+-- Laws of answers, for the proofs.
+pub mod Listed

@@ -1,0 +1,3 @@
+-- What each answer says, as text.
+pub mod Answers
+pub mod Laws
