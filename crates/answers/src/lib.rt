@@ -1,4 +1,5 @@
 // The answers of a replay script as text, put into the buffer of standard output. Each says how many bytes wait then.
+mod show;
 mod texts;
 
 use desk::CloseAnswer;
@@ -10,6 +11,7 @@ use desk::TakeAnswer;
 use matching::Stop;
 use reading::Ending;
 use reading::ReadRefusal;
+pub use show::shown;
 use tables::Built;
 use tagset::SetFault;
 pub use texts::not_a_call;
