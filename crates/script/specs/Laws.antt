@@ -4,3 +4,4 @@ pub mod Numbers
 pub mod Bytes
 pub mod Sets
 pub mod Calls
+pub mod Lines

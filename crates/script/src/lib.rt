@@ -1,5 +1,6 @@
 // The lines of a replay script: what call a line makes, if any. Every line gives an answer.
 mod bytes;
+mod lines;
 mod names;
 mod numbers;
 mod sets;
@@ -7,11 +8,14 @@ mod words;
 
 use bytes::Bytes;
 use bytes::bytes_of;
+pub use bytes::put;
+pub use lines::keep;
 use names::Layouts;
 use names::Name;
 use numbers::Number;
 use numbers::number_of;
 use words::behind;
+pub use words::reach;
 use words::skipped;
 use words::word;
 ghost use mathlib.Core.Path.{_≡_};
