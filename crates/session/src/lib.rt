@@ -14,7 +14,7 @@ ghost use Rattle.writing.specs.Buffer.{buffer, Puts};
 ghost use Rattle.answers.specs.Answers.{notACallLine, numbersLine};
 ghost use Rattle.answers.specs.Show.{showLines};
 ghost use Rattle.desk.specs.Calls.{newDesk};
-ghost use Rattle.script.specs.Calls.{Bounded, meant, machinesOf};
+ghost use Rattle.script.specs.Calls.{Bounded, meant, callOf, machinesOf};
 ghost use Rattle.session.specs.Calls.{answered, heldBy, Within, Did, setOn, lendOn, replaceOn, openOn, feedOn, closeOn, takeOn, buildOn, builtBy, tableBy, sevens, readText, pokeOn, callOn};
 
 // The set is the first `held` bytes of its buffer, `lent` numbers of the table buffer are lent, and `used` bytes of output wait.
@@ -356,7 +356,7 @@ fn peek(s: Session, numbers: &[u16], out: &mut [u8; 65536]) -> Session
 }
 
 // Makes the call of line n.
-pub fn make(
+fn make(
     s: Session,
     n: u64,
     line: Line,
@@ -402,4 +402,23 @@ pub fn make(
         Call::Poke(at, value) => poke(s, at, value, table, out),
         Call::Peek(at, count) => peek(s, &table[at..at + count], out),
     }
+}
+
+// Makes the call of line n, whatever its bytes.
+pub fn answer_line(
+    s: Session,
+    n: u64,
+    line: &[u8],
+    bytes: &mut [u8; 20000],
+    set: &mut [u8; 4096],
+    table: &mut [u16; 131841],
+    list: &mut [u32; 2048],
+    out: &mut [u8; 65536],
+) -> Session
+    requires { ⌜ Within s ⌝ }
+    ensures { λ r. ⌜ Did (callOn (heldBy s (now (set .entry)) (now (table .entry))) n (callOf (now (line .entry)))) (buffer (now (out .entry)) (s .used)) (heldBy r (now (set .exit)) (now (table .exit))) (buffer (now (out .exit)) (r .used)) ⌝ }
+    ensures { λ r. ⌜ Within r ⌝ }
+{
+    let called = script::call_of(line, bytes);
+    make(s, n, called, bytes, set, table, list, out)
 }

@@ -3,7 +3,11 @@ use Prim.Native.Nat.{ℕ, _+_, _-_, _≤_, _<_}
 use native.Mathlib.Omega.{arith}
 use mathlib.Core.Path.{_≡_, refl, sym, ap, _∙_}
 use mathlib.Core.List.{List, _++_}
+use mathlib.Core.Bool.{true, false}
+use lib.Dec.{ltb}
+use borrow.Author.Tests.{lt-ltb, le-ltb}
 use lib.ListN.{length, take, length-append}
+use Rattle.script.specs.Words.{reach}
 use lib.Seq.{length-take-le, paste, take-all, take-append-add, take-length, take-paste}
 
 -- more bytes than there is room for: what is kept fills the line
@@ -35,3 +39,14 @@ kept-all l d m n h g e =
   where
     short : length (take n l ++ m) ≤ length l
     short = omega (arith, length-append (take n l) m, length-take-le n l h)
+
+-- what a piece adds to a line
+
+pub part-kept : (line piece : List ℕ) (n r : ℕ) → r ≡ reach 10 piece → take (length line) (take n line ++ take (r - 0) piece) ≡ take (length line) (take n line ++ take (reach 10 piece) piece)
+part-kept line piece n r e = ap (λ (k : ℕ). take (length line) (take n line ++ take k piece)) (let f : r - 0 ≡ reach 10 piece = omega arith in f)
+
+pub part-ended : (piece : List ℕ) (r : ℕ) → r ≡ reach 10 piece → r < length piece → true ≡ ltb (reach 10 piece) (length piece)
+part-ended piece r e h = sym (lt-ltb (reach 10 piece) (length piece) (omega arith))
+
+pub part-open : (piece : List ℕ) (r : ℕ) → r ≡ reach 10 piece → length piece ≤ r → false ≡ ltb (reach 10 piece) (length piece)
+part-open piece r e h = sym (le-ltb (reach 10 piece) (length piece) (omega arith))
