@@ -3,7 +3,7 @@ use Rattle.replay.proofs.run.Statement.{statement}
 use Rattle.replay.proofs.run.Tie as tie
 use borrow.Author.Needs.{needs}
 use Prim.Native.Nat.{_-_}
-use Rattle.session.specs.Calls.{Within}
+use Rattle.calling.specs.Calls.{Within}
 
 abbrev Inv-loop : tie.InvT-loop
 Inv-loop fd input₀ line₀ bytes₀ set₀ table₀ list₀ out₀ s₀ rest₀ n₀ input line bytes set table list out s rest n = Within s
