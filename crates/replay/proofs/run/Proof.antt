@@ -32,8 +32,8 @@ new-list-requires c κs = search needs
 large-buffer-requires-2 : tie.Need-large-buffer-requires-2 Inv-loop μ-loop
 large-buffer-requires-2 c κs = search needs
 
-new-session-requires : tie.Need-new-session-requires Inv-loop μ-loop
-new-session-requires c κs = search needs
+new-state-requires : tie.Need-new-state-requires Inv-loop μ-loop
+new-state-requires c κs = search needs
 
 loop-holds : tie.Need-loop-holds Inv-loop μ-loop
 loop-holds c = search needs
@@ -69,7 +69,7 @@ run-spec =
     new-table-requires
     new-list-requires
     large-buffer-requires-2
-    new-session-requires
+    new-state-requires
     loop-holds
     one-line-requires
     returns
