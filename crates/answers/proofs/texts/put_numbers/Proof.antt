@@ -1,0 +1,62 @@
+-- `answers::texts::put_numbers` meets its contract. The invariant: the first i numbers are put.
+use Rattle.answers.proofs.texts.put_numbers.Statement.{statement}
+use Rattle.answers.proofs.texts.put_numbers.Tie as tie
+use borrow.Author.Needs.{needs}
+use Prim.Native.Nat.{_-_}
+use mathlib.Core.List.{[]}
+use mathlib.Core.Path.{sym}
+use lib.ListN.{length, take}
+use Rattle.writing.specs.Buffer.{Puts, buffer}
+use Rattle.writing.specs.Laws.Waiting.{put-none}
+use Rattle.answers.specs.Answers.{listed}
+use Rattle.answers.specs.Laws.Listed.{listed-next, listed-all}
+
+abbrev Inv-loop : tie.InvT-loop
+Inv-loop out₀ used numbers n₀ i₀ out n i = Puts (buffer out₀ used) (listed [] (take i numbers)) (buffer out n)
+
+abbrev μ-loop : tie.MeasureT-loop
+μ-loop out₀ used numbers n₀ i₀ out n i = length numbers - i
+
+loop-holds : tie.Need-loop-holds Inv-loop μ-loop
+unfolding listed
+loop-holds c = put-none (buffer (c .before .args .out .now) (c .before .args .used))
+
+mul-wide : tie.Need-mul-wide Inv-loop μ-loop
+mul-wide c = search needs
+
+shared-slice-read-wide : tie.Need-shared-slice-read-wide Inv-loop μ-loop
+shared-slice-read-wide c = search needs
+
+wide-requires : tie.Need-wide-requires Inv-loop μ-loop
+wide-requires c κs = search needs
+
+put-blank-number-requires : tie.Need-put-blank-number-requires Inv-loop μ-loop
+put-blank-number-requires c κs = search needs
+
+add-i : tie.Need-add-i Inv-loop μ-loop
+add-i c = search needs
+
+loop-less : tie.Need-loop-less Inv-loop μ-loop
+loop-less c = search needs
+
+loop-again : tie.Need-loop-again Inv-loop μ-loop
+loop-again c = let a = c .before .before .before .before .before .before .before .args in let l = c .before .before .before .before .before .loop in listed-next (a .numbers .now) (l .i) (c .before .before .before .before .loop-test .taken) (l .inv) (rw (sym (c .before .wide .ensures)) (c .put-blank-number .ensures))
+
+returns : tie.Need-returns Inv-loop μ-loop
+returns c = listed-all (c .before .before .before .args .numbers .now) (c .before .loop .i) (c .loop-test .left) (c .before .loop .inv)
+
+pub put-numbers-spec : {M : Type 1} → statement M
+put-numbers-spec =
+    tie.close
+    (tie.spec
+    Inv-loop
+    μ-loop
+    loop-holds
+    mul-wide
+    shared-slice-read-wide
+    wide-requires
+    put-blank-number-requires
+    add-i
+    loop-less
+    loop-again
+    returns)

@@ -1,0 +1,32 @@
+-- `answers::texts::refused_with` meets its contract: part by part.
+use Rattle.answers.proofs.texts.refused_with.Statement.{statement}
+use Rattle.answers.proofs.texts.refused_with.Tie as tie
+use borrow.Author.Needs.{needs}
+use Rattle.writing.specs.Laws.Waiting.{put-then}
+use Rattle.answers.specs.Answers.{refusedLine, listed}
+
+slice-aggregate-put-numbered : tie.Need-slice-aggregate-put-numbered
+slice-aggregate-put-numbered c = search needs
+
+put-numbered-requires : tie.Need-put-numbered-requires
+put-numbered-requires c κs = search needs
+
+put-blank-number-requires : tie.Need-put-blank-number-requires
+put-blank-number-requires c κs = search needs
+
+put-line-end-requires : tie.Need-put-line-end-requires
+put-line-end-requires c κs = search needs
+
+returns : tie.Need-returns
+unfolding refusedLine listed
+returns c = put-then (put-then (c .before .before .before .before .put-numbered .ensures) (c .before .before .put-blank-number .ensures)) (c .put-line-end .ensures)
+
+pub refused-with-spec : {M : Type 1} → statement M
+refused-with-spec =
+    tie.close
+    (tie.spec
+    slice-aggregate-put-numbered
+    put-numbered-requires
+    put-blank-number-requires
+    put-line-end-requires
+    returns)

@@ -1,0 +1,3 @@
+-- Laws of answers, for the proofs.
+pub mod Listed
+pub mod Show

@@ -1,0 +1,130 @@
+// Reads a script of calls, makes each of them on one desk, and writes each answer.
+mod lines;
+
+use lines::Span;
+use session::Session;
+ghost use mathlib.Core.Path.{_≡_};
+ghost use lib.ListN.{length};
+ghost use Rattle.session.specs.Calls.{Within};
+
+// What is held after a line, what is left of the input at hand, and whether there was a line.
+struct Turn {
+    session: Session,
+    rest: Span,
+    more: bool,
+}
+
+fn new_table() -> [u16; 131841] {
+    [0u16; 131841]
+}
+
+fn new_list() -> [u32; 2048] {
+    [0u32; 2048]
+}
+
+// One byte more than a line may have, so that one that is too long shows.
+fn new_line() -> [u8; 20001] {
+    [0u8; 20001]
+}
+
+fn new_bytes() -> [u8; 20000] {
+    [0u8; 20000]
+}
+
+// Reads line n and makes its call; where there is none, writes the answers that wait.
+fn one_line(
+    s: Session,
+    n: u64,
+    fd: i32,
+    rest: Span,
+    input: &mut [u8; 65536],
+    line: &mut [u8; 20001],
+    bytes: &mut [u8; 20000],
+    set: &mut [u8; 4096],
+    table: &mut [u16; 131841],
+    list: &mut [u32; 2048],
+    out: &mut [u8; 65536],
+) -> Turn
+    requires { ⌜ Within s ⌝ }
+    ensures { λ r. ⌜ Within (r .session) ⌝ }
+{
+    let gathered = lines::gather(fd, input, rest, line);
+    let after = gathered.rest;
+    if !gathered.begun {
+        writing::flush(out, s.used);
+        return Turn {
+            session: s,
+            rest: after,
+            more: false,
+        };
+    }
+    let whole = lines::first(line, gathered.kept);
+    let next = session::answer_line(s, n, whole, bytes, set, table, list, out);
+    Turn {
+        session: next,
+        rest: after,
+        more: true,
+    }
+}
+
+// Runs the script to its end; whether a read failed. The buffers stand here and are lent as arrays.
+fn run(fd: i32) -> bool {
+    let mut input = io::large_buffer();
+    let mut line = new_line();
+    let mut bytes = new_bytes();
+    let mut set = io::buffer();
+    let mut table = new_table();
+    let mut list = new_list();
+    let mut out = io::large_buffer();
+    let mut s = session::new_session();
+    let mut rest = Span {
+        from: 0,
+        to: 0,
+        failed: false,
+    };
+    let mut n: u64 = 1;
+    while n < u64::MAX {
+        let t = one_line(
+            s,
+            n,
+            fd,
+            rest,
+            &mut input,
+            &mut line,
+            &mut bytes,
+            &mut set,
+            &mut table,
+            &mut list,
+            &mut out,
+        );
+        let after = t.rest;
+        if !t.more {
+            return after.failed;
+        }
+        let next = t.session;
+        s = next;
+        rest = after;
+        n += 1;
+    }
+    true
+}
+
+fn main() {
+    if os::arg_count() < 2 {
+        if run(libc::STDIN_FILENO) {
+            os::fail(b"standard input");
+        }
+        return;
+    }
+    let mut path = io::buffer();
+    let n = os::arg(1, &mut path);
+    let fd = os::open_read(&path[..n]);
+    if fd < 0 {
+        os::fail(&path[..n]);
+        return;
+    }
+    if run(fd) {
+        os::fail(&path[..n]);
+    }
+    libc::close(fd);
+}

@@ -1,0 +1,67 @@
+-- `script::call_of` meets its contract: a line too long, a line passed over, or a call by its name.
+use Rattle.script.proofs.call_of.Statement.{statement}
+use Rattle.script.proofs.call_of.Tie as tie
+use borrow.Author.Needs.{needs}
+use native.Mathlib.Omega.{arith}
+use lib.ListN.{length}
+use mathlib.Core.Path.{sym, ap, _∙_}
+use Rattle.script.specs.Laws.Words.{length-behind}
+use Rattle.script.specs.Laws.Calls.{by-plain, call-long, call-empty, call-comment, call-named}
+use Rattle.script.specs.Laws.Calls.{by-bounded}
+
+plain-requires : tie.Need-plain-requires
+plain-requires c κs = search needs
+
+returns : tie.Need-returns
+returns c = (by-plain (c .before .before .before .args .buffer .now) (c .plain .result) (c .plain .ensures) (λ p. sym (call-long (c .before .before .before .args .line .now) (c .before .if1 .taken))), by-bounded (c .plain .result) (c .plain .ensures) tt)
+
+plain-requires-2 : tie.Need-plain-requires-2
+plain-requires-2 c κs = search needs
+
+returns-2 : tie.Need-returns-2
+returns-2 c = (by-plain (c .before .before .before .before .args .buffer .now) (c .plain2 .result) (c .plain2 .ensures) (λ p. sym (call-empty (c .before .before .before .before .args .line .now) (c .before .if2 .taken))), by-bounded (c .plain2 .result) (c .plain2 .ensures) tt)
+
+shared-slice-read-if3 : tie.Need-shared-slice-read-if3
+shared-slice-read-if3 c = search needs
+
+plain-requires-3 : tie.Need-plain-requires-3
+plain-requires-3 c κs = search needs
+
+returns-3 : tie.Need-returns-3
+returns-3 c = (by-plain (c .before .before .before .before .before .before .args .buffer .now) (c .plain3 .result) (c .plain3 .ensures) (λ p. sym (call-comment (c .before .before .before .before .before .before .args .line .now) (c .before .before .before .before .if1 .left) (c .before .if3 .taken))), by-bounded (c .plain3 .result) (c .plain3 .ensures) tt)
+
+word-requires : tie.Need-word-requires
+word-requires c κs = search needs
+
+name-of-requires : tie.Need-name-of-requires
+name-of-requires c κs = search needs
+
+reach-requires : tie.Need-reach-requires
+reach-requires c κs = search needs
+
+behind-requires : tie.Need-behind-requires
+behind-requires c κs = search needs
+
+by-name-requires : tie.Need-by-name-requires
+by-name-requires c κs = (omega (arith, ap length (c .before .behind .ensures), length-behind (c .before .before .before .before .before .before .before .before .before .before .args .line .now), c .before .before .before .before .before .before .before .before .if1 .left), omega (arith, c .by-name-arg .given .0 .1))
+
+returns-4 : tie.Need-returns-4
+returns-4 c = (let l = c .before .before .before .before .before .before .before .before .before .before .before .args .line .now in c .by-name .ensures .0 ∙ call-named l (c .before .before .before .before .before .word .result .now) (c .before .before .behind .result .now) (c .before .before .before .before .name-of .result) (c .before .before .before .reach .result) (c .before .before .before .before .before .before .before .before .before .if1 .left) (c .before .before .before .before .before .before .before .before .if2 .left) (c .before .before .before .before .before .before .if3 .left) (c .before .before .before .before .before .word .ensures) (c .before .before .before .before .name-of .ensures) (c .before .before .before .reach .ensures) (c .before .before .behind .ensures), c .by-name .ensures .1)
+
+pub call-of-spec : {M : Type 1} → statement M
+call-of-spec =
+    tie.close
+    (tie.spec
+    plain-requires
+    returns
+    plain-requires-2
+    returns-2
+    shared-slice-read-if3
+    plain-requires-3
+    returns-3
+    word-requires
+    name-of-requires
+    reach-requires
+    behind-requires
+    by-name-requires
+    returns-4)

@@ -1,0 +1,74 @@
+-- `script::peek` meets its contract.
+use Rattle.script.proofs.peek.Statement.{statement}
+use Rattle.script.proofs.peek.Tie as tie
+use borrow.Author.Needs.{needs}
+use mathlib.Core.Path.{sym}
+use Rattle.script.specs.declared.numbers.Number.the-variants.{Is, NoNumber}
+use Rattle.script.specs.Words.{wordOf, behind}
+use Rattle.script.specs.Laws.Numbers.{number-said}
+use Rattle.script.specs.Laws.Calls.{peek-inside, peek-outside}
+
+word-requires : tie.Need-word-requires
+word-requires c κs = search needs
+
+number-of-requires : tie.Need-number-of-requires
+number-of-requires c κs = search needs
+
+enum-known-at : tie.Need-enum-known-at
+enum-known-at c = search needs
+
+enum-told : tie.Need-enum-told
+enum-told c = search needs
+
+returns : tie.Need-returns
+returns c = (let w = c .before .before .before .before .before .args .words .now in λ place bytes. rw (number-said 4294967295 (wordOf w) NoNumber (c .before .before .number-of .ensures) (c .before .before .before .word .ensures) (c .enum-told .given .1)), tt)
+
+behind-requires : tie.Need-behind-requires
+behind-requires c κs = search needs
+
+number-of-requires-2 : tie.Need-number-of-requires-2
+number-of-requires-2 c κs = search needs
+
+enum-known-count : tie.Need-enum-known-count
+enum-known-count c = search needs
+
+enum-told-2 : tie.Need-enum-told-2
+enum-told-2 c = search needs
+
+returns-2 : tie.Need-returns-2
+returns-2 c = (let w = c .before .before .before .before .before .before .before .before .before .before .args .words .now in λ place bytes. rw (number-said 4294967295 (wordOf w) (Is (c .before .before .before .before .before .at .given .0 .0)) (c .before .before .before .before .before .before .before .number-of .ensures) (c .before .before .before .before .before .before .before .before .word .ensures) (c .before .before .before .before .before .at .given .1), number-said 256 (behind w) NoNumber (c .before .before .number-of2 .ensures) (c .before .before .before .behind .ensures) (c .enum-told2 .given .1)), tt)
+
+cast-from : tie.Need-cast-from
+cast-from c = search needs
+
+cast-shown : tie.Need-cast-shown
+cast-shown c = search needs
+
+add-if1 : tie.Need-add-if1
+add-if1 c = search needs
+
+returns-3 : tie.Need-returns-3
+returns-3 c = (let w = c .before .before .before .before .before .before .before .before .before .before .before .before .args .words .now in λ place bytes. rw (number-said 4294967295 (wordOf w) (Is (c .before .before .before .before .before .before .before .at .given .0 .0)) (c .before .before .before .before .before .before .before .before .before .number-of .ensures) (c .before .before .before .before .before .before .before .before .before .before .word .ensures) (c .before .before .before .before .before .before .before .at .given .1), number-said 256 (behind w) (Is (c .before .before .count .given .0 .0)) (c .before .before .before .before .number-of2 .ensures) (c .before .before .before .before .before .behind .ensures) (c .before .before .count .given .1)) (sym (peek-outside (c .before .before .before .before .before .before .before .at .given .0 .0) (c .before .before .count .given .0 .0) (c .if1 .taken))), tt)
+
+returns-4 : tie.Need-returns-4
+returns-4 c = (let w = c .before .before .before .before .before .before .before .before .before .before .before .before .args .words .now in λ place bytes. rw (number-said 4294967295 (wordOf w) (Is (c .before .before .before .before .before .before .before .at .given .0 .0)) (c .before .before .before .before .before .before .before .before .before .number-of .ensures) (c .before .before .before .before .before .before .before .before .before .before .word .ensures) (c .before .before .before .before .before .before .before .at .given .1), number-said 256 (behind w) (Is (c .before .before .count .given .0 .0)) (c .before .before .before .before .number-of2 .ensures) (c .before .before .before .before .before .behind .ensures) (c .before .before .count .given .1)) (sym (peek-inside (c .before .before .before .before .before .before .before .at .given .0 .0) (c .before .before .count .given .0 .0) (c .if1 .left))), c .if1 .left)
+
+pub peek-spec : {M : Type 1} → statement M
+peek-spec =
+    tie.close
+    (tie.spec
+    word-requires
+    number-of-requires
+    enum-known-at
+    enum-told
+    returns
+    behind-requires
+    number-of-requires-2
+    enum-known-count
+    enum-told-2
+    returns-2
+    cast-from
+    cast-shown
+    add-if1
+    returns-3
+    returns-4)

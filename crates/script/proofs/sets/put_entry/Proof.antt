@@ -1,0 +1,70 @@
+-- `script::sets::put_entry` meets its contract.
+use Rattle.script.proofs.sets.put_entry.Statement.{statement}
+use Rattle.script.proofs.sets.put_entry.Tie as tie
+use borrow.Author.Needs.{needs}
+use native.Mathlib.Omega.{arith}
+use Prim.Native.Nat.{_+_, _≤_, _<_}
+use mathlib.Core.Path.{_∙_}
+use lib.ListN.{length}
+use Rattle.script.specs.Laws.Sets.{entry-long, entry-fits}
+
+returns : tie.Need-returns
+returns c = let a = c .before .before .before .args in let g : 4096 < a .n + 4 + length (a .payload .now) = omega arith in let h : a .n ≤ length (a .buffer .now) = omega arith in (entry-long (a .buffer .now) (a .payload .now) (a .n) h g, omega arith)
+
+add-if2 : tie.Need-add-if2
+add-if2 c = search needs
+
+add-if2-2 : tie.Need-add-if2-2
+add-if2-2 c = search needs
+
+returns-2 : tie.Need-returns-2
+returns-2 c = let a = c .before .before .before .before .args in let h : a .n ≤ length (a .buffer .now) = omega arith in (entry-long (a .buffer .now) (a .payload .now) (a .n) h (c .if2 .taken), omega arith)
+
+cast-t10 : tie.Need-cast-t10
+cast-t10 c = search needs
+
+cast-t11 : tie.Need-cast-t11
+cast-t11 c = search needs
+
+slice-aggregate-put : tie.Need-slice-aggregate-put
+slice-aggregate-put c = search needs
+
+put-requires : tie.Need-put-requires
+put-requires c κs = omega (arith, c .before .before .before .before .before .before .pre, c .before .before .if2 .left)
+
+add-put : tie.Need-add-put
+add-put c = search needs
+
+put-requires-2 : tie.Need-put-requires-2
+put-requires-2 c κs = omega (arith, c .before .before .before .before .before .before .before .before .before .before .pre, c .before .before .before .before .before .before .if2 .left, c .before .before .before .put .kept .0)
+
+add-t6 : tie.Need-add-t6
+add-t6 c = search needs
+
+add-t9 : tie.Need-add-t9
+add-t9 c = search needs
+
+same-length : tie.Need-same-length
+same-length c = c .before .before .put2 .kept .0 ∙ c .before .before .before .before .before .before .put .kept .0
+
+returns-3 : tie.Need-returns-3
+returns-3 c = let a = c .before .before .before .before .before .before .before .before .before .before .before .before .before .args in (entry-fits (a .buffer .now) (c .before .before .before .before .before .before .put .last .0) (c .before .before .put2 .last .0) (a .payload .now) (a .n) (c .before .before .before .before .before .before .before .before .before .before .before .before .before .pre .1) (c .before .before .before .before .before .before .before .before .before .if2 .left) (c .before .before .before .before .before .before .put .ensures) (c .before .before .put2 .ensures), c .before .before .before .before .before .before .before .before .before .if2 .left)
+
+pub put-entry-spec : {M : Type 1} → statement M
+put-entry-spec =
+    tie.close
+    (tie.spec
+    returns
+    add-if2
+    add-if2-2
+    returns-2
+    cast-t10
+    cast-t11
+    slice-aggregate-put
+    put-requires
+    add-put
+    put-requires-2
+    add-t6
+    add-t9
+    same-length
+    returns-3)

@@ -1,0 +1,162 @@
+-- Laws of calls and of the places of a read.
+use Prim.Native.Nat.{ℕ, zero, suc, _+_, _-_, _≤_, _<_}
+use native.Mathlib.Omega.{arith}
+use native.Mathlib.Numerals.{add-one}
+use mathlib.Core.Path.{_≡_, refl, sym, ap, subst, _∙_}
+use mathlib.Core.Bool.{Bool, true, false, cond, _||_, or-true}
+use mathlib.Core.List.{List, [], _∷_, _++_, append-assoc, append-nil}
+use lib.Dec.{eqb, leb, ltb}
+use lib.ListN.{length, take, set, getD}
+use lib.Seq.{take-suc-set}
+use borrow.Author.Tests.{eq-eqb, ne-eqb, le-leb, lt-leb, lt-ltb, le-ltb}
+use Rattle.script.specs.Words.{reach, wordOf, behind, skipped}
+use Rattle.script.specs.Bytes.{BytesOf, these, noBytes, bytesOf}
+use Rattle.script.specs.Numbers.{numberOf}
+use Rattle.script.specs.Calls.{CallOf, passedOver, notACall, callPeek, peekBy, NumbersOf, numbersAre, noNumbers, placeBy, placeOf, machinesOf, placeIn, readBy, readFrom, readOver, callRead, layoutOf, meant, Bounded, alone, nameOf, callBy, callOf}
+use Rattle.script.specs.declared.Call.{Call}
+use Rattle.script.specs.declared.Call.the-variants.{NotACall}
+use Rattle.script.specs.declared.Layout.{Layout}
+use Rattle.script.specs.declared.Layout.the-variants.{Split, Whole}
+use Rattle.script.specs.declared.Line.{Line}
+use Rattle.script.specs.declared.Place.{Place}
+use Rattle.script.specs.declared.names.Layouts.{Layouts}
+use Rattle.script.specs.declared.names.Name.{Name}
+use Rattle.script.specs.declared.numbers.Number.{Number}
+use Rattle.script.specs.declared.numbers.Number.the-variants.{Is, NoNumber}
+
+pub peek-inside : (at count : ℕ) → at + count ≤ 131841 → peekBy (Is at) (Is count) ≡ callPeek at count
+peek-inside at count h = rw (le-leb _ _ h) refl
+
+pub peek-outside : (at count : ℕ) → 131841 < at + count → peekBy (Is at) (Is count) ≡ notACall
+peek-outside at count h = rw (lt-leb _ _ h) refl
+
+-- ---- the place of a read
+
+-- numbers before others
+abbrev pub before : List ℕ → NumbersOf → NumbersOf
+before front (numbersAre more) = numbersAre (front ++ more)
+before front noNumbers = noNumbers
+
+pub before-none : (x : NumbersOf) → before [] x ≡ x
+before-none (numbersAre more) = refl
+before-none noNumbers = refl
+
+before-before : (l m : List ℕ) (x : NumbersOf) → before l (before m x) ≡ before (l ++ m) x
+before-before l m (numbersAre n) = ap numbersAre (sym (append-assoc l m n))
+before-before l m noNumbers = refl
+
+place-first : (n : ℕ) (x : NumbersOf) → placeBy (Is n) x ≡ before (n ∷ []) x
+place-first n (numbersAre more) = refl
+place-first n noNumbers = refl
+
+place-step : (k i : ℕ) (w : List ℕ) → i < k → placeOf (k - i) w ≡ placeBy (numberOf 65535 (wordOf w)) (placeOf (k - (i + 1)) (behind w))
+unfolding placeOf
+place-step k i w h = rw (let e : k - i ≡ suc (k - (i + 1)) = omega arith in e)
+
+pub place-start : (k : ℕ) (w : List ℕ) → placeOf k w ≡ before [] (placeOf (k - 0) w)
+place-start k w = ap (λ (n : ℕ). placeOf n w) (let e : k ≡ k - 0 = omega arith in e) ∙ sym (before-none (placeOf (k - 0) w))
+
+-- one number more is put
+pub place-more : (k i n : ℕ) (w rest next ns : List ℕ) → i < k → i < length ns → numberOf 65535 (wordOf rest) ≡ Is n → next ≡ behind rest
+    → placeOf k w ≡ before (take i ns) (placeOf (k - i) rest) → placeOf k w ≡ before (take (i + 1) (set ns i n)) (placeOf (k - (i + 1)) next)
+place-more k i n w rest next ns h g e f p =
+    p
+    ∙ ap (before (take i ns)) (place-step k i rest h ∙ ap (λ (x : Number). placeBy x (placeOf (k - (i + 1)) (behind rest))) e ∙ place-first n (placeOf (k - (i + 1)) (behind rest)))
+    ∙ before-before (take i ns) (n ∷ []) (placeOf (k - (i + 1)) (behind rest))
+    ∙ ap (λ (l : List ℕ). before l (placeOf (k - (i + 1)) (behind rest))) (sym taken)
+    ∙ ap (λ (l : List ℕ). before (take (i + 1) (set ns i n)) (placeOf (k - (i + 1)) l)) (sym f)
+  where
+    taken : take (i + 1) (set ns i n) ≡ take i ns ++ (n ∷ [])
+    taken = rw (add-one i) (take-suc-set ns i n g)
+
+pub place-fails : (k i : ℕ) (w rest ns : List ℕ) → i < k → numberOf 65535 (wordOf rest) ≡ NoNumber → placeOf k w ≡ before (take i ns) (placeOf (k - i) rest) → placeOf k w ≡ noNumbers
+place-fails k i w rest ns h e p =
+    p ∙ ap (before (take i ns)) (place-step k i rest h ∙ ap (λ (x : Number). placeBy x (placeOf (k - (i + 1)) (behind rest))) e)
+
+pub place-whole : (k i : ℕ) (w rest ns : List ℕ) → k ≡ i → placeOf k w ≡ before (take i ns) (placeOf (k - i) rest) → placeOf k w ≡ numbersAre (take k ns)
+unfolding placeOf
+place-whole k i w rest ns e p =
+    p
+    ∙ ap (λ (n : ℕ). before (take i ns) (placeOf n rest)) (let z : k - i ≡ 0 = omega arith in z)
+    ∙ ap numbersAre (append-nil (take i ns) ∙ ap (λ (n : ℕ). take n ns) (sym e))
+
+pub machines-most : (layout : Layout) → machinesOf layout ≤ 8
+machines-most Split = omega arith
+machines-most Whole = omega arith
+
+-- ---- a line's call
+
+-- a line without a place says what its call says
+pub by-plain : (bytes : List ℕ) {x : CallOf} (l : Line) {call : Call} → l .call ≡ call → ((place : List ℕ) → meant place bytes call ≡ x) → meant (l .place) bytes (l .call) ≡ x
+by-plain bytes l e f = ap (meant (l .place) bytes) e ∙ f (l .place)
+
+-- and keeps to its bounds
+pub by-bounded : (l : Line) {call : Call} → l .call ≡ call → Bounded call → Bounded (l .call)
+by-bounded l e h = subst Bounded (sym e) h
+
+pub alone-bounded : (whole : Bool) (call r : Call) → r ≡ cond whole call NotACall → Bounded call → Bounded r
+alone-bounded true call r e h = subst Bounded (sym e) h
+alone-bounded false call r e h = subst Bounded (sym e) tt
+
+pub alone-means : (whole : Bool) (place bytes : List ℕ) (call r : Call) → r ≡ cond whole call NotACall → meant place bytes r ≡ alone whole (meant place bytes call)
+alone-means true place bytes call r e = ap (meant place bytes) e
+alone-means false place bytes call r e = ap (meant place bytes) e
+
+pub call-long : (l : List ℕ) → 20000 < length l → callOf l ≡ notACall
+unfolding callOf
+call-long l h = rw (lt-ltb _ _ h)
+
+pub call-empty : (l : List ℕ) → length l ≡ 0 → callOf l ≡ passedOver
+unfolding callOf
+call-empty [] e = refl
+call-empty (x ∷ l) e = absurd (omega arith)
+
+pub call-comment : (l : List ℕ) → length l ≤ 20000 → getD l 0 0 ≡ 35 → callOf l ≡ passedOver
+unfolding callOf
+call-comment l h e = rw (le-ltb _ _ h, eq-eqb (getD l 0 0) 35 e, or-true)
+
+pub call-named : (l w b : List ℕ) (n : Name) (r : ℕ) → length l ≤ 20000 → (length l ≡ 0 → ⊥) → (getD l 0 0 ≡ 35 → ⊥)
+    → w ≡ wordOf l → n ≡ nameOf w → r ≡ reach 32 l → b ≡ behind l → callBy n (eqb r (length l)) b ≡ callOf l
+unfolding callOf
+call-named l w b n r h e f ew en er eb = rw (en, ew, er, eb, le-ltb _ _ h, ne-eqb (length l) 0 e, ne-eqb (getD l 0 0) 35 f)
+
+-- ---- a read
+
+pub read-no-place : (layout : Layout) (count room k : ℕ) (w : List ℕ) (p : Place) → k ≡ machinesOf layout → placeIn k p ≡ placeOf k w → p .found ≡ false → readFrom layout count room w ≡ notACall
+unfolding readFrom
+read-no-place layout count room k w p e f g =
+    ap (λ (x : NumbersOf). readBy layout count room x (bytesOf (skipped (machinesOf layout) w)))
+    (ap (λ (n : ℕ). placeOf n w) (sym e) ∙ sym f ∙ ap (λ (t : Bool). cond t (numbersAre (take k (p .numbers))) noNumbers) g)
+
+read-none : (layout : Layout) (count room : ℕ) (x : NumbersOf) → readBy layout count room x noBytes ≡ notACall
+read-none layout count room (numbersAre place) = refl
+read-none layout count room noNumbers = refl
+
+pub read-no-bytes : (layout : Layout) (count room k : ℕ) (w : List ℕ) → k ≡ machinesOf layout → bytesOf (skipped k w) ≡ noBytes → readFrom layout count room w ≡ notACall
+unfolding readFrom
+read-no-bytes layout count room k w e f =
+    ap (readBy layout count room (placeOf (machinesOf layout) w)) (ap (λ (n : ℕ). bytesOf (skipped n w)) (sym e) ∙ f)
+    ∙ read-none layout count room (placeOf (machinesOf layout) w)
+
+pub read-whole : (layout : Layout) (count room k : ℕ) (w piece : List ℕ) (p : Place) → k ≡ machinesOf layout → placeIn k p ≡ placeOf k w → p .found ≡ true → bytesOf (skipped k w) ≡ these piece
+    → readFrom layout count room w ≡ callRead layout count room (take (machinesOf layout) (p .numbers)) piece
+unfolding readFrom
+read-whole layout count room k w piece p e f g b =
+    ap (λ (x : NumbersOf). readBy layout count room x (bytesOf (skipped (machinesOf layout) w)))
+    (ap (λ (n : ℕ). placeOf n w) (sym e) ∙ sym f ∙ ap (λ (t : Bool). cond t (numbersAre (take k (p .numbers))) noNumbers) g ∙ ap (λ (n : ℕ). numbersAre (take n (p .numbers))) e)
+    ∙ ap (readBy layout count room (numbersAre (take (machinesOf layout) (p .numbers)))) (ap (λ (n : ℕ). bytesOf (skipped n w)) (sym e) ∙ b)
+
+pub over-no-count : (layout : Layout) (w : List ℕ) → numberOf 4294967295 (wordOf w) ≡ NoNumber → readOver layout w ≡ notACall
+unfolding readOver
+over-no-count layout w e = rw e
+
+pub over-no-room : (layout : Layout) (w : List ℕ) (count : ℕ) → numberOf 4294967295 (wordOf w) ≡ Is count → numberOf 2048 (wordOf (behind w)) ≡ NoNumber → readOver layout w ≡ notACall
+unfolding readOver
+over-no-room layout w count e f = rw (e, f)
+
+pub over-both : (layout : Layout) (w : List ℕ) (count room : ℕ) → numberOf 4294967295 (wordOf w) ≡ Is count → numberOf 2048 (wordOf (behind w)) ≡ Is room → readOver layout w ≡ readFrom layout count room (skipped 2 w)
+unfolding readOver
+over-both layout w count room e f = rw (e, f)
+
+pub layout-said : (u : List ℕ) {v : List ℕ} {r : Layouts} (x : Layouts) → r ≡ layoutOf v → v ≡ u → r ≡ x → layoutOf u ≡ x
+layout-said u x f e g = sym (ap layoutOf e) ∙ sym f ∙ g

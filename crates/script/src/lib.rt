@@ -1,0 +1,307 @@
+// The lines of a replay script: what call a line makes, if any. Every line gives an answer.
+mod bytes;
+mod lines;
+mod names;
+mod numbers;
+mod sets;
+mod words;
+
+use bytes::Bytes;
+use bytes::bytes_of;
+pub use bytes::put;
+pub use lines::Part;
+pub use lines::line_part;
+use names::Layouts;
+use names::Name;
+use numbers::Number;
+use numbers::number_of;
+use words::behind;
+use words::skipped;
+use words::word;
+ghost use mathlib.Core.Path.{_≡_};
+ghost use mathlib.Core.Bool.{cond};
+ghost use mathlib.Core.List.{List};
+ghost use Prim.Native.Nat.{ℕ, _≤_};
+ghost use lib.ListN.{length};
+ghost use Rattle.script.specs.Words.{wordOf};
+ghost use Rattle.script.specs.Words.{behind as behind·of};
+ghost use Rattle.script.specs.Numbers.{numberOf};
+ghost use Rattle.script.specs.Bytes.{bytesOf};
+ghost use Rattle.script.specs.Sets.{setOf};
+ghost use Rattle.script.specs.Calls.{Bounded, callOf, callBy, meant, setBy, lendBy, feedBy, closeBy, buildBy, pokeBy, peekBy, layoutOf, machinesOf, placeIn, placeOf, readFrom, readOver, readOn};
+
+pub enum Layout {
+    Split,
+    Whole,
+}
+
+// A call's numbers; of its bytes, how many the buffer begins with.
+pub enum Call {
+    PassedOver,
+    NotACall,
+    Set(usize),
+    Lend(usize),
+    Replace,
+    Open,
+    Feed(u32, usize),
+    Close(u32),
+    Take,
+    Show,
+    Build(Layout),
+    Read {
+        layout: Layout,
+        count: u32,
+        room: usize,
+        piece: usize,
+    },
+    Poke(usize, u16),
+    Peek(usize, usize),
+}
+
+// A line's call, and the place of a read: 8 numbers, or 1 and zeros. Of any other call the place is all 0.
+pub struct Line {
+    pub call: Call,
+    pub place: [u16; 8],
+}
+
+const LONGEST: usize = 20000;
+
+const LARGEST: u32 = 4294967295;
+
+// The call of a line without its end; its bytes are put into the buffer.
+pub fn call_of(line: &[u8], buffer: &mut [u8; 20000]) -> Line
+    ensures { λ r. ⌜ meant (r .place) (now (buffer .exit)) (r .call) ≡ callOf (now (line .entry)) ⌝ }
+    ensures { λ r. ⌜ Bounded (r .call) ⌝ }
+{
+    if LONGEST < line.len() {
+        return plain(Call::NotACall);
+    }
+    if line.len() == 0 {
+        return plain(Call::PassedOver);
+    }
+    if line[0] == b'#' {
+        return plain(Call::PassedOver);
+    }
+    let name = names::name_of(word(line));
+    let whole = words::reach(line, b' ') == line.len();
+    by_name(name, whole, behind(line), buffer)
+}
+
+fn plain(call: Call) -> Line
+    ensures { λ r. ⌜ r .call ≡ call ⌝ }
+{
+    let place = [0u16; 8];
+    Line { call, place }
+}
+
+// A call by its name, whether that is the whole line, and the words behind it.
+fn by_name(name: Name, whole: bool, words: &[u8], buffer: &mut [u8]) -> Line
+    requires { ⌜ (length (now words) ≤ 20000) × (20000 ≤ length (now buffer)) ⌝ }
+    ensures { λ r. ⌜ meant (r .place) (now (buffer .exit)) (r .call) ≡ callBy name whole (now (words .entry)) ⌝ }
+    ensures { λ r. ⌜ Bounded (r .call) ⌝ }
+{
+    match name {
+        Name::Set => plain(set(words, buffer)),
+        Name::Lend => plain(lend(words)),
+        Name::Replace => plain(alone(whole, Call::Replace)),
+        Name::Open => plain(alone(whole, Call::Open)),
+        Name::Feed => plain(feed(words, buffer)),
+        Name::Close => plain(close(words)),
+        Name::Take => plain(alone(whole, Call::Take)),
+        Name::Show => plain(alone(whole, Call::Show)),
+        Name::Build => plain(build(words)),
+        Name::Read => read(words, buffer),
+        Name::Poke => plain(poke(words)),
+        Name::Peek => plain(peek(words)),
+        Name::Other => plain(Call::NotACall),
+    }
+}
+
+fn alone(whole: bool, call: Call) -> Call
+    ensures { λ r. ⌜ r ≡ cond whole call Call.NotACall ⌝ }
+{
+    if whole {
+        return call;
+    }
+    Call::NotACall
+}
+
+fn set(words: &[u8], buffer: &mut [u8]) -> Call
+    requires { ⌜ (length (now words) ≤ 20000) × (20000 ≤ length (now buffer)) ⌝ }
+    ensures { λ r. ⌜ ((place : List ℕ) → meant place (now (buffer .exit)) r ≡ setBy (setOf (now (words .entry)))) ⌝ }
+    ensures { λ r. ⌜ Bounded r ⌝ }
+{
+    let Bytes::Are(n) = sets::set_bytes(words, buffer) else {
+        return Call::NotACall;
+    };
+    Call::Set(n)
+}
+
+fn lend(words: &[u8]) -> Call
+    ensures { λ r. ⌜ ((place bytes : List ℕ) → meant place bytes r ≡ lendBy (numberOf 131841 (now (words .entry)))) ⌝ }
+    ensures { λ r. ⌜ Bounded r ⌝ }
+{
+    let Number::Is(lent) = number_of(words, 131841) else {
+        return Call::NotACall;
+    };
+    Call::Lend(lent as usize)
+}
+
+fn feed(words: &[u8], buffer: &mut [u8]) -> Call
+    requires { ⌜ (length (now words) ≤ 20000) × (20000 ≤ length (now buffer)) ⌝ }
+    ensures { λ r. ⌜ ((place : List ℕ) → meant place (now (buffer .exit)) r ≡ feedBy (numberOf 4294967295 (wordOf (now (words .entry)))) (bytesOf (behind·of (now (words .entry))))) ⌝ }
+    ensures { λ r. ⌜ Bounded r ⌝ }
+{
+    let Number::Is(serial) = number_of(word(words), LARGEST) else {
+        return Call::NotACall;
+    };
+    let Bytes::Are(n) = bytes_of(behind(words), buffer) else {
+        return Call::NotACall;
+    };
+    Call::Feed(serial, n)
+}
+
+fn close(words: &[u8]) -> Call
+    ensures { λ r. ⌜ ((place bytes : List ℕ) → meant place bytes r ≡ closeBy (numberOf 4294967295 (now (words .entry)))) ⌝ }
+    ensures { λ r. ⌜ Bounded r ⌝ }
+{
+    let Number::Is(serial) = number_of(words, LARGEST) else {
+        return Call::NotACall;
+    };
+    Call::Close(serial)
+}
+
+fn build(words: &[u8]) -> Call
+    ensures { λ r. ⌜ ((place bytes : List ℕ) → meant place bytes r ≡ buildBy (layoutOf (now (words .entry)))) ⌝ }
+    ensures { λ r. ⌜ Bounded r ⌝ }
+{
+    let Layouts::Named(layout) = names::layout_of(words) else {
+        return Call::NotACall;
+    };
+    Call::Build(layout)
+}
+
+fn poke(words: &[u8]) -> Call
+    ensures { λ r. ⌜ ((place bytes : List ℕ) → meant place bytes r ≡ pokeBy (numberOf 131840 (wordOf (now (words .entry)))) (numberOf 65535 (behind·of (now (words .entry))))) ⌝ }
+    ensures { λ r. ⌜ Bounded r ⌝ }
+{
+    let Number::Is(at) = number_of(word(words), 131840) else {
+        return Call::NotACall;
+    };
+    let Number::Is(value) = number_of(behind(words), 65535) else {
+        return Call::NotACall;
+    };
+    Call::Poke(at as usize, value as u16)
+}
+
+fn peek(words: &[u8]) -> Call
+    ensures { λ r. ⌜ ((place bytes : List ℕ) → meant place bytes r ≡ peekBy (numberOf 4294967295 (wordOf (now (words .entry)))) (numberOf 256 (behind·of (now (words .entry))))) ⌝ }
+    ensures { λ r. ⌜ Bounded r ⌝ }
+{
+    let Number::Is(at) = number_of(word(words), LARGEST) else {
+        return Call::NotACall;
+    };
+    let Number::Is(count) = number_of(behind(words), 256) else {
+        return Call::NotACall;
+    };
+    let from = at as usize;
+    let shown = count as usize;
+    if 131841 < from + shown {
+        return Call::NotACall;
+    }
+    Call::Peek(from, shown)
+}
+
+// How many numbers a place of a layout has.
+pub fn machines(layout: Layout) -> usize
+    ensures { λ r. ⌜ r ≡ machinesOf layout ⌝ }
+{
+    match layout {
+        Layout::Split => 8,
+        Layout::Whole => 1,
+    }
+}
+
+// The numbers of a place, where all its words are numbers.
+struct Place {
+    found: bool,
+    numbers: [u16; 8],
+}
+
+fn place_of(words: &[u8], k: usize) -> Place
+    requires { ⌜ k ≤ 8 ⌝ }
+    ensures { λ r. ⌜ placeIn k r ≡ placeOf k (now (words .entry)) ⌝ }
+{
+    let mut numbers = [0u16; 8];
+    let mut rest = words;
+    let mut i: usize = 0;
+    while i < k {
+        let Number::Is(n) = number_of(word(rest), 65535) else {
+            return Place {
+                found: false,
+                numbers,
+            };
+        };
+        numbers[i] = n as u16;
+        let next = behind(rest);
+        rest = next;
+        i += 1;
+    }
+    Place {
+        found: true,
+        numbers,
+    }
+}
+
+fn read(words: &[u8], buffer: &mut [u8]) -> Line
+    requires { ⌜ (length (now words) ≤ 20000) × (20000 ≤ length (now buffer)) ⌝ }
+    ensures { λ r. ⌜ meant (r .place) (now (buffer .exit)) (r .call) ≡ readOn (layoutOf (wordOf (now (words .entry)))) (behind·of (now (words .entry))) ⌝ }
+    ensures { λ r. ⌜ Bounded (r .call) ⌝ }
+{
+    let Layouts::Named(layout) = names::layout_of(word(words)) else {
+        return plain(Call::NotACall);
+    };
+    read_over(layout, behind(words), buffer)
+}
+
+// COUNT ROOM PLACE... BYTES
+fn read_over(layout: Layout, words: &[u8], buffer: &mut [u8]) -> Line
+    requires { ⌜ (length (now words) ≤ 20000) × (20000 ≤ length (now buffer)) ⌝ }
+    ensures { λ r. ⌜ meant (r .place) (now (buffer .exit)) (r .call) ≡ readOver layout (now (words .entry)) ⌝ }
+    ensures { λ r. ⌜ Bounded (r .call) ⌝ }
+{
+    let Number::Is(count) = number_of(word(words), LARGEST) else {
+        return plain(Call::NotACall);
+    };
+    let Number::Is(room) = number_of(word(behind(words)), 2048) else {
+        return plain(Call::NotACall);
+    };
+    read_from(layout, count, room, skipped(words, 2), buffer)
+}
+
+// PLACE... BYTES
+fn read_from(layout: Layout, count: u32, room: u32, words: &[u8], buffer: &mut [u8]) -> Line
+    requires { ⌜ (length (now words) ≤ 20000) × (20000 ≤ length (now buffer)) × (room ≤ 2048) ⌝ }
+    ensures { λ r. ⌜ meant (r .place) (now (buffer .exit)) (r .call) ≡ readFrom layout count room (now (words .entry)) ⌝ }
+    ensures { λ r. ⌜ Bounded (r .call) ⌝ }
+{
+    let k = machines(layout);
+    let place = place_of(words, k);
+    if !place.found {
+        return plain(Call::NotACall);
+    }
+    let Bytes::Are(piece) = bytes_of(skipped(words, k), buffer) else {
+        return plain(Call::NotACall);
+    };
+    let numbers = place.numbers;
+    let call = Call::Read {
+        layout,
+        count,
+        room: room as usize,
+        piece,
+    };
+    Line {
+        call,
+        place: numbers,
+    }
+}

@@ -1,0 +1,109 @@
+// The bytes of a set: as they are written, or an entry of kind 1 for each quotation.
+use crate::bytes::Bytes;
+use crate::bytes::bytes_of;
+use crate::bytes::put;
+use crate::words::reach;
+ghost use mathlib.Core.Path.{_≡_};
+ghost use Prim.Native.Nat.{_+_, _≤_};
+ghost use lib.ListN.{length, take};
+ghost use mathlib.Core.List.{_++_};
+ghost use Rattle.script.specs.Bytes.{bytesIn, countOf, these};
+ghost use Rattle.script.specs.Sets.{quotedAt, entryOf, entriesOf, within, setOf};
+
+const MOST: usize = 4096;
+
+// A quotation at the front of some words, with so many bytes inside: the last word, or followed by a blank; or there is none.
+pub enum Quoted {
+    Last(usize),
+    Followed(usize),
+    NotQuoted,
+}
+
+pub fn quoted_at(words: &[u8]) -> Quoted
+    ensures { λ r. ⌜ r ≡ quotedAt (now (words .entry)) ⌝ }
+{
+    if words.len() == 0 {
+        return Quoted::NotQuoted;
+    }
+    if words[0] != b'"' {
+        return Quoted::NotQuoted;
+    }
+    let inside = reach(&words[1..], b'"');
+    let end = inside + 2;
+    if words.len() < end {
+        return Quoted::NotQuoted;
+    }
+    if words.len() == end {
+        return Quoted::Last(inside);
+    }
+    if words[end] != b' ' {
+        return Quoted::NotQuoted;
+    }
+    Quoted::Followed(inside)
+}
+
+// An entry behind the n bytes that the buffer begins with, unless the set grows too long.
+fn put_entry(buffer: &mut [u8], n: usize, payload: &[u8]) -> Bytes
+    requires { ⌜ (n ≤ 4096) × (4096 ≤ length (now buffer)) ⌝ }
+    ensures { λ r. ⌜ bytesIn (now (buffer .exit)) r ≡ within 4096 (these (take n (now (buffer .entry)) ++ entryOf (now (payload .entry)))) ⌝ }
+    ensures { λ r. ⌜ countOf r ≤ 4096 ⌝ }
+{
+    if MOST < payload.len() {
+        return Bytes::NoBytes;
+    }
+    if MOST < n + 4 + payload.len() {
+        return Bytes::NoBytes;
+    }
+    let k = payload.len();
+    let head = [(k % 256) as u8, (k / 256) as u8, 1, 0];
+    put(buffer, n, &head);
+    put(buffer, n + 4, payload);
+    Bytes::Are(n + 4 + k)
+}
+
+fn entries(words: &[u8], buffer: &mut [u8]) -> Bytes
+    requires { ⌜ 4096 ≤ length (now buffer) ⌝ }
+    ensures { λ r. ⌜ bytesIn (now (buffer .exit)) r ≡ within 4096 (entriesOf (length (now (words .entry))) (now (words .entry))) ⌝ }
+    ensures { λ r. ⌜ countOf r ≤ 4096 ⌝ }
+{
+    let mut rest = words;
+    let mut left = words.len();
+    let mut n: usize = 0;
+    while 0 < left {
+        left -= 1;
+        let quoted = quoted_at(rest);
+        match quoted {
+            Quoted::NotQuoted => return Bytes::NoBytes,
+            Quoted::Last(k) => return put_entry(buffer, n, &rest[1..k + 1]),
+            Quoted::Followed(k) => {
+                let Bytes::Are(m) = put_entry(buffer, n, &rest[1..k + 1]) else {
+                    return Bytes::NoBytes;
+                };
+                n = m;
+                let next = &rest[k + 3..];
+                rest = next;
+            }
+        }
+    }
+    Bytes::NoBytes
+}
+
+pub fn set_bytes(words: &[u8], buffer: &mut [u8]) -> Bytes
+    requires { ⌜ (length (now words) ≤ length (now buffer)) × (4096 ≤ length (now buffer)) ⌝ }
+    ensures { λ r. ⌜ bytesIn (now (buffer .exit)) r ≡ setOf (now (words .entry)) ⌝ }
+    ensures { λ r. ⌜ countOf r ≤ 4096 ⌝ }
+{
+    if words.len() == 0 {
+        return Bytes::NoBytes;
+    }
+    if words[0] == b'"' {
+        return entries(words, buffer);
+    }
+    let Bytes::Are(n) = bytes_of(words, buffer) else {
+        return Bytes::NoBytes;
+    };
+    if MOST < n {
+        return Bytes::NoBytes;
+    }
+    Bytes::Are(n)
+}
