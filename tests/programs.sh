@@ -62,6 +62,8 @@ for script in tests/replay/*.replay examples/*.replay; do
   done
   scripts=$((scripts + 1))
 done
+examples/side_by_side examples/incident.replay examples/incident.expected >"$work/answers"
+same 'the incident, call and answer side by side' examples/incident.txt "$work/answers"
 echo "replay: $scripts samples"
 
 # a script that cannot be read: one line on standard error, no answer; and output that cannot be written
