@@ -1,0 +1,122 @@
+// Building timed: tables of 16 tags of 32 bytes, ours and others'.
+use crate::gateway;
+use crate::ours::{set_of, slots_of};
+use crate::plan::Plan;
+use crate::random::Random;
+use crate::timing::best_of;
+use crate::tree::{self, Slicing, Vectors, SPLIT, WHOLE};
+use std::hint::black_box;
+
+pub const SPLIT_OURS: &str = "split, ours";
+pub const SPLIT_LINKS: &str = "split, Rust by tree and links";
+pub const SPLIT_TEST: &str = "split, Rust with the plain test";
+pub const WHOLE_OURS: &str = "whole-byte, ours";
+pub const WHOLE_LINKS: &str = "whole-byte, Rust by tree and links";
+pub const WHOLE_TEST: &str = "whole-byte, Rust with the plain test";
+pub const NEEDED: &str = "slots needed, ours";
+pub const DFA_BUILD: &str = "aho-corasick DFA";
+pub const HYPERSCAN_COMPILE: &str = "Hyperscan, streaming";
+
+/// Microseconds that a builder took for a set.
+pub struct Build {
+    pub builder: &'static str,
+    pub set: &'static str,
+    pub micros: f64,
+}
+
+/// 16 tags of 32 bytes each: any bytes; letters; letters of which the first 24 are the same in all.
+pub fn sets() -> Vec<(&'static str, Vec<Vec<u8>>)> {
+    let mut random = Random::new(16);
+    let front = letters(&mut random, 24);
+    vec![
+        ("random", (0..16).map(|_| random.bytes(32)).collect()),
+        (
+            "letters",
+            (0..16).map(|_| letters(&mut random, 32)).collect(),
+        ),
+        (
+            "shared front",
+            (0..16)
+                .map(|_| [front.clone(), letters(&mut random, 8)].concat())
+                .collect(),
+        ),
+    ]
+}
+
+fn letters(random: &mut Random, n: usize) -> Vec<u8> {
+    (0..n).map(|_| b'a' + random.below(26) as u8).collect()
+}
+
+/// All figures of building, or the builders that leave different numbers.
+pub fn measure(plan: &Plan) -> Result<Vec<Build>, String> {
+    let mut builds = Vec::new();
+    for (set, tags) in sets() {
+        plan.progress(&format!("building, 16 tags of 32 bytes, {set}"));
+        builds.extend(measure_set(plan, set, &tags)?);
+    }
+    Ok(builds)
+}
+
+fn measure_set(plan: &Plan, set: &'static str, tags: &[Vec<u8>]) -> Result<Vec<Build>, String> {
+    let bytes = set_of(tags);
+    let (split, whole) = slots_of(&bytes);
+    let (mut split, mut whole) = (vec![0; split * 24], vec![0; whole * 257]);
+    gateway::build_split(&bytes, &mut split);
+    gateway::build_whole(&bytes, &mut whole);
+    same_numbers(tags, SPLIT, &split).map_err(|why| format!("split table, {set}: {why}"))?;
+    same_numbers(tags, WHOLE, &whole).map_err(|why| format!("whole-byte table, {set}: {why}"))?;
+    let timed = |builder, call: &mut dyn FnMut()| Build {
+        builder,
+        set,
+        micros: best_of(plan.rounds, call) / 1000.0,
+    };
+    let mut builds = vec![
+        timed(SPLIT_OURS, &mut || {
+            black_box(gateway::build_split(&bytes, &mut split));
+        }),
+        timed(SPLIT_TEST, &mut || {
+            tree::build(tags, SPLIT, Vectors::ByPlainTest, black_box(&mut split))
+        }),
+        timed(SPLIT_LINKS, &mut || {
+            tree::build(tags, SPLIT, Vectors::ByLinks, black_box(&mut split))
+        }),
+        timed(WHOLE_OURS, &mut || {
+            black_box(gateway::build_whole(&bytes, &mut whole));
+        }),
+        timed(WHOLE_TEST, &mut || {
+            tree::build(tags, WHOLE, Vectors::ByPlainTest, black_box(&mut whole))
+        }),
+        timed(WHOLE_LINKS, &mut || {
+            tree::build(tags, WHOLE, Vectors::ByLinks, black_box(&mut whole))
+        }),
+        timed(NEEDED, &mut || {
+            black_box(gateway::slots_needed(&bytes));
+        }),
+    ];
+    #[cfg(aho_corasick)]
+    builds.push(timed(DFA_BUILD, &mut || {
+        drop(black_box(crate::aho_corasick_peer::build(tags)))
+    }));
+    #[cfg(hyperscan)]
+    if crate::hyperscan_peer::runs_here() {
+        builds.push(timed(HYPERSCAN_COMPILE, &mut || {
+            drop(black_box(crate::hyperscan_peer::Database::compile(tags)))
+        }));
+    }
+    Ok(builds)
+}
+
+/// Holds a table that we built against the plain builder's, number by number.
+fn same_numbers(tags: &[Vec<u8>], slicing: Slicing, ours: &[u16]) -> Result<(), String> {
+    for vectors in [Vectors::ByLinks, Vectors::ByPlainTest] {
+        let mut other = vec![0; ours.len()];
+        tree::build(tags, slicing, vectors, &mut other);
+        if let Some(i) = (0..ours.len()).find(|i| ours[*i] != other[*i]) {
+            return Err(format!(
+                "number {i} is {} for us and {} for the plain builder",
+                ours[i], other[i]
+            ));
+        }
+    }
+    Ok(())
+}
