@@ -1,6 +1,6 @@
 // Building timed: tables of 16 tags of 32 bytes, ours and others'.
 use crate::gateway;
-use crate::ours::{set_of, slots_of};
+use crate::ours::{self, set_of};
 use crate::plan::Plan;
 use crate::random::Random;
 use crate::timing::best_of;
@@ -59,58 +59,64 @@ pub fn measure(plan: &Plan) -> Result<Vec<Build>, String> {
 
 fn measure_set(plan: &Plan, set: &'static str, tags: &[Vec<u8>]) -> Result<Vec<Build>, String> {
     let bytes = set_of(tags);
-    let (split, whole) = slots_of(&bytes);
-    let (mut split, mut whole) = (vec![0; split * 24], vec![0; whole * 257]);
-    gateway::build_split(&bytes, &mut split);
-    gateway::build_whole(&bytes, &mut whole);
+    let mut split = ours::split_table(tags);
+    let mut whole = ours::whole_table(tags);
     same_numbers(tags, SPLIT, &split).map_err(|why| format!("split table, {set}: {why}"))?;
     same_numbers(tags, WHOLE, &whole).map_err(|why| format!("whole-byte table, {set}: {why}"))?;
-    let timed = |builder, call: &mut dyn FnMut()| Build {
-        builder,
-        set,
-        micros: best_of(plan.rounds, call) / 1000.0,
+    let mut builds = Vec::new();
+    let mut time = |builder, call: &mut dyn FnMut()| {
+        let micros = best_of(plan.samples(), call) / 1000.0;
+        builds.push(Build {
+            builder,
+            set,
+            micros,
+        });
     };
-    let mut builds = vec![
-        timed(SPLIT_OURS, &mut || {
-            black_box(gateway::build_split(&bytes, &mut split));
-        }),
-        timed(SPLIT_TEST, &mut || {
-            tree::build(tags, SPLIT, Vectors::ByPlainTest, black_box(&mut split))
-        }),
-        timed(SPLIT_LINKS, &mut || {
-            tree::build(tags, SPLIT, Vectors::ByLinks, black_box(&mut split))
-        }),
-        timed(WHOLE_OURS, &mut || {
-            black_box(gateway::build_whole(&bytes, &mut whole));
-        }),
-        timed(WHOLE_TEST, &mut || {
-            tree::build(tags, WHOLE, Vectors::ByPlainTest, black_box(&mut whole))
-        }),
-        timed(WHOLE_LINKS, &mut || {
-            tree::build(tags, WHOLE, Vectors::ByLinks, black_box(&mut whole))
-        }),
-        timed(NEEDED, &mut || {
-            black_box(gateway::slots_needed(&bytes));
-        }),
-    ];
+    time(SPLIT_OURS, &mut || {
+        keep(gateway::build_split(&bytes, &mut split))
+    });
+    time(SPLIT_TEST, &mut || {
+        keep(tree::build(tags, SPLIT, Vectors::ByPlainTest, &mut split))
+    });
+    time(SPLIT_LINKS, &mut || {
+        keep(tree::build(tags, SPLIT, Vectors::ByLinks, &mut split))
+    });
+    time(WHOLE_OURS, &mut || {
+        keep(gateway::build_whole(&bytes, &mut whole))
+    });
+    time(WHOLE_TEST, &mut || {
+        keep(tree::build(tags, WHOLE, Vectors::ByPlainTest, &mut whole))
+    });
+    time(WHOLE_LINKS, &mut || {
+        keep(tree::build(tags, WHOLE, Vectors::ByLinks, &mut whole))
+    });
+    time(NEEDED, &mut || keep(gateway::slots_needed(&bytes)));
     #[cfg(aho_corasick)]
-    builds.push(timed(DFA_BUILD, &mut || {
-        drop(black_box(crate::aho_corasick_peer::build(tags)))
-    }));
+    time(DFA_BUILD, &mut || {
+        keep(crate::aho_corasick_peer::build(tags))
+    });
     #[cfg(hyperscan)]
     if crate::hyperscan_peer::runs_here() {
-        builds.push(timed(HYPERSCAN_COMPILE, &mut || {
-            drop(black_box(crate::hyperscan_peer::Database::compile(tags)))
-        }));
+        time(HYPERSCAN_COMPILE, &mut || {
+            keep(crate::hyperscan_peer::Database::compile(tags))
+        });
     }
     Ok(builds)
+}
+
+/// What was built is looked at, so that building it is not left out.
+fn keep<T>(built: T) {
+    black_box(built);
 }
 
 /// Holds a table that we built against the plain builder's, number by number.
 fn same_numbers(tags: &[Vec<u8>], slicing: Slicing, ours: &[u16]) -> Result<(), String> {
     for vectors in [Vectors::ByLinks, Vectors::ByPlainTest] {
         let mut other = vec![0; ours.len()];
-        tree::build(tags, slicing, vectors, &mut other);
+        assert!(
+            tree::build(tags, slicing, vectors, &mut other),
+            "slots enough"
+        );
         if let Some(i) = (0..ours.len()).find(|i| ours[*i] != other[*i]) {
             return Err(format!(
                 "number {i} is {} for us and {} for the plain builder",

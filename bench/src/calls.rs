@@ -85,7 +85,7 @@ pub fn measure(plan: &Plan) -> Vec<Call> {
 
 /// The best round of a part that is timed alone, for one of so many calls in it.
 fn best_part(plan: &Plan, calls: usize, mut part: impl FnMut() -> Duration) -> f64 {
-    let rounds = 200 * plan.rounds;
+    let rounds = 20 * plan.samples();
     let best = (0..rounds).map(|_| part()).min().expect("a round at least");
     best.as_nanos() as f64 / calls as f64
 }
@@ -145,7 +145,7 @@ fn feeding_of(plan: &Plan, size: usize) -> f64 {
     let mut office = Office::new();
     let mut serial = office.open();
     let mut taken = 0;
-    best_of(plan.rounds, || {
+    best_of(plan.samples(), || {
         // A ticket takes no more than 4 GiB.
         if taken > 1 << 31 {
             office.close(serial);
@@ -168,7 +168,7 @@ fn feeding_of(plan: &Plan, size: usize) -> f64 {
 fn reading_outside(plan: &Plan) -> Call {
     let office = Office::new();
     let mut list = [0; 2 * RECORDS];
-    let nanos = best_of(plan.rounds, || {
+    let nanos = best_of(plan.samples(), || {
         let read = gateway::read_split(
             &office.table,
             &[0; 8],
@@ -236,7 +236,7 @@ fn taking_by(plan: &Plan, mut take_all: impl FnMut(&mut Desk)) -> f64 {
 
 fn replacing(plan: &Plan) -> Call {
     let mut office = Office::new();
-    let nanos = best_of(plan.rounds, || {
+    let nanos = best_of(plan.samples(), || {
         assert_eq!(
             office.desk.replace(&office.set, &mut office.table).refusal,
             0,

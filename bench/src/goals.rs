@@ -1,9 +1,9 @@
 // What was to be reached, and what was.
-use crate::building::{self, DFA_BUILD, SPLIT_LINKS, SPLIT_OURS, SPLIT_TEST, WHOLE_OURS};
+use crate::building::{self, DFA_BUILD, SPLIT_LINKS, SPLIT_OURS};
 use crate::calls::{FEED_4096, FEED_NONE, READ_4096, TAKE_MANY};
 use crate::engines::*;
 use crate::figures::Figures;
-use crate::inputs::{Kind, KINDS, NEAR, WITH_FEW_MATCHES};
+use crate::inputs::{Kind, KINDS, WITH_FEW_MATCHES};
 use crate::reading::TAG_COUNTS;
 
 #[derive(Clone, Copy)]
@@ -12,66 +12,76 @@ pub enum Wanted {
     AtMost(f64),
 }
 
-/// A goal, and the worst that was reached and where; None where a peer is missing.
+/// A goal and what was reached, with where: nothing where a peer is missing.
 pub struct Goal {
     pub what: String,
     pub wanted: Wanted,
-    pub reached: Option<(f64, String)>,
+    pub reached: Vec<(f64, String)>,
 }
 
 impl Goal {
     pub fn verdict(&self) -> &'static str {
-        match (&self.reached, self.wanted) {
-            (None, _) => "not measured",
-            (Some((x, _)), Wanted::AtLeast(least)) if *x >= least => "reached",
-            (Some((x, _)), Wanted::AtMost(most)) if *x <= most => "reached",
-            _ => "MISSED",
+        let met = |value: f64| match self.wanted {
+            Wanted::AtLeast(least) => value >= least,
+            Wanted::AtMost(most) => value <= most,
+        };
+        match self.reached.iter().filter(|(value, _)| met(*value)).count() {
+            _ if self.reached.is_empty() => "not measured",
+            n if n == self.reached.len() => "reached",
+            0 => "MISSED",
+            _ => "MISSED in part",
         }
     }
 }
 
-const RANDOM_AND_ENGLISH: [Kind; 2] = [Kind::Random, Kind::English];
-
 pub fn goals(figures: &Figures) -> Vec<Goal> {
-    let beside = |engine: &str, other: &str, kinds: &[Kind], least: f64| {
-        beside(figures, engine, other, kinds, least)
+    let mut goals = Vec::new();
+    let mut beside = |engine: &str, other: &str, kinds: &[Kind], least: f64| {
+        goals.push(beside(figures, engine, other, kinds, least));
     };
-    let mut goals = vec![
-        beside(WHOLE_BYTE, AHO_CORASICK, &RANDOM_AND_ENGLISH, 0.95),
-        beside(WHOLE_BYTE, AHO_CORASICK, &NEAR, 1.2),
-        beside(ONE_BIT, AHO_CORASICK, &RANDOM_AND_ENGLISH, 0.48),
-        beside(ONE_BIT, AHO_CORASICK, &NEAR, 0.6),
-        beside(ONE_BIT, HYPERSCAN, &[Kind::Near], 1.7),
-        beside(ONE_BIT, HYPERSCAN, &[Kind::NearRuns], 1.7),
-        beside(ONE_BIT, ONE_BIT_PLAIN, &WITH_FEW_MATCHES, 1.8),
-        beside(WHOLE_BYTE, WHOLE_BYTE_PLAIN, &WITH_FEW_MATCHES, 1.4),
-        beside(ONE_BIT, ONE_BIT_UNCHECKED, &KINDS, 0.95),
-        beside(WHOLE_BYTE, WHOLE_BYTE_UNCHECKED, &KINDS, 0.95),
-        steadiness(figures, ONE_BIT),
-        steadiness(figures, WHOLE_BYTE),
-    ];
-    goals.extend([ONE_BIT, WHOLE_BYTE, DESK].map(|engine| beside_direct(figures, engine)));
+    beside(
+        WHOLE_BYTE,
+        AHO_CORASICK,
+        &[Kind::Random, Kind::English],
+        0.95,
+    );
+    beside(WHOLE_BYTE, AHO_CORASICK, &[Kind::Near], 1.2);
+    beside(WHOLE_BYTE, AHO_CORASICK, &[Kind::NearRuns], 1.2);
+    beside(ONE_BIT, AHO_CORASICK, &[Kind::Random, Kind::English], 0.48);
+    beside(ONE_BIT, AHO_CORASICK, &[Kind::Near], 0.6);
+    beside(ONE_BIT, AHO_CORASICK, &[Kind::NearRuns], 0.6);
+    beside(ONE_BIT, HYPERSCAN, &[Kind::Near], 1.7);
+    beside(ONE_BIT, HYPERSCAN, &[Kind::NearRuns], 1.7);
+    beside(ONE_BIT, ONE_BIT_PLAIN, &WITH_FEW_MATCHES, 1.8);
+    beside(WHOLE_BYTE, WHOLE_BYTE_PLAIN, &WITH_FEW_MATCHES, 1.4);
+    beside(ONE_BIT, ONE_BIT_UNCHECKED, &KINDS, 0.95);
+    beside(WHOLE_BYTE, WHOLE_BYTE_UNCHECKED, &KINDS, 0.95);
+    goals.extend(OURS.map(|engine| steadiness(figures, engine)));
+    goals.extend(OURS.map(|engine| beside_direct(figures, engine)));
     goals.extend(building_goals(figures));
     goals.extend(call_goals(figures));
     goals
 }
 
 fn names(kinds: &[Kind]) -> String {
-    kinds
-        .iter()
-        .map(|kind| kind.name())
-        .collect::<Vec<_>>()
-        .join(", ")
+    match kinds {
+        _ if kinds == KINDS => "all inputs".into(),
+        _ if kinds == WITH_FEW_MATCHES => "few matches".into(),
+        _ => kinds
+            .iter()
+            .map(|kind| kind.name())
+            .collect::<Vec<_>>()
+            .join(", "),
+    }
 }
 
 /// The least ratio to another engine among these inputs, with 4 and with 16 tags.
 fn beside(figures: &Figures, engine: &str, other: &str, kinds: &[Kind], least: f64) -> Goal {
-    let what = format!("{engine} / {other}: {}", names(kinds));
-    let reached = worst_ratio(figures, engine, other, &TAG_COUNTS, kinds);
+    let worst = |tags: &usize| worst_ratio(figures, engine, other, *tags, kinds);
     Goal {
-        what,
+        what: format!("{engine} / {other}: {}", names(kinds)),
         wanted: Wanted::AtLeast(least),
-        reached,
+        reached: TAG_COUNTS.iter().filter_map(worst).collect(),
     }
 }
 
@@ -79,104 +89,82 @@ fn worst_ratio(
     figures: &Figures,
     engine: &str,
     other: &str,
-    tag_counts: &[usize],
+    tags: usize,
     kinds: &[Kind],
 ) -> Option<(f64, String)> {
-    let cases = tag_counts
-        .iter()
-        .flat_map(|tags| kinds.iter().map(move |kind| (*tags, *kind)));
-    let ratios = cases.filter_map(|(tags, kind)| {
-        let ratio = figures.ratio(engine, other, tags, kind)?;
+    let ratio = |kind: &Kind| {
+        let ratio = figures.ratio(engine, other, tags, *kind)?;
         Some((ratio, format!("{tags} tags, {}", kind.name())))
-    });
-    ratios.min_by(|a, b| a.0.total_cmp(&b.0))
+    };
+    kinds
+        .iter()
+        .filter_map(ratio)
+        .min_by(|a, b| a.0.total_cmp(&b.0))
 }
 
 fn beside_direct(figures: &Figures, engine: &str) -> Goal {
-    let what = format!("{engine} / {DIRECT}: 16 tags, few matches");
-    let reached = worst_ratio(figures, engine, DIRECT, &[16], &WITH_FEW_MATCHES);
     Goal {
-        what,
+        what: format!("{engine} / {DIRECT}: 16 tags, few matches"),
         wanted: Wanted::AtLeast(4.0),
-        reached,
+        reached: worst_ratio(figures, engine, DIRECT, 16, &WITH_FEW_MATCHES)
+            .into_iter()
+            .collect(),
     }
 }
 
 /// The fastest of the inputs with few matches beside the slowest, within an engine.
 fn steadiness(figures: &Figures, engine: &str) -> Goal {
-    let spreads = TAG_COUNTS.iter().filter_map(|tags| {
+    let spread = |tags: &usize| {
         let times = WITH_FEW_MATCHES
             .iter()
             .filter_map(|kind| figures.timed(engine, *tags, *kind));
         let slowest = times.clone().max_by(|a, b| a.best().total_cmp(&b.best()))?;
         let fastest = times.min_by(|a, b| a.best().total_cmp(&b.best()))?;
-        Some((
-            fastest.best() / slowest.best(),
-            format!("{tags} tags, slowest on {}", slowest.kind.name()),
-        ))
-    });
-    let reached = spreads.min_by(|a, b| a.0.total_cmp(&b.0));
+        let place = format!("{tags} tags, slowest on {}", slowest.kind.name());
+        Some((fastest.best() / slowest.best(), place))
+    };
     Goal {
-        what: format!("{engine}: slowest / fastest input with few matches"),
+        what: format!("{engine}: slowest input with few matches / fastest"),
         wanted: Wanted::AtLeast(0.9),
-        reached,
+        reached: TAG_COUNTS.iter().filter_map(spread).collect(),
     }
 }
 
 fn building_goals(figures: &Figures) -> Vec<Goal> {
-    let sets = building::sets();
-    let worst = |value: &dyn Fn(&str) -> Option<f64>| {
-        let values = sets
-            .iter()
-            .filter_map(|(set, _)| Some((value(set)?, set.to_string())));
-        values.max_by(|a, b| a.0.total_cmp(&b.0))
+    let sets: Vec<&str> = building::sets().iter().map(|(set, _)| *set).collect();
+    let total = |set: &&str| Some((figures.build(SPLIT_OURS, set)? / 1000.0, set.to_string()));
+    let rest = |set: &&str| {
+        let ratio = figures.build(SPLIT_LINKS, set)? / figures.build(DFA_BUILD, set)?;
+        Some((ratio, set.to_string()))
     };
-    let rest = |set: &str| {
-        let test = figures.build(SPLIT_TEST, set)? - figures.build(SPLIT_LINKS, set)?;
-        Some((figures.build(SPLIT_OURS, set)? - test) / figures.build(DFA_BUILD, set)?)
-    };
-    let milliseconds =
-        |builder: &'static str| move |set: &str| Some(figures.build(builder, set)? / 1000.0);
     vec![
         Goal {
             what: "split table of 16 tags of 32 bytes, ms".into(),
             wanted: Wanted::AtMost(5.0),
-            reached: worst(&milliseconds(SPLIT_OURS)),
+            reached: sets.iter().filter_map(total).collect(),
         },
         Goal {
-            what: "whole-byte table of 16 tags of 32 bytes, ms".into(),
-            wanted: Wanted::AtMost(5.0),
-            reached: worst(&milliseconds(WHOLE_OURS)),
-        },
-        Goal {
-            what: format!("split table without the plain test / build of {DFA_BUILD}"),
+            what: format!("what is left of it without the plain test / build of {DFA_BUILD}"),
             wanted: Wanted::AtMost(0.5),
-            reached: worst(&rest),
+            reached: sets.iter().filter_map(rest).collect(),
         },
     ]
 }
 
 fn call_goals(figures: &Figures) -> Vec<Goal> {
     let call = |name: &str| figures.call(name).map(|nanos| (nanos, name.to_string()));
-    let beyond = figures
-        .call(FEED_4096)
-        .zip(figures.call(READ_4096))
-        .map(|(feed, read)| (feed - read, FEED_4096.into()));
+    let both = figures.call(FEED_4096).zip(figures.call(READ_4096));
+    let beyond = both.map(|(feed, read)| (feed - read, format!("{FEED_4096}, less its reading")));
     vec![
-        Goal {
-            what: "a feed of nothing, ns".into(),
-            wanted: Wanted::AtMost(1000.0),
-            reached: call(FEED_NONE),
-        },
         Goal {
             what: "a feed beyond its bytes, ns".into(),
             wanted: Wanted::AtMost(1000.0),
-            reached: beyond,
+            reached: beyond.into_iter().chain(call(FEED_NONE)).collect(),
         },
         Goal {
             what: "a record taken, ns".into(),
             wanted: Wanted::AtMost(100.0),
-            reached: call(TAKE_MANY),
+            reached: call(TAKE_MANY).into_iter().collect(),
         },
     ]
 }

@@ -25,7 +25,6 @@ pub const KINDS: [Kind; 6] = [
     Kind::Many,
     Kind::Dense,
 ];
-pub const NEAR: [Kind; 2] = [Kind::Near, Kind::NearRuns];
 pub const WITH_FEW_MATCHES: [Kind; 4] = [Kind::Random, Kind::English, Kind::Near, Kind::NearRuns];
 
 impl Kind {

@@ -1,5 +1,5 @@
 // The engines of others, where they are installed.
-use crate::engines::{Maker, AHO_CORASICK, HYPERSCAN};
+use crate::engines::Maker;
 
 /// What is missing, and the package that has it.
 pub fn missing() -> Vec<&'static str> {
@@ -18,7 +18,7 @@ pub fn missing() -> Vec<&'static str> {
 #[cfg(aho_corasick)]
 pub fn aho_corasick() -> Vec<Maker> {
     vec![Maker {
-        name: AHO_CORASICK,
+        name: crate::engines::AHO_CORASICK,
         make: |tags| Box::new(crate::aho_corasick_peer::Dfa::new(tags)),
     }]
 }
@@ -32,7 +32,7 @@ pub fn aho_corasick() -> Vec<Maker> {
 pub fn hyperscan() -> Vec<Maker> {
     use crate::hyperscan_peer::{runs_here, Hyperscan};
     let maker = Maker {
-        name: HYPERSCAN,
+        name: crate::engines::HYPERSCAN,
         make: |tags| Box::new(Hyperscan::new(tags)),
     };
     if runs_here() {

@@ -18,7 +18,7 @@ impl Plan {
     pub fn full() -> Plan {
         Plan {
             size: 16 << 20,
-            rounds: 7,
+            rounds: 12,
             judged: true,
             wrong_engine: false,
             machine: machine(),
@@ -34,6 +34,11 @@ impl Plan {
             wrong_engine: false,
             machine: machine(),
         }
+    }
+
+    /// Samples of what is short.
+    pub fn samples(&self) -> usize {
+        10 * self.rounds
     }
 
     /// Says on standard error what is being done: over the line before on a terminal, else in a line of its own.

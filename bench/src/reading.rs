@@ -1,4 +1,5 @@
-// Reading timed: every engine over every input, interleaved, the best of the rounds.
+// Reading timed: every engine over every input. A round goes through all inputs and all engines once, so that the rounds of
+// one figure lie far apart and whatever else the machine does for a while spoils few of them; the best round counts.
 use crate::agreement::agree;
 use crate::engine::{read_all, Engine, Out};
 use crate::engines;
@@ -33,45 +34,83 @@ impl Timed {
 
 /// All figures of reading, or what the engines don't agree on.
 pub fn measure(plan: &Plan) -> Result<Vec<Timed>, String> {
-    let mut figures = Vec::new();
+    let mut races = Vec::new();
     for tag_count in TAG_COUNTS {
         for kind in KINDS {
-            let case = inputs::case(kind, tag_count, plan.size);
-            let title = format!("{tag_count} tags, {}", kind.name());
-            figures.extend(
-                measure_case(plan, &case, &title).map_err(|why| format!("{title}: {why}"))?,
-            );
+            races.push(Race::prepared(
+                plan,
+                inputs::case(kind, tag_count, plan.size),
+            )?);
         }
     }
-    Ok(figures)
+    for round in 1..=plan.rounds {
+        for race in &mut races {
+            plan.progress(&format!(
+                "reading, round {round} of {}: {}",
+                plan.rounds, race.title
+            ));
+            race.run()?;
+        }
+    }
+    Ok(races.into_iter().flat_map(Race::figures).collect())
 }
 
-fn measure_case(plan: &Plan, case: &Case, title: &str) -> Result<Vec<Timed>, String> {
-    let mut makers = engines::all();
-    if plan.wrong_engine {
-        makers.push(engines::wrong());
-    }
-    let mut engines: Vec<(&'static str, Box<dyn Engine>)> = makers
-        .iter()
-        .map(|maker| (maker.name, (maker.make)(&case.tags)))
-        .collect();
-    plan.progress(&format!(
-        "{title}: {} engines, do their records agree?",
-        engines.len()
-    ));
-    let records = agree(&mut engines, case)?;
-    let mut figures: Vec<Timed> = engines
-        .iter()
-        .map(|(name, _)| untimed(name, case, records))
-        .collect();
-    for round in 1..=plan.rounds {
+/// All engines over one input, and what they took so far.
+struct Race {
+    title: String,
+    case: Case,
+    runners: Vec<(Box<dyn Engine>, Timed)>,
+}
+
+impl Race {
+    /// No engine runs before all have given the same records.
+    fn prepared(plan: &Plan, case: Case) -> Result<Race, String> {
+        let title = format!("{} tags, {}", case.tags.len(), case.kind.name());
+        let mut makers = engines::all();
+        if plan.wrong_engine {
+            makers.push(engines::wrong());
+        }
         plan.progress(&format!(
-            "{title}: {records} records agreed on, round {round} of {}",
-            plan.rounds
+            "do the records of {} engines agree? {title}",
+            makers.len()
         ));
-        time_all(&mut engines, case, &mut figures)?;
+        let made = makers
+            .iter()
+            .map(|maker| (maker.name, (maker.make)(&case.tags)));
+        let mut engines: Vec<(&'static str, Box<dyn Engine>)> = made.collect();
+        let records = agree(&mut engines, &case).map_err(|why| format!("{title}: {why}"))?;
+        let runner = |(name, engine)| (engine, untimed(name, &case, records));
+        let runners = engines.into_iter().map(runner).collect();
+        Ok(Race {
+            title,
+            case,
+            runners,
+        })
     }
-    Ok(figures)
+
+    fn run(&mut self) -> Result<(), String> {
+        for (engine, figure) in &mut self.runners {
+            let mut out = Out::counting();
+            let start = Instant::now();
+            read_all(engine.as_mut(), &self.case.input, &mut out);
+            let took = start.elapsed();
+            if out.total != figure.records {
+                let (name, first, now) = (figure.engine, figure.records, out.total);
+                return Err(format!(
+                    "{}: '{name}' gave {first} records, then {now}",
+                    self.title
+                ));
+            }
+            figure
+                .rounds
+                .push(took.as_nanos() as f64 / self.case.input.len() as f64);
+        }
+        Ok(())
+    }
+
+    fn figures(self) -> Vec<Timed> {
+        self.runners.into_iter().map(|(_, figure)| figure).collect()
+    }
 }
 
 fn untimed(engine: &'static str, case: &Case, records: u64) -> Timed {
@@ -84,28 +123,4 @@ fn untimed(engine: &'static str, case: &Case, records: u64) -> Timed {
         records,
         rounds: Vec::new(),
     }
-}
-
-/// One round: each engine once, so that whatever else the machine does meets all of them.
-fn time_all(
-    engines: &mut [(&'static str, Box<dyn Engine>)],
-    case: &Case,
-    figures: &mut [Timed],
-) -> Result<(), String> {
-    for ((name, engine), figure) in engines.iter_mut().zip(figures) {
-        let mut out = Out::counting();
-        let start = Instant::now();
-        read_all(engine.as_mut(), &case.input, &mut out);
-        let took = start.elapsed();
-        if out.total != figure.records {
-            return Err(format!(
-                "'{name}' gave {} records, then {}",
-                figure.records, out.total
-            ));
-        }
-        figure
-            .rounds
-            .push(took.as_nanos() as f64 / case.input.len() as f64);
-    }
-    Ok(())
 }

@@ -135,19 +135,19 @@ fn calls(figures: &Figures) -> String {
 }
 
 fn judged(figures: &Figures) -> String {
-    let mut table = head(&["goal", "wanted", "reached", "where worst", ""]);
+    let mut table = head(&["goal", "wanted", "reached", ""]);
     for goal in goals(figures) {
         let wanted = match goal.wanted {
             Wanted::AtLeast(x) => format!("at least {x}"),
             Wanted::AtMost(x) => format!("at most {x}"),
         };
-        let verdict = goal.verdict().to_string();
-        let (reached, place) = goal
+        let reached = goal
             .reached
-            .map_or((String::new(), String::new()), |(x, place)| {
-                (format!("{x:.2}"), place)
-            });
-        table += &row([goal.what, wanted, reached, place, verdict]);
+            .iter()
+            .map(|(x, place)| format!("{x:.2} ({place})"));
+        let reached = reached.collect::<Vec<_>>().join("; ");
+        let verdict = goal.verdict().to_string();
+        table += &row([goal.what, wanted, reached, verdict]);
     }
     table
 }
