@@ -23,7 +23,10 @@ fn main() {
         println!("cargo:rustc-cfg=aho_corasick");
     }
     println!("cargo:rerun-if-env-changed=SPEED_HYPERSCAN");
-    if let Some(folder) = env::var("SPEED_HYPERSCAN").ok().filter(|folder| !folder.is_empty()) {
+    if let Some(folder) = env::var("SPEED_HYPERSCAN")
+        .ok()
+        .filter(|folder| !folder.is_empty())
+    {
         println!("cargo:rustc-link-search=native={folder}");
         println!("cargo:rustc-link-lib=dylib=hs");
         println!("cargo:rustc-cfg=hyperscan");

@@ -1,7 +1,6 @@
 // Building timed: tables of 16 tags of 32 bytes, ours and others'.
 use crate::gateway;
 use crate::ours::{self, set_of};
-use crate::plan::Plan;
 use crate::random::Random;
 use crate::timing::best_of;
 use crate::tree::{self, Slicing, Vectors, SPLIT, WHOLE};
@@ -15,6 +14,7 @@ pub const WHOLE_LINKS: &str = "whole-byte, Rust by tree and links";
 pub const WHOLE_TEST: &str = "whole-byte, Rust with the plain test";
 pub const NEEDED: &str = "slots needed, ours";
 pub const DFA_BUILD: &str = "aho-corasick DFA";
+#[cfg(hyperscan)]
 pub const HYPERSCAN_COMPILE: &str = "Hyperscan, streaming";
 
 /// Microseconds that a builder took for a set.
@@ -48,16 +48,15 @@ fn letters(random: &mut Random, n: usize) -> Vec<u8> {
 }
 
 /// All figures of building, or the builders that leave different numbers.
-pub fn measure(plan: &Plan) -> Result<Vec<Build>, String> {
+pub fn measure() -> Result<Vec<Build>, String> {
     let mut builds = Vec::new();
     for (set, tags) in sets() {
-        plan.progress(&format!("building, 16 tags of 32 bytes, {set}"));
-        builds.extend(measure_set(plan, set, &tags)?);
+        builds.extend(measure_set(set, &tags)?);
     }
     Ok(builds)
 }
 
-fn measure_set(plan: &Plan, set: &'static str, tags: &[Vec<u8>]) -> Result<Vec<Build>, String> {
+fn measure_set(set: &'static str, tags: &[Vec<u8>]) -> Result<Vec<Build>, String> {
     let bytes = set_of(tags);
     let mut split = ours::split_table(tags);
     let mut whole = ours::whole_table(tags);
@@ -65,7 +64,7 @@ fn measure_set(plan: &Plan, set: &'static str, tags: &[Vec<u8>]) -> Result<Vec<B
     same_numbers(tags, WHOLE, &whole).map_err(|why| format!("whole-byte table, {set}: {why}"))?;
     let mut builds = Vec::new();
     let mut time = |builder, call: &mut dyn FnMut()| {
-        let micros = best_of(plan.samples(), call) / 1000.0;
+        let micros = best_of(call) / 1000.0;
         builds.push(Build {
             builder,
             set,

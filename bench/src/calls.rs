@@ -2,7 +2,6 @@
 use crate::gateway::{self, Desk};
 use crate::inputs::{self, Kind};
 use crate::ours::{set_of, slots_of};
-use crate::plan::Plan;
 use crate::timing::best_of;
 use std::hint::black_box;
 use std::time::{Duration, Instant};
@@ -14,6 +13,7 @@ pub const FEED_4096: &str = "feed of 4,096 bytes";
 pub const READ_4096: &str = "reading of 4,096 bytes outside the desk";
 const TICKETS: usize = 16;
 const RECORDS: usize = 256;
+const PARTS: usize = 100;
 
 /// Nanoseconds for a call.
 pub struct Call {
@@ -73,26 +73,24 @@ impl Office {
     }
 }
 
-pub fn measure(plan: &Plan) -> Vec<Call> {
-    plan.progress("the desk, call by call");
-    let mut calls = vec![opening(plan), closing(plan)];
-    calls.extend(feeding(plan));
-    calls.push(reading_outside(plan));
-    calls.extend(taking(plan));
-    calls.push(replacing(plan));
+pub fn measure() -> Vec<Call> {
+    let mut calls = vec![opening(), closing()];
+    calls.extend(feeding());
+    calls.push(reading_outside());
+    calls.extend(taking());
+    calls.push(replacing());
     calls
 }
 
-/// The best round of a part that is timed alone, for one of so many calls in it.
-fn best_part(plan: &Plan, calls: usize, mut part: impl FnMut() -> Duration) -> f64 {
-    let rounds = 20 * plan.samples();
-    let best = (0..rounds).map(|_| part()).min().expect("a round at least");
+/// The best of some parts that are timed alone, for one of so many calls in it.
+fn best_part(calls: usize, mut part: impl FnMut() -> Duration) -> f64 {
+    let best = (0..PARTS).map(|_| part()).min().expect("a part at least");
     best.as_nanos() as f64 / calls as f64
 }
 
-fn opening(plan: &Plan) -> Call {
+fn opening() -> Call {
     let mut office = Office::new();
-    let nanos = best_part(plan, TICKETS, || {
+    let nanos = best_part(TICKETS, || {
         let mut serials = [0; TICKETS];
         let start = Instant::now();
         serials
@@ -108,9 +106,9 @@ fn opening(plan: &Plan) -> Call {
     }
 }
 
-fn closing(plan: &Plan) -> Call {
+fn closing() -> Call {
     let mut office = Office::new();
-    let nanos = best_part(plan, TICKETS, || {
+    let nanos = best_part(TICKETS, || {
         let mut serials = [0; TICKETS];
         serials
             .iter_mut()
@@ -125,7 +123,7 @@ fn closing(plan: &Plan) -> Call {
     }
 }
 
-fn feeding(plan: &Plan) -> Vec<Call> {
+fn feeding() -> Vec<Call> {
     let sizes = [
         (FEED_NONE, 0),
         ("feed of 16 bytes", 16),
@@ -136,16 +134,16 @@ fn feeding(plan: &Plan) -> Vec<Call> {
         .into_iter()
         .map(|(call, size)| Call {
             call,
-            nanos: feeding_of(plan, size),
+            nanos: feeding_of(size),
         })
         .collect()
 }
 
-fn feeding_of(plan: &Plan, size: usize) -> f64 {
+fn feeding_of(size: usize) -> f64 {
     let mut office = Office::new();
     let mut serial = office.open();
     let mut taken = 0;
-    best_of(plan.samples(), || {
+    best_of(|| {
         // A ticket takes no more than 4 GiB.
         if taken > 1 << 31 {
             office.close(serial);
@@ -165,10 +163,10 @@ fn feeding_of(plan: &Plan, size: usize) -> f64 {
 }
 
 /// What the bytes of such a feed cost by themselves.
-fn reading_outside(plan: &Plan) -> Call {
+fn reading_outside() -> Call {
     let office = Office::new();
     let mut list = [0; 2 * RECORDS];
-    let nanos = best_of(plan.samples(), || {
+    let nanos = best_of(|| {
         let read = gateway::read_split(
             &office.table,
             &[0; 8],
@@ -188,14 +186,14 @@ fn reading_outside(plan: &Plan) -> Call {
     }
 }
 
-fn taking(plan: &Plan) -> Vec<Call> {
-    let one_by_one = taking_by(plan, |desk| {
+fn taking() -> Vec<Call> {
+    let one_by_one = taking_by(|desk| {
         for _ in 0..RECORDS {
             assert_eq!(black_box(desk.take()).refusal, 0, "a record is held");
         }
     });
-    let sixteen = taking_by(plan, |desk| take_many(desk, 16));
-    let at_once = taking_by(plan, |desk| take_many(desk, RECORDS));
+    let sixteen = taking_by(|desk| take_many(desk, 16));
+    let at_once = taking_by(|desk| take_many(desk, RECORDS));
     vec![
         Call {
             call: TAKE,
@@ -224,9 +222,9 @@ fn take_many(desk: &mut Desk, n: usize) {
 }
 
 /// Nanoseconds a record, for a way to take all that a full list holds.
-fn taking_by(plan: &Plan, mut take_all: impl FnMut(&mut Desk)) -> f64 {
+fn taking_by(mut take_all: impl FnMut(&mut Desk)) -> f64 {
     let mut office = Office::new();
-    best_part(plan, RECORDS, || {
+    best_part(RECORDS, || {
         office.fill_the_list();
         let start = Instant::now();
         take_all(&mut office.desk);
@@ -234,9 +232,9 @@ fn taking_by(plan: &Plan, mut take_all: impl FnMut(&mut Desk)) -> f64 {
     })
 }
 
-fn replacing(plan: &Plan) -> Call {
+fn replacing() -> Call {
     let mut office = Office::new();
-    let nanos = best_of(plan.samples(), || {
+    let nanos = best_of(|| {
         assert_eq!(
             office.desk.replace(&office.set, &mut office.table).refusal,
             0,

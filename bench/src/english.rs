@@ -42,18 +42,19 @@ const WORDS: [&str; 32] = [
     "loss",
 ];
 
+/// Whether the machine has documentation enough to read.
+pub fn is_documented() -> bool {
+    documentation(LEAST).len() >= LEAST
+}
+
 /// So many bytes of text. Documentation that is shorter is repeated.
 pub fn text(size: usize) -> Vec<u8> {
-    let mut text = documentation(size);
-    if text.len() < LEAST.min(size) {
-        eprintln!(
-            "speed: little documentation under {}: the English text is made up of a few words",
-            FOLDERS.join(" and ")
-        );
-        text = sentences(LEAST);
-    }
-    let all: Vec<u8> = text.iter().copied().cycle().take(size).collect();
-    all
+    let text = if is_documented() {
+        documentation(size)
+    } else {
+        sentences(LEAST)
+    };
+    text.iter().copied().cycle().take(size).collect()
 }
 
 fn documentation(size: usize) -> Vec<u8> {

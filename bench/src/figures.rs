@@ -3,7 +3,7 @@ use crate::building::{self, Build};
 use crate::calls::{self, Call};
 use crate::inputs::Kind;
 use crate::plan::Plan;
-use crate::reading::{self, Timed};
+use crate::reading::{self, Race, Timed};
 
 pub struct Figures {
     pub reading: Vec<Timed>,
@@ -12,12 +12,25 @@ pub struct Figures {
 }
 
 impl Figures {
-    /// Measures everything, or says which records or tables differ.
+    /// Measures everything, or says which records or tables differ. A round goes through all there is, so that the rounds of
+    /// one figure lie far apart, and what else the machine does for a while spoils few of them; the best round counts.
     pub fn measure(plan: &Plan) -> Result<Figures, String> {
-        let reading = reading::measure(plan)?;
-        let building = building::measure(plan)?;
-        let calls = calls::measure(plan);
+        let mut races = reading::prepared(plan)?;
+        let (mut building, mut calls) = (Vec::new(), Vec::new());
+        for round in 1..=plan.rounds {
+            let round = format!("round {round} of {}", plan.rounds);
+            for race in &mut races {
+                plan.progress(&format!("{round}: reading, {}", race.title));
+                race.run()?;
+            }
+            plan.progress(&format!("{round}: building, and the desk call by call"));
+            keep_best(&mut building, building::measure()?, |build| {
+                &mut build.micros
+            });
+            keep_best(&mut calls, calls::measure(), |call| &mut call.nanos);
+        }
         plan.progress("");
+        let reading = races.into_iter().flat_map(Race::figures).collect();
         Ok(Figures {
             reading,
             building,
@@ -65,5 +78,17 @@ impl Figures {
             .iter()
             .find(|call| call.call == name)
             .map(|call| call.nanos)
+    }
+}
+
+/// The lesser of each time so far and that of a new round, which has the same things in the same order.
+fn keep_best<T>(best: &mut Vec<T>, round: Vec<T>, time: fn(&mut T) -> &mut f64) {
+    if best.is_empty() {
+        *best = round;
+        return;
+    }
+    for (so_far, mut now) in best.iter_mut().zip(round) {
+        let lesser = time(so_far).min(*time(&mut now));
+        *time(so_far) = lesser;
     }
 }

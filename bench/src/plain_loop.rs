@@ -35,9 +35,9 @@ impl Engine for PlainOneBit {
 
     fn piece(&mut self, input: &[u8], from: usize, to: usize, out: &mut Out) {
         let s = self.table.len() / 24;
-        for i in from..to {
-            let hits = self.step(s, input[i]);
-            push_all(hits, i + 1, out);
+        for (end, c) in (from + 1..).zip(&input[from..to]) {
+            let hits = self.step(s, *c);
+            push_all(hits, end, out);
         }
         out.empty();
     }
@@ -64,10 +64,10 @@ impl Engine for PlainWholeByte {
 
     fn piece(&mut self, input: &[u8], from: usize, to: usize, out: &mut Out) {
         let s = self.table.len() / 257;
-        for i in from..to {
-            self.state = usize::from(self.table[self.state * 257 + usize::from(input[i])]);
+        for (end, c) in (from + 1..).zip(&input[from..to]) {
+            self.state = usize::from(self.table[self.state * 257 + usize::from(*c)]);
             assert!(self.state < s, "the table was built");
-            push_all(self.table[self.state * 257 + 256], i + 1, out);
+            push_all(self.table[self.state * 257 + 256], end, out);
         }
         out.empty();
     }

@@ -36,11 +36,6 @@ impl Plan {
         }
     }
 
-    /// Samples of what is short.
-    pub fn samples(&self) -> usize {
-        10 * self.rounds
-    }
-
     /// Says on standard error what is being done: over the line before on a terminal, else in a line of its own.
     pub fn progress(&self, doing: &str) {
         if io::stderr().is_terminal() {

@@ -1,5 +1,4 @@
-// Reading timed: every engine over every input. A round goes through all inputs and all engines once, so that the rounds of
-// one figure lie far apart and whatever else the machine does for a while spoils few of them; the best round counts.
+// Reading timed: every engine over every input.
 use crate::agreement::agree;
 use crate::engine::{read_all, Engine, Out};
 use crate::engines;
@@ -32,32 +31,21 @@ impl Timed {
     }
 }
 
-/// All figures of reading, or what the engines don't agree on.
-pub fn measure(plan: &Plan) -> Result<Vec<Timed>, String> {
+/// Every input with its engines, or what they don't agree on.
+pub fn prepared(plan: &Plan) -> Result<Vec<Race>, String> {
     let mut races = Vec::new();
     for tag_count in TAG_COUNTS {
         for kind in KINDS {
-            races.push(Race::prepared(
-                plan,
-                inputs::case(kind, tag_count, plan.size),
-            )?);
+            let case = inputs::case(kind, tag_count, plan.size);
+            races.push(Race::prepared(plan, case)?);
         }
     }
-    for round in 1..=plan.rounds {
-        for race in &mut races {
-            plan.progress(&format!(
-                "reading, round {round} of {}: {}",
-                plan.rounds, race.title
-            ));
-            race.run()?;
-        }
-    }
-    Ok(races.into_iter().flat_map(Race::figures).collect())
+    Ok(races)
 }
 
 /// All engines over one input, and what they took so far.
-struct Race {
-    title: String,
+pub struct Race {
+    pub title: String,
     case: Case,
     runners: Vec<(Box<dyn Engine>, Timed)>,
 }
@@ -88,7 +76,8 @@ impl Race {
         })
     }
 
-    fn run(&mut self) -> Result<(), String> {
+    /// Each engine once.
+    pub fn run(&mut self) -> Result<(), String> {
         for (engine, figure) in &mut self.runners {
             let mut out = Out::counting();
             let start = Instant::now();
@@ -108,7 +97,7 @@ impl Race {
         Ok(())
     }
 
-    fn figures(self) -> Vec<Timed> {
+    pub fn figures(self) -> Vec<Timed> {
         self.runners.into_iter().map(|(_, figure)| figure).collect()
     }
 }

@@ -1,6 +1,7 @@
 // The figures as a page of tables, and as lines with commas.
 use crate::building;
 use crate::engines::{AHO_CORASICK, DIRECT};
+use crate::english;
 use crate::figures::Figures;
 use crate::goals::{goals, Wanted};
 use crate::inputs::{Kind, KINDS};
@@ -53,6 +54,9 @@ fn facts(plan: &Plan) -> String {
     );
     for peer in peers::missing() {
         facts += &format!("\nMissing here, and left out: {peer}.\n");
+    }
+    if !english::is_documented() {
+        facts += "\nThere is no documentation here to read: the English text is made up of a few words.\n";
     }
     facts
 }

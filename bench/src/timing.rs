@@ -1,13 +1,14 @@
 // The time of something short, by doing it many times.
 use std::time::{Duration, Instant};
 
-// A sample is at least so long, that reading the clock is nothing beside it.
+// As many in each round; a sample is at least so long, that reading the clock is nothing beside it.
+const SAMPLES: usize = 5;
 const SAMPLE: Duration = Duration::from_millis(2);
 
-/// Nanoseconds for one call, the best of the rounds.
-pub fn best_of(rounds: usize, mut call: impl FnMut()) -> f64 {
+/// Nanoseconds for one call, the best of some samples.
+pub fn best_of(mut call: impl FnMut()) -> f64 {
     let times = times_for_a_sample(&mut call);
-    (0..rounds)
+    (0..SAMPLES)
         .map(|_| sample(times, &mut call))
         .fold(f64::INFINITY, f64::min)
 }
