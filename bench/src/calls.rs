@@ -82,7 +82,7 @@ pub fn measure() -> Vec<Call> {
     calls
 }
 
-/// The best of some parts that are timed alone, for one of so many calls in it.
+/// The best of some parts that are timed alone, by the plain clock since they are too short for the other, for one of so many calls in it.
 fn best_part(calls: usize, mut part: impl FnMut() -> Duration) -> f64 {
     let best = (0..PARTS).map(|_| part()).min().expect("a part at least");
     best.as_nanos() as f64 / calls as f64

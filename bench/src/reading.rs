@@ -4,7 +4,7 @@ use crate::engine::{read_all, Engine, Out};
 use crate::engines;
 use crate::inputs::{self, Case, Kind, KINDS};
 use crate::plan::Plan;
-use std::time::Instant;
+use crate::timing::processor_time;
 
 pub const TAG_COUNTS: [usize; 2] = [4, 16];
 
@@ -80,9 +80,9 @@ impl Race {
     pub fn run(&mut self) -> Result<(), String> {
         for (engine, figure) in &mut self.runners {
             let mut out = Out::counting();
-            let start = Instant::now();
+            let start = processor_time();
             read_all(engine.as_mut(), &self.case.input, &mut out);
-            let took = start.elapsed();
+            let took = processor_time() - start;
             if out.total != figure.records {
                 let (name, first, now) = (figure.engine, figure.records, out.total);
                 return Err(format!(

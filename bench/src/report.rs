@@ -48,7 +48,8 @@ fn base(figures: &Figures) -> &'static str {
 fn facts(plan: &Plan) -> String {
     let size = plan.size as f64 / (1 << 20) as f64;
     let mut facts = format!(
-        "{}. Inputs of {size} MiB in pieces of 4,096 bytes, one thread, engines interleaved, the best of {} rounds. \
+        "{}. Inputs of {size} MiB in pieces of 4,096 bytes, one thread, its own processor time, engines interleaved, \
+         the best of {} rounds. \
          All engines gave the same records before they were timed.\n",
         plan.machine, plan.rounds
     );
