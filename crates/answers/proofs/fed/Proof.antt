@@ -41,7 +41,13 @@ refused-requires-2 : tie.Need-refused-requires-2
 refused-requires-2 c κs = search needs
 
 returns : tie.Need-returns
-returns c = rw (c .before .before .before .before .before .before .before .before .answer .given .1) (put-then (put-then (c .before .before .before .before .put-numbered .ensures) (c .before .before .put-stop .ensures)) (c .put-line-end .ensures))
+returns c =
+    let c2 = c .before .before in
+    let put-stop = c2 .put-stop in
+    let c4 = c2 .before .before in
+    let put-numbered = c4 .put-numbered in
+    let answer = c4 .before .before .before .before .answer in
+    rw (answer .given .1) (put-then (put-then (put-numbered .ensures) (put-stop .ensures)) (c .put-line-end .ensures))
 
 returns-2 : tie.Need-returns-2
 returns-2 c = rw (c .before .before .enum-told .given .1) (c .refused .ensures)

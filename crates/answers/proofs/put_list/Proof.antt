@@ -17,7 +17,11 @@ put-line-end-requires : tie.Need-put-line-end-requires
 put-line-end-requires c κs = search needs
 
 returns : tie.Need-returns
-returns c = put-then (put-then (c .before .before .before .before .put-words .ensures) (c .before .before .put-wide-numbers .ensures)) (c .put-line-end .ensures)
+returns c =
+    let c2 = c .before .before in
+    let put-wide-numbers = c2 .put-wide-numbers in
+    let put-words = c2 .before .before .put-words in
+    put-then (put-then (put-words .ensures) (put-wide-numbers .ensures)) (c .put-line-end .ensures)
 
 pub put-list-spec : {M : Type 1} → statement M
 put-list-spec =

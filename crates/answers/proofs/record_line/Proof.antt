@@ -35,7 +35,16 @@ put-line-end-requires : tie.Need-put-line-end-requires
 put-line-end-requires c κs = search needs
 
 returns : tie.Need-returns
-returns c = put-then (put-then (put-then (put-then (c .before .before .before .before .before .before .before .before .before .before .before .put-numbered .ensures) (c .before .before .before .before .before .before .before .before .put-blank-number .ensures)) (c .before .before .before .before .before .put-blank-number2 .ensures)) (c .before .before .put-blank-number3 .ensures)) (c .put-line-end .ensures)
+returns c =
+    let c2 = c .before .before in
+    let put-blank-number3 = c2 .put-blank-number3 in
+    let c5 = c2 .before .before .before in
+    let put-blank-number2 = c5 .put-blank-number2 in
+    let c8 = c5 .before .before .before in
+    let put-blank-number = c8 .put-blank-number in
+    let put-numbered = c8 .before .before .before .put-numbered in
+    put-then (put-then (put-then (put-then (put-numbered .ensures) (put-blank-number .ensures)) (put-blank-number2 .ensures))
+    (put-blank-number3 .ensures)) (c .put-line-end .ensures)
 
 pub record-line-spec : {M : Type 1} → statement M
 record-line-spec =

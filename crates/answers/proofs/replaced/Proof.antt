@@ -44,7 +44,13 @@ refused-requires : tie.Need-refused-requires
 refused-requires c κs = search needs
 
 returns : tie.Need-returns
-returns c = rw (c .before .before .before .before .before .before .before .before .before .before .answer .given .1) (put-then (put-then (c .before .before .before .before .before .put-numbered .ensures) (c .before .before .put-numbered2 .ensures)) (c .put-line-end .ensures))
+returns c =
+    let c2 = c .before .before in
+    let put-numbered2 = c2 .put-numbered2 in
+    let c5 = c2 .before .before .before in
+    let put-numbered = c5 .put-numbered in
+    let answer = c5 .before .before .before .before .before .answer in
+    rw (answer .given .1) (put-then (put-then (put-numbered .ensures) (put-numbered2 .ensures)) (c .put-line-end .ensures))
 
 returns-2 : tie.Need-returns-2
 returns-2 c = rw (c .before .before .before .answer2 .given .1) (c .fault .ensures)

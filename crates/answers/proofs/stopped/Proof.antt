@@ -35,7 +35,20 @@ put-list-requires : tie.Need-put-list-requires
 put-list-requires c κs = search needs
 
 returns : tie.Need-returns
-returns c = put-then (put-then (put-then (put-then (put-then (put-then (c .before .before .before .before .before .before .before .before .before .before .before .before .before .before .put-numbered .ensures) (c .before .before .before .before .before .before .before .before .before .before .before .before .put-stop .ensures)) (c .before .before .before .before .before .before .before .before .before .put-numbered2 .ensures)) (c .before .before .before .before .before .before .put-words .ensures)) (c .before .before .before .before .put-numbers .ensures)) (c .before .before .put-line-end .ensures)) (c .put-list .ensures)
+returns c =
+    let c2 = c .before .before in
+    let put-line-end = c2 .put-line-end in
+    let c4 = c2 .before .before in
+    let put-numbers = c4 .put-numbers in
+    let c6 = c4 .before .before in
+    let put-words = c6 .put-words in
+    let c9 = c6 .before .before .before in
+    let put-numbered2 = c9 .put-numbered2 in
+    let c12 = c9 .before .before .before in
+    let put-stop = c12 .put-stop in
+    let put-numbered = c12 .before .before .put-numbered in
+    put-then (put-then (put-then (put-then (put-then (put-then (put-numbered .ensures) (put-stop .ensures)) (put-numbered2 .ensures))
+    (put-words .ensures)) (put-numbers .ensures)) (put-line-end .ensures)) (c .put-list .ensures)
 
 pub stopped-spec : {M : Type 1} → statement M
 stopped-spec =

@@ -123,49 +123,175 @@ same-length : tie.Need-same-length
 same-length c = search needs
 
 returns : tie.Need-returns
-returns c = (by-plain (c .before .before .before .set .last .1 .0) (c .plain .result) (c .plain .ensures) (c .before .before .before .set .ensures .0) ∙ sym (ap (λ (n : Name). callBy n (c .before .before .before .before .before .before .before .before .before .args .whole) (c .before .before .before .before .before .before .before .before .before .args .words .now)) (c .before .before .before .before .before .enum-told .given .1)), by-bounded (c .plain .result) (c .plain .ensures) (c .before .before .before .set .ensures .1))
+returns c =
+    let c3 = c .before .before .before in
+    let set = c3 .set in
+    let c5 = c3 .before .before in
+    let enum-told = c5 .enum-told in
+    let args = c5 .before .before .before .before .args in (
+      by-plain (set .last .1 .0) (c .plain .result) (c .plain .ensures) (set .ensures .0) ∙ sym
+          (ap (λ (n : Name). callBy n (args .whole) (args .words .now)) (enum-told .given .1)),
+      by-bounded (c .plain .result)
+          (c .plain .ensures) (set .ensures .1),
+    )
 
 returns-2 : tie.Need-returns-2
-returns-2 c = (by-plain (c .before .before .before .before .before .before .args .buffer .now) (c .plain2 .result) (c .plain2 .ensures) (λ p. c .before .lend .ensures .0 p _) ∙ sym (ap (λ (n : Name). callBy n (c .before .before .before .before .before .before .args .whole) (c .before .before .before .before .before .before .args .words .now)) (c .before .before .enum-told2 .given .1)), by-bounded (c .plain2 .result) (c .plain2 .ensures) (c .before .lend .ensures .1))
+returns-2 c =
+    let c1 = c .before in
+    let lend = c1 .lend in
+    let c2 = c1 .before in
+    let enum-told2 = c2 .enum-told2 in
+    let args = c2 .before .before .before .before .args in (
+      by-plain (args .buffer .now) (c .plain2 .result) (c .plain2 .ensures) (λ p. lend .ensures .0 p _) ∙ sym
+          (ap (λ (n : Name). callBy n (args .whole) (args .words .now)) (enum-told2 .given .1)),
+      by-bounded (c .plain2 .result)
+          (c .plain2 .ensures) (lend .ensures .1),
+    )
 
 returns-3 : tie.Need-returns-3
-returns-3 c = (by-plain (c .before .before .before .before .before .before .args .buffer .now) (c .plain3 .result) (c .plain3 .ensures) (λ p. alone-means (c .before .before .before .before .before .before .args .whole) p _ _ (c .before .alone .result) (c .before .alone .ensures)) ∙ sym (ap (λ (n : Name). callBy n (c .before .before .before .before .before .before .args .whole) (c .before .before .before .before .before .before .args .words .now)) (c .before .before .enum-told3 .given .1)), by-bounded (c .plain3 .result) (c .plain3 .ensures) (alone-bounded (c .before .before .before .before .before .before .args .whole) _ (c .before .alone .result) (c .before .alone .ensures) tt))
+returns-3 c =
+    let c1 = c .before in
+    let alone = c1 .alone in
+    let c2 = c1 .before in
+    let enum-told3 = c2 .enum-told3 in
+    let args = c2 .before .before .before .before .args in (
+      by-plain (args .buffer .now) (c .plain3 .result) (c .plain3 .ensures)
+          (λ p. alone-means (args .whole) p _ _ (alone .result) (alone .ensures)) ∙ sym
+          (ap (λ (n : Name). callBy n (args .whole) (args .words .now)) (enum-told3 .given .1)),
+      by-bounded (c .plain3 .result)
+          (c .plain3 .ensures) (alone-bounded (args .whole) _ (alone .result) (alone .ensures) tt),
+    )
 
 returns-4 : tie.Need-returns-4
-returns-4 c = (by-plain (c .before .before .before .before .before .before .args .buffer .now) (c .plain4 .result) (c .plain4 .ensures) (λ p. alone-means (c .before .before .before .before .before .before .args .whole) p _ _ (c .before .alone2 .result) (c .before .alone2 .ensures)) ∙ sym (ap (λ (n : Name). callBy n (c .before .before .before .before .before .before .args .whole) (c .before .before .before .before .before .before .args .words .now)) (c .before .before .enum-told4 .given .1)), by-bounded (c .plain4 .result) (c .plain4 .ensures) (alone-bounded (c .before .before .before .before .before .before .args .whole) _ (c .before .alone2 .result) (c .before .alone2 .ensures) tt))
+returns-4 c =
+    let c1 = c .before in
+    let alone2 = c1 .alone2 in
+    let c2 = c1 .before in
+    let enum-told4 = c2 .enum-told4 in
+    let args = c2 .before .before .before .before .args in (
+      by-plain (args .buffer .now) (c .plain4 .result) (c .plain4 .ensures)
+          (λ p. alone-means (args .whole) p _ _ (alone2 .result) (alone2 .ensures)) ∙ sym
+          (ap (λ (n : Name). callBy n (args .whole) (args .words .now)) (enum-told4 .given .1)),
+      by-bounded (c .plain4 .result)
+          (c .plain4 .ensures) (alone-bounded (args .whole) _ (alone2 .result) (alone2 .ensures) tt),
+    )
 
 same-length-2 : tie.Need-same-length-2
 same-length-2 c = search needs
 
 returns-5 : tie.Need-returns-5
-returns-5 c = (by-plain (c .before .before .before .feed .last .1 .0) (c .plain5 .result) (c .plain5 .ensures) (c .before .before .before .feed .ensures .0) ∙ sym (ap (λ (n : Name). callBy n (c .before .before .before .before .before .before .before .before .before .args .whole) (c .before .before .before .before .before .before .before .before .before .args .words .now)) (c .before .before .before .before .before .enum-told5 .given .1)), by-bounded (c .plain5 .result) (c .plain5 .ensures) (c .before .before .before .feed .ensures .1))
+returns-5 c =
+    let c3 = c .before .before .before in
+    let feed = c3 .feed in
+    let c5 = c3 .before .before in
+    let enum-told5 = c5 .enum-told5 in
+    let args = c5 .before .before .before .before .args in (
+      by-plain (feed .last .1 .0) (c .plain5 .result) (c .plain5 .ensures) (feed .ensures .0) ∙ sym
+          (ap (λ (n : Name). callBy n (args .whole) (args .words .now)) (enum-told5 .given .1)),
+      by-bounded (c .plain5 .result)
+          (c .plain5 .ensures) (feed .ensures .1),
+    )
 
 returns-6 : tie.Need-returns-6
-returns-6 c = (by-plain (c .before .before .before .before .before .before .args .buffer .now) (c .plain6 .result) (c .plain6 .ensures) (λ p. c .before .close .ensures .0 p _) ∙ sym (ap (λ (n : Name). callBy n (c .before .before .before .before .before .before .args .whole) (c .before .before .before .before .before .before .args .words .now)) (c .before .before .enum-told6 .given .1)), by-bounded (c .plain6 .result) (c .plain6 .ensures) (c .before .close .ensures .1))
+returns-6 c =
+    let c1 = c .before in
+    let close = c1 .close in
+    let c2 = c1 .before in
+    let enum-told6 = c2 .enum-told6 in
+    let args = c2 .before .before .before .before .args in (
+      by-plain (args .buffer .now) (c .plain6 .result) (c .plain6 .ensures) (λ p. close .ensures .0 p _) ∙ sym
+          (ap (λ (n : Name). callBy n (args .whole) (args .words .now)) (enum-told6 .given .1)),
+      by-bounded (c .plain6 .result)
+          (c .plain6 .ensures) (close .ensures .1),
+    )
 
 returns-7 : tie.Need-returns-7
-returns-7 c = (by-plain (c .before .before .before .before .before .before .args .buffer .now) (c .plain7 .result) (c .plain7 .ensures) (λ p. alone-means (c .before .before .before .before .before .before .args .whole) p _ _ (c .before .alone3 .result) (c .before .alone3 .ensures)) ∙ sym (ap (λ (n : Name). callBy n (c .before .before .before .before .before .before .args .whole) (c .before .before .before .before .before .before .args .words .now)) (c .before .before .enum-told7 .given .1)), by-bounded (c .plain7 .result) (c .plain7 .ensures) (alone-bounded (c .before .before .before .before .before .before .args .whole) _ (c .before .alone3 .result) (c .before .alone3 .ensures) tt))
+returns-7 c =
+    let c1 = c .before in
+    let alone3 = c1 .alone3 in
+    let c2 = c1 .before in
+    let enum-told7 = c2 .enum-told7 in
+    let args = c2 .before .before .before .before .args in (
+      by-plain (args .buffer .now) (c .plain7 .result) (c .plain7 .ensures)
+          (λ p. alone-means (args .whole) p _ _ (alone3 .result) (alone3 .ensures)) ∙ sym
+          (ap (λ (n : Name). callBy n (args .whole) (args .words .now)) (enum-told7 .given .1)),
+      by-bounded (c .plain7 .result)
+          (c .plain7 .ensures) (alone-bounded (args .whole) _ (alone3 .result) (alone3 .ensures) tt),
+    )
 
 returns-8 : tie.Need-returns-8
-returns-8 c = (by-plain (c .before .before .before .before .before .before .args .buffer .now) (c .plain8 .result) (c .plain8 .ensures) (λ p. alone-means (c .before .before .before .before .before .before .args .whole) p _ _ (c .before .alone4 .result) (c .before .alone4 .ensures)) ∙ sym (ap (λ (n : Name). callBy n (c .before .before .before .before .before .before .args .whole) (c .before .before .before .before .before .before .args .words .now)) (c .before .before .enum-told8 .given .1)), by-bounded (c .plain8 .result) (c .plain8 .ensures) (alone-bounded (c .before .before .before .before .before .before .args .whole) _ (c .before .alone4 .result) (c .before .alone4 .ensures) tt))
+returns-8 c =
+    let c1 = c .before in
+    let alone4 = c1 .alone4 in
+    let c2 = c1 .before in
+    let enum-told8 = c2 .enum-told8 in
+    let args = c2 .before .before .before .before .args in (
+      by-plain (args .buffer .now) (c .plain8 .result) (c .plain8 .ensures)
+          (λ p. alone-means (args .whole) p _ _ (alone4 .result) (alone4 .ensures)) ∙ sym
+          (ap (λ (n : Name). callBy n (args .whole) (args .words .now)) (enum-told8 .given .1)),
+      by-bounded (c .plain8 .result)
+          (c .plain8 .ensures) (alone-bounded (args .whole) _ (alone4 .result) (alone4 .ensures) tt),
+    )
 
 returns-9 : tie.Need-returns-9
-returns-9 c = (by-plain (c .before .before .before .before .before .before .args .buffer .now) (c .plain9 .result) (c .plain9 .ensures) (λ p. c .before .build .ensures .0 p _) ∙ sym (ap (λ (n : Name). callBy n (c .before .before .before .before .before .before .args .whole) (c .before .before .before .before .before .before .args .words .now)) (c .before .before .enum-told9 .given .1)), by-bounded (c .plain9 .result) (c .plain9 .ensures) (c .before .build .ensures .1))
+returns-9 c =
+    let c1 = c .before in
+    let build = c1 .build in
+    let c2 = c1 .before in
+    let enum-told9 = c2 .enum-told9 in
+    let args = c2 .before .before .before .before .args in (
+      by-plain (args .buffer .now) (c .plain9 .result) (c .plain9 .ensures) (λ p. build .ensures .0 p _) ∙ sym
+          (ap (λ (n : Name). callBy n (args .whole) (args .words .now)) (enum-told9 .given .1)),
+      by-bounded (c .plain9 .result)
+          (c .plain9 .ensures) (build .ensures .1),
+    )
 
 same-length-3 : tie.Need-same-length-3
 same-length-3 c = search needs
 
 returns-10 : tie.Need-returns-10
-returns-10 c = (c .before .before .read .ensures .0 ∙ sym (ap (λ (n : Name). callBy n (c .before .before .before .before .before .before .before .before .args .whole) (c .before .before .before .before .before .before .before .before .args .words .now)) (c .before .before .before .before .enum-told10 .given .1)), c .before .before .read .ensures .1)
+returns-10 c =
+    let c2 = c .before .before in
+    let read = c2 .read in
+    let c4 = c2 .before .before in
+    let enum-told10 = c4 .enum-told10 in
+    let args = c4 .before .before .before .before .args in
+    (read .ensures .0 ∙ sym (ap (λ (n : Name). callBy n (args .whole) (args .words .now)) (enum-told10 .given .1)), read .ensures .1)
 
 returns-11 : tie.Need-returns-11
-returns-11 c = (by-plain (c .before .before .before .before .before .before .args .buffer .now) (c .plain10 .result) (c .plain10 .ensures) (λ p. c .before .poke .ensures .0 p _) ∙ sym (ap (λ (n : Name). callBy n (c .before .before .before .before .before .before .args .whole) (c .before .before .before .before .before .before .args .words .now)) (c .before .before .enum-told11 .given .1)), by-bounded (c .plain10 .result) (c .plain10 .ensures) (c .before .poke .ensures .1))
+returns-11 c =
+    let c1 = c .before in
+    let poke = c1 .poke in
+    let c2 = c1 .before in
+    let enum-told11 = c2 .enum-told11 in
+    let args = c2 .before .before .before .before .args in (
+      by-plain (args .buffer .now) (c .plain10 .result) (c .plain10 .ensures) (λ p. poke .ensures .0 p _) ∙ sym
+          (ap (λ (n : Name). callBy n (args .whole) (args .words .now)) (enum-told11 .given .1)),
+      by-bounded (c .plain10 .result)
+          (c .plain10 .ensures) (poke .ensures .1),
+    )
 
 returns-12 : tie.Need-returns-12
-returns-12 c = (by-plain (c .before .before .before .before .before .before .args .buffer .now) (c .plain11 .result) (c .plain11 .ensures) (λ p. c .before .peek .ensures .0 p _) ∙ sym (ap (λ (n : Name). callBy n (c .before .before .before .before .before .before .args .whole) (c .before .before .before .before .before .before .args .words .now)) (c .before .before .enum-told12 .given .1)), by-bounded (c .plain11 .result) (c .plain11 .ensures) (c .before .peek .ensures .1))
+returns-12 c =
+    let c1 = c .before in
+    let peek = c1 .peek in
+    let c2 = c1 .before in
+    let enum-told12 = c2 .enum-told12 in
+    let args = c2 .before .before .before .before .args in (
+      by-plain (args .buffer .now) (c .plain11 .result) (c .plain11 .ensures) (λ p. peek .ensures .0 p _) ∙ sym
+          (ap (λ (n : Name). callBy n (args .whole) (args .words .now)) (enum-told12 .given .1)),
+      by-bounded (c .plain11 .result)
+          (c .plain11 .ensures) (peek .ensures .1),
+    )
 
 returns-13 : tie.Need-returns-13
-returns-13 c = (by-plain (c .before .before .before .before .before .args .buffer .now) (c .plain12 .result) (c .plain12 .ensures) (λ p. refl) ∙ sym (ap (λ (n : Name). callBy n (c .before .before .before .before .before .args .whole) (c .before .before .before .before .before .args .words .now)) (c .before .enum-told13 .given .1)), by-bounded (c .plain12 .result) (c .plain12 .ensures) (tt))
+returns-13 c =
+    let args = c .before .before .before .before .before .args in (
+      by-plain (args .buffer .now) (c .plain12 .result) (c .plain12 .ensures) (λ p. refl) ∙ sym
+          (ap (λ (n : Name). callBy n (args .whole) (args .words .now)) (c .before .enum-told13 .given .1)),
+      by-bounded (c .plain12 .result)
+          (c .plain12 .ensures) (tt),
+    )
 
 pub by-name-spec : {M : Type 1} → statement M
 by-name-spec =

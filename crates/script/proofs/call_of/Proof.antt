@@ -13,13 +13,22 @@ plain-requires : tie.Need-plain-requires
 plain-requires c κs = search needs
 
 returns : tie.Need-returns
-returns c = (by-plain (c .before .before .before .args .buffer .now) (c .plain .result) (c .plain .ensures) (λ p. sym (call-long (c .before .before .before .args .line .now) (c .before .if1 .taken))), by-bounded (c .plain .result) (c .plain .ensures) tt)
+returns c =
+    let args = c .before .before .before .args in (
+      by-plain (args .buffer .now) (c .plain .result) (c .plain .ensures) (λ p. sym (call-long (args .line .now) (c .before .if1 .taken))),
+      by-bounded (c .plain .result) (c .plain .ensures) tt,
+    )
 
 plain-requires-2 : tie.Need-plain-requires-2
 plain-requires-2 c κs = search needs
 
 returns-2 : tie.Need-returns-2
-returns-2 c = (by-plain (c .before .before .before .before .args .buffer .now) (c .plain2 .result) (c .plain2 .ensures) (λ p. sym (call-empty (c .before .before .before .before .args .line .now) (c .before .if2 .taken))), by-bounded (c .plain2 .result) (c .plain2 .ensures) tt)
+returns-2 c =
+    let args = c .before .before .before .before .args in (
+      by-plain (args .buffer .now) (c .plain2 .result) (c .plain2 .ensures)
+          (λ p. sym (call-empty (args .line .now) (c .before .if2 .taken))),
+      by-bounded (c .plain2 .result) (c .plain2 .ensures) tt,
+    )
 
 shared-slice-read-if3 : tie.Need-shared-slice-read-if3
 shared-slice-read-if3 c = search needs
@@ -28,7 +37,15 @@ plain-requires-3 : tie.Need-plain-requires-3
 plain-requires-3 c κs = search needs
 
 returns-3 : tie.Need-returns-3
-returns-3 c = (by-plain (c .before .before .before .before .before .before .args .buffer .now) (c .plain3 .result) (c .plain3 .ensures) (λ p. sym (call-comment (c .before .before .before .before .before .before .args .line .now) (c .before .before .before .before .if1 .left) (c .before .if3 .taken))), by-bounded (c .plain3 .result) (c .plain3 .ensures) tt)
+returns-3 c =
+    let c4 = c .before .before .before .before in
+    let if1 = c4 .if1 in
+    let args = c4 .before .before .args in (
+      by-plain (args .buffer .now) (c .plain3 .result) (c .plain3 .ensures)
+          (λ p. sym (call-comment (args .line .now) (if1 .left) (c .before .if3 .taken))),
+      by-bounded (c .plain3 .result) (c .plain3 .ensures)
+          tt,
+    )
 
 word-requires : tie.Need-word-requires
 word-requires c κs = search needs
@@ -43,10 +60,36 @@ behind-requires : tie.Need-behind-requires
 behind-requires c κs = search needs
 
 by-name-requires : tie.Need-by-name-requires
-by-name-requires c κs = (omega (arith, ap length (c .before .behind .ensures), length-behind (c .before .before .before .before .before .before .before .before .before .before .args .line .now), c .before .before .before .before .before .before .before .before .if1 .left), omega (arith, c .by-name-arg .given .0 .1))
+by-name-requires c κs =
+    let c8 = c .before .before .before .before .before .before .before .before in
+    let if1 = c8 .if1 in
+    let args = c8 .before .before .args in (
+      omega (arith, ap length (c .before .behind .ensures), length-behind (args .line .now), if1 .left),
+      omega
+          (arith, c .by-name-arg .given .0 .1),
+    )
 
 returns-4 : tie.Need-returns-4
-returns-4 c = (let l = c .before .before .before .before .before .before .before .before .before .before .before .args .line .now in c .by-name .ensures .0 ∙ call-named l (c .before .before .before .before .before .word .result .now) (c .before .before .behind .result .now) (c .before .before .before .before .name-of .result) (c .before .before .before .reach .result) (c .before .before .before .before .before .before .before .before .before .if1 .left) (c .before .before .before .before .before .before .before .before .if2 .left) (c .before .before .before .before .before .before .if3 .left) (c .before .before .before .before .before .word .ensures) (c .before .before .before .before .name-of .ensures) (c .before .before .before .reach .ensures) (c .before .before .behind .ensures), c .by-name .ensures .1)
+returns-4 c =
+    let c2 = c .before .before in
+    let behind = c2 .behind in
+    let c3 = c2 .before in
+    let reach = c3 .reach in
+    let c4 = c3 .before in
+    let name-of = c4 .name-of in
+    let c5 = c4 .before in
+    let word = c5 .word in
+    let c6 = c5 .before in
+    let if3 = c6 .if3 in
+    let c8 = c6 .before .before in
+    let if2 = c8 .if2 in
+    let c9 = c8 .before in
+    let if1 = c9 .if1 in
+    let args = c9 .before .before .args in (
+      let l = args .line .now in c .by-name .ensures .0 ∙ call-named l (word .result .now) (behind .result .now) (name-of .result)
+          (reach .result) (if1 .left) (if2 .left) (if3 .left) (word .ensures) (name-of .ensures) (reach .ensures) (behind .ensures),
+      c .by-name .ensures .1,
+    )
 
 pub call-of-spec : {M : Type 1} → statement M
 call-of-spec =

@@ -25,13 +25,26 @@ enum-told : tie.Need-enum-told
 enum-told c = search needs
 
 returns : tie.Need-returns
-returns c = (let w = c .before .before .before .before .before .before .args .words .now in λ place. rw (number-said 4294967295 (wordOf w) NoNumber (c .before .before .number-of .ensures) (c .before .before .before .word .ensures) (c .enum-told .given .1)), tt)
+returns c =
+    let c2 = c .before .before in
+    let number-of = c2 .number-of in
+    let c3 = c2 .before in
+    let word = c3 .word in
+    let args = c3 .before .before .before .args in (
+      let w = args .words .now in λ place. rw (number-said 4294967295 (wordOf w) NoNumber (number-of .ensures) (word .ensures)
+          (c .enum-told .given .1)),
+      tt,
+    )
 
 behind-requires : tie.Need-behind-requires
 behind-requires c κs = search needs
 
 bytes-of-requires : tie.Need-bytes-of-requires
-bytes-of-requires c κs = omega (arith, ap length (c .before .behind .ensures), length-behind (c .before .before .before .before .before .before .before .before .before .args .words .now), c .before .before .before .before .before .before .before .before .before .pre)
+bytes-of-requires c κs =
+    let c9 = c .before .before .before .before .before .before .before .before .before in
+    let args = c9 .args in
+    let asked = c9 .pre in
+    omega (arith, ap length (c .before .behind .ensures), length-behind (args .words .now), asked)
 
 enum-known-n : tie.Need-enum-known-n
 enum-known-n c = search needs
@@ -43,13 +56,61 @@ same-length : tie.Need-same-length
 same-length c = search needs
 
 returns-2 : tie.Need-returns-2
-returns-2 c = (let w = c .before .before .before .before .before .before .before .before .before .before .before .before .before .before .args .words .now in λ place. rw (number-said 4294967295 (wordOf w) (Is (c .before .before .before .before .before .before .before .before .serial .given .0 .0)) (c .before .before .before .before .before .before .before .before .before .before .number-of .ensures) (c .before .before .before .before .before .before .before .before .before .before .before .word .ensures) (c .before .before .before .before .before .before .before .before .serial .given .1), bytes-said (behind w) (c .before .before .before .before .bytes-of .last .1 .0) NoBytes (c .before .before .before .before .bytes-of .ensures .0) (c .before .before .before .before .before .before .behind .ensures) (c .enum-told2 .given .1)), tt)
+returns-2 c =
+    let c4 = c .before .before .before .before in
+    let bytes-of = c4 .bytes-of in
+    let c6 = c4 .before .before in
+    let the-behind = c6 .behind in
+    let c8 = c6 .before .before in
+    let serial = c8 .serial in
+    let c10 = c8 .before .before in
+    let number-of = c10 .number-of in
+    let c11 = c10 .before in
+    let word = c11 .word in
+    let args = c11 .before .before .before .args in (
+      let w = args .words .now in λ place. rw (
+        number-said 4294967295 (wordOf w) (Is (serial .given .0 .0)) (number-of .ensures)
+            (word .ensures) (serial .given .1),
+        bytes-said (behind w) (bytes-of .last .1 .0) NoBytes (bytes-of .ensures .0)
+            (the-behind .ensures) (c .enum-told2 .given .1),
+      ),
+      tt,
+    )
 
 same-length-2 : tie.Need-same-length-2
 same-length-2 c = search needs
 
 returns-3 : tie.Need-returns-3
-returns-3 c = (let w = c .before .before .before .before .before .before .before .before .before .before .before .before .before .before .before .args .words .now in λ place. rw (number-said 4294967295 (wordOf w) (Is (c .before .before .before .before .before .before .before .before .before .serial .given .0 .0)) (c .before .before .before .before .before .before .before .before .before .before .before .number-of .ensures) (c .before .before .before .before .before .before .before .before .before .before .before .before .word .ensures) (c .before .before .before .before .before .before .before .before .before .serial .given .1), bytes-said (behind w) (c .before .before .before .before .before .bytes-of .last .1 .0) (Are (c .before .n .given .0 .0)) (c .before .before .before .before .before .bytes-of .ensures .0) (c .before .before .before .before .before .before .before .behind .ensures) (c .before .n .given .1)), omega (arith, rw (c .before .n .given .1) at (c .before .before .before .before .before .bytes-of .ensures .1), ap length (c .before .before .before .before .before .before .before .behind .ensures), length-behind (c .before .before .before .before .before .before .before .before .before .before .before .before .before .before .before .args .words .now), c .before .before .before .before .before .before .before .before .before .before .before .before .before .before .before .pre .0))
+returns-3 c =
+    let c1 = c .before in
+    let n = c1 .n in
+    let c5 = c1 .before .before .before .before in
+    let bytes-of = c5 .bytes-of in
+    let c7 = c5 .before .before in
+    let the-behind = c7 .behind in
+    let c9 = c7 .before .before in
+    let serial = c9 .serial in
+    let c11 = c9 .before .before in
+    let number-of = c11 .number-of in
+    let c12 = c11 .before in
+    let word = c12 .word in
+    let c15 = c12 .before .before .before in
+    let args = c15 .args in
+    let asked = c15 .pre in (
+      let w = args .words .now in λ place. rw (
+        number-said 4294967295 (wordOf w) (Is (serial .given .0 .0)) (number-of .ensures)
+            (word .ensures) (serial .given .1),
+        bytes-said (behind w) (bytes-of .last .1 .0) (Are (n .given .0 .0)) (bytes-of .ensures .0)
+            (the-behind .ensures) (n .given .1),
+      ),
+      omega (
+        arith,
+        rw (n .given .1) at (bytes-of .ensures .1),
+        ap length (the-behind .ensures),
+        length-behind (args .words .now),
+        asked .0,
+      ),
+    )
 
 pub feed-spec : {M : Type 1} → statement M
 feed-spec =

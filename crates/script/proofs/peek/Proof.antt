@@ -21,7 +21,16 @@ enum-told : tie.Need-enum-told
 enum-told c = search needs
 
 returns : tie.Need-returns
-returns c = (let w = c .before .before .before .before .before .args .words .now in λ place bytes. rw (number-said 4294967295 (wordOf w) NoNumber (c .before .before .number-of .ensures) (c .before .before .before .word .ensures) (c .enum-told .given .1)), tt)
+returns c =
+    let c2 = c .before .before in
+    let number-of = c2 .number-of in
+    let c3 = c2 .before in
+    let word = c3 .word in
+    let args = c3 .before .before .args in (
+      let w = args .words .now in λ place bytes. rw (number-said 4294967295 (wordOf w) NoNumber (number-of .ensures) (word .ensures)
+          (c .enum-told .given .1)),
+      tt,
+    )
 
 behind-requires : tie.Need-behind-requires
 behind-requires c κs = search needs
@@ -36,7 +45,26 @@ enum-told-2 : tie.Need-enum-told-2
 enum-told-2 c = search needs
 
 returns-2 : tie.Need-returns-2
-returns-2 c = (let w = c .before .before .before .before .before .before .before .before .before .before .args .words .now in λ place bytes. rw (number-said 4294967295 (wordOf w) (Is (c .before .before .before .before .before .at .given .0 .0)) (c .before .before .before .before .before .before .before .number-of .ensures) (c .before .before .before .before .before .before .before .before .word .ensures) (c .before .before .before .before .before .at .given .1), number-said 256 (behind w) NoNumber (c .before .before .number-of2 .ensures) (c .before .before .before .behind .ensures) (c .enum-told2 .given .1)), tt)
+returns-2 c =
+    let c2 = c .before .before in
+    let number-of2 = c2 .number-of2 in
+    let c3 = c2 .before in
+    let the-behind = c3 .behind in
+    let c5 = c3 .before .before in
+    let at = c5 .at in
+    let c7 = c5 .before .before in
+    let number-of = c7 .number-of in
+    let c8 = c7 .before in
+    let word = c8 .word in
+    let args = c8 .before .before .args in (
+      let w = args .words .now in λ place bytes. rw (
+        number-said 4294967295 (wordOf w) (Is (at .given .0 .0)) (number-of .ensures)
+            (word .ensures) (at .given .1),
+        number-said 256 (behind w) NoNumber (number-of2 .ensures) (the-behind .ensures)
+            (c .enum-told2 .given .1),
+      ),
+      tt,
+    )
 
 cast-from : tie.Need-cast-from
 cast-from c = search needs
@@ -48,10 +76,52 @@ add-if1 : tie.Need-add-if1
 add-if1 c = search needs
 
 returns-3 : tie.Need-returns-3
-returns-3 c = (let w = c .before .before .before .before .before .before .before .before .before .before .before .before .args .words .now in λ place bytes. rw (number-said 4294967295 (wordOf w) (Is (c .before .before .before .before .before .before .before .at .given .0 .0)) (c .before .before .before .before .before .before .before .before .before .number-of .ensures) (c .before .before .before .before .before .before .before .before .before .before .word .ensures) (c .before .before .before .before .before .before .before .at .given .1), number-said 256 (behind w) (Is (c .before .before .count .given .0 .0)) (c .before .before .before .before .number-of2 .ensures) (c .before .before .before .before .before .behind .ensures) (c .before .before .count .given .1)) (sym (peek-outside (c .before .before .before .before .before .before .before .at .given .0 .0) (c .before .before .count .given .0 .0) (c .if1 .taken))), tt)
+returns-3 c =
+    let c2 = c .before .before in
+    let count = c2 .count in
+    let c4 = c2 .before .before in
+    let number-of2 = c4 .number-of2 in
+    let c5 = c4 .before in
+    let the-behind = c5 .behind in
+    let c7 = c5 .before .before in
+    let at = c7 .at in
+    let c9 = c7 .before .before in
+    let number-of = c9 .number-of in
+    let c10 = c9 .before in
+    let word = c10 .word in
+    let args = c10 .before .before .args in (
+      let w = args .words .now in λ place bytes. rw (
+        number-said 4294967295 (wordOf w) (Is (at .given .0 .0)) (number-of .ensures)
+            (word .ensures) (at .given .1),
+        number-said 256 (behind w) (Is (count .given .0 .0)) (number-of2 .ensures) (the-behind .ensures)
+            (count .given .1),
+      ) (sym (peek-outside (at .given .0 .0) (count .given .0 .0) (c .if1 .taken))),
+      tt,
+    )
 
 returns-4 : tie.Need-returns-4
-returns-4 c = (let w = c .before .before .before .before .before .before .before .before .before .before .before .before .args .words .now in λ place bytes. rw (number-said 4294967295 (wordOf w) (Is (c .before .before .before .before .before .before .before .at .given .0 .0)) (c .before .before .before .before .before .before .before .before .before .number-of .ensures) (c .before .before .before .before .before .before .before .before .before .before .word .ensures) (c .before .before .before .before .before .before .before .at .given .1), number-said 256 (behind w) (Is (c .before .before .count .given .0 .0)) (c .before .before .before .before .number-of2 .ensures) (c .before .before .before .before .before .behind .ensures) (c .before .before .count .given .1)) (sym (peek-inside (c .before .before .before .before .before .before .before .at .given .0 .0) (c .before .before .count .given .0 .0) (c .if1 .left))), c .if1 .left)
+returns-4 c =
+    let c2 = c .before .before in
+    let count = c2 .count in
+    let c4 = c2 .before .before in
+    let number-of2 = c4 .number-of2 in
+    let c5 = c4 .before in
+    let the-behind = c5 .behind in
+    let c7 = c5 .before .before in
+    let at = c7 .at in
+    let c9 = c7 .before .before in
+    let number-of = c9 .number-of in
+    let c10 = c9 .before in
+    let word = c10 .word in
+    let args = c10 .before .before .args in (
+      let w = args .words .now in λ place bytes. rw (
+        number-said 4294967295 (wordOf w) (Is (at .given .0 .0)) (number-of .ensures)
+            (word .ensures) (at .given .1),
+        number-said 256 (behind w) (Is (count .given .0 .0)) (number-of2 .ensures) (the-behind .ensures)
+            (count .given .1),
+      ) (sym (peek-inside (at .given .0 .0) (count .given .0 .0) (c .if1 .left))),
+      c .if1 .left,
+    )
 
 pub peek-spec : {M : Type 1} → statement M
 peek-spec =

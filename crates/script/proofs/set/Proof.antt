@@ -19,13 +19,22 @@ same-length : tie.Need-same-length
 same-length c = search needs
 
 returns : tie.Need-returns
-returns c = (λ place. sym (ap setBy (sym (c .before .before .before .before .set-bytes .ensures .0) ∙ ap (bytesIn (c .before .before .before .before .set-bytes .last .1 .0)) (c .enum-told .given .1))), tt)
+returns c =
+    let set-bytes = c .before .before .before .before .set-bytes in
+    (λ place. sym (ap setBy (sym (set-bytes .ensures .0) ∙ ap (bytesIn (set-bytes .last .1 .0)) (c .enum-told .given .1))), tt)
 
 same-length-2 : tie.Need-same-length-2
 same-length-2 c = search needs
 
 returns-2 : tie.Need-returns-2
-returns-2 c = (λ place. sym (ap setBy (sym (c .before .before .before .before .before .set-bytes .ensures .0) ∙ ap (bytesIn (c .before .before .before .before .before .set-bytes .last .1 .0)) (c .before .n .given .1))), rw (c .before .n .given .1) at (c .before .before .before .before .before .set-bytes .ensures .1))
+returns-2 c =
+    let c1 = c .before in
+    let n = c1 .n in
+    let set-bytes = c1 .before .before .before .before .set-bytes in (
+      λ place. sym (ap setBy (sym (set-bytes .ensures .0) ∙ ap (bytesIn (set-bytes .last .1 .0)) (n .given .1))),
+      rw (n .given .1) at
+          (set-bytes .ensures .1),
+    )
 
 pub set-spec : {M : Type 1} → statement M
 set-spec =

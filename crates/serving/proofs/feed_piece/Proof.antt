@@ -29,16 +29,32 @@ feed-rest-requires : tie.Need-feed-rest-requires Inv-loop μ-loop
 feed-rest-requires c κs = search needs
 
 returns : tie.Need-returns Inv-loop μ-loop
-returns c = so-far-idle _ _ _ _ _ (c .before .before .before .before .before .before .before .loop .inv .0) (left-fed _ (c .before .before .before .before .before .before .before .loop .from) (c .before .before .before .feed-rest .ensures)) (search needs) (c .if1 .taken) _
+returns c =
+    let c3 = c .before .before .before in
+    let feed-rest = c3 .feed-rest in
+    let loop = c3 .before .before .before .before .loop in
+    so-far-idle _ _ _ _ _ (loop .inv .0) (left-fed _ (loop .from) (feed-rest .ensures)) (search needs) (c .if1 .taken) _
 
 add-from : tie.Need-add-from Inv-loop μ-loop
-add-from c = omega (arith, fed-within _ _ _ _ _ (c .before .before .before .before .before .before .before .before .loop .inv .0) (left-fed _ (c .before .before .before .before .before .before .before .before .loop .from) (c .before .before .before .before .feed-rest .ensures)))
+add-from c =
+    let c4 = c .before .before .before .before in
+    let feed-rest = c4 .feed-rest in
+    let loop = c4 .before .before .before .before .loop in
+    omega (arith, fed-within _ _ _ _ _ (loop .inv .0) (left-fed _ (loop .from) (feed-rest .ensures)))
 
 loop-less : tie.Need-loop-less Inv-loop μ-loop
-loop-less c = omega (arith, fed-within _ _ _ _ _ (c .before .before .before .before .before .before .before .before .loop .inv .0) (left-fed _ (c .before .before .before .before .before .before .before .before .loop .from) (c .before .before .before .before .feed-rest .ensures)))
+loop-less c =
+    let c4 = c .before .before .before .before in
+    let feed-rest = c4 .feed-rest in
+    let loop = c4 .before .before .before .before .loop in
+    omega (arith, fed-within _ _ _ _ _ (loop .inv .0) (left-fed _ (loop .from) (feed-rest .ensures)))
 
 loop-again : tie.Need-loop-again Inv-loop μ-loop
-loop-again c = (so-far-more _ _ _ _ _ (c .before .before .before .before .before .before .before .before .loop .inv .0) (left-fed _ (c .before .before .before .before .before .before .before .before .loop .from) (c .before .before .before .before .feed-rest .ensures)) (search needs), search needs)
+loop-again c =
+    let c4 = c .before .before .before .before in
+    let feed-rest = c4 .feed-rest in
+    let loop = c4 .before .before .before .before .loop in
+    (so-far-more _ _ _ _ _ (loop .inv .0) (left-fed _ (loop .from) (feed-rest .ensures)) (search needs), search needs)
 
 returns-2 : tie.Need-returns-2 Inv-loop μ-loop
 returns-2 c = so-far-all _ _ _ _ _ (c .before .loop .inv .0) (search needs) _

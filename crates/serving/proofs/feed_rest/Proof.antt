@@ -16,18 +16,32 @@ take-many-requires : tie.Need-take-many-requires
 take-many-requires c κs = search needs
 
 put-records-requires : tie.Need-put-records-requires
-put-records-requires c κs = at-most-held (c .before .before .before .before .before .before .before .before .feed .result .desk) (c .before .before .before .before .take-many .result) (c .before .before .before .before .before .before .new-list .result) (c .before .before .before .before .before .before .new-list .ensures) (c .before .before .before .before .take-many .ensures .0)
+put-records-requires c κs =
+    let c4 = c .before .before .before .before in
+    let take-many = c4 .take-many in
+    let c6 = c4 .before .before in
+    let new-list = c6 .new-list in
+    let feed = c6 .before .before .feed in
+    at-most-held (feed .result .desk) (take-many .result) (new-list .result) (new-list .ensures) (take-many .ensures .0)
 
 taken-by-requires : tie.Need-taken-by-requires
 taken-by-requires c κs = search needs
 
 returns : tie.Need-returns
 returns c =
-    let a = c .before .before .before .before .before .before .before .before .before .before .before .before .before .args in
-    let f = c .before .before .before .before .before .before .before .before .before .before .feed in
-    let l = c .before .before .before .before .before .before .before .before .new-list in
-    let t = c .before .before .before .before .before .before .take-many in
-    rest-fed (a .serial) (a .table .now) (a .desk) (a .rest .now) _ _ (f .result) (t .result) (l .result) _ _ _ (f .ensures) (l .ensures) (t .ensures .0) (t .ensures .1) (c .taken-by .ensures) (c .before .put-records .ensures)
+    let c6 = c .before .before .before .before .before .before in
+    let take-many = c6 .take-many in
+    let c8 = c6 .before .before in
+    let new-list = c8 .new-list in
+    let c10 = c8 .before .before in
+    let feed = c10 .feed in
+    let args = c10 .before .before .before .args in
+    let a = args in
+    let f = feed in
+    let l = new-list in
+    let t = take-many in
+    rest-fed (a .serial) (a .table .now) (a .desk) (a .rest .now) _ _ (f .result) (t .result) (l .result) _ _ _ (f .ensures) (l .ensures)
+    (t .ensures .0) (t .ensures .1) (c .taken-by .ensures) (c .before .put-records .ensures)
 
 pub feed-rest-spec : {M : Type 1} → statement M
 feed-rest-spec =

@@ -40,7 +40,14 @@ loop-less : tie.Need-loop-less Inv-loop μ-loop
 loop-less c = search needs
 
 loop-again : tie.Need-loop-again Inv-loop μ-loop
-loop-again c = let a = c .before .before .before .before .before .before .before .args in let l = c .before .before .before .before .before .loop in listed-next (a .numbers .now) (l .i) (c .before .before .before .before .loop-test .taken) (l .inv) (rw (sym (c .before .wide .ensures)) (c .put-blank-number .ensures))
+loop-again c =
+    let c4 = c .before .before .before .before in
+    let loop-test = c4 .loop-test in
+    let c5 = c4 .before in
+    let loop = c5 .loop in
+    let args = c5 .before .before .args in
+    let a = args in let l = loop in listed-next (a .numbers .now) (l .i) (loop-test .taken) (l .inv)
+    (rw (sym (c .before .wide .ensures)) (c .put-blank-number .ensures))
 
 returns : tie.Need-returns Inv-loop μ-loop
 returns c = listed-all (c .before .before .before .args .numbers .now) (c .before .loop .i) (c .loop-test .left) (c .before .loop .inv)

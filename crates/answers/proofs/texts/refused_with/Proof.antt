@@ -19,7 +19,11 @@ put-line-end-requires c κs = search needs
 
 returns : tie.Need-returns
 unfolding refusedLine listed
-returns c = put-then (put-then (c .before .before .before .before .put-numbered .ensures) (c .before .before .put-blank-number .ensures)) (c .put-line-end .ensures)
+returns c =
+    let c2 = c .before .before in
+    let put-blank-number = c2 .put-blank-number in
+    let put-numbered = c2 .before .before .put-numbered in
+    put-then (put-then (put-numbered .ensures) (put-blank-number .ensures)) (c .put-line-end .ensures)
 
 pub refused-with-spec : {M : Type 1} → statement M
 refused-with-spec =

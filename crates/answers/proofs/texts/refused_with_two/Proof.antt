@@ -22,7 +22,14 @@ put-line-end-requires c κs = search needs
 
 returns : tie.Need-returns
 unfolding refusedLine listed
-returns c = put-then (put-then (put-then (c .before .before .before .before .before .before .put-numbered .ensures) (c .before .before .before .before .put-blank-number .ensures)) (c .before .before .put-blank-number2 .ensures)) (c .put-line-end .ensures)
+returns c =
+    let c2 = c .before .before in
+    let put-blank-number2 = c2 .put-blank-number2 in
+    let c4 = c2 .before .before in
+    let put-blank-number = c4 .put-blank-number in
+    let put-numbered = c4 .before .before .put-numbered in
+    put-then (put-then (put-then (put-numbered .ensures) (put-blank-number .ensures)) (put-blank-number2 .ensures))
+    (c .put-line-end .ensures)
 
 pub refused-with-two-spec : {M : Type 1} → statement M
 refused-with-two-spec =

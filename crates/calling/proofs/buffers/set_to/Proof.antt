@@ -17,7 +17,16 @@ same-length : tie.Need-same-length
 same-length c = search needs
 
 returns : tie.Need-returns
-returns c = let a = c .before .before .before .before .before .before .before .before .before .before .args in ((λ table. did-set (a .s) (a .bytes .now) (a .set .now) (c .before .before .before .before .before .put .last .0) table _ (c .before .before .before .before .before .put .ensures) (c .word-line .ensures)), (c .before .before .before .before .before .before .before .before .before .before .pre .1, c .before .before .before .before .before .before .before .before .before .before .pre .0 .1))
+returns c =
+    let c5 = c .before .before .before .before .before in
+    let put = c5 .put in
+    let c10 = c5 .before .before .before .before .before in
+    let args = c10 .args in
+    let asked = c10 .pre in
+    let a = args in (
+      (λ table. did-set (a .s) (a .bytes .now) (a .set .now) (put .last .0) table _ (put .ensures) (c .word-line .ensures)),
+      (asked .1, asked .0 .1),
+    )
 
 pub set-to-spec : {M : Type 1} → statement M
 set-to-spec =

@@ -15,7 +15,16 @@ closed-requires : tie.Need-closed-requires
 closed-requires c κs = search needs
 
 returns : tie.Need-returns
-returns c = ((λ bytes table. did-desk (heldBy (c .before .before .before .before .before .args .s) bytes table) (ap (λ (x : Closing). x .desk) (c .before .before .before .close .ensures)) (ap (λ (x : Closing). closeLine (c .before .before .before .before .before .args .serial) (x .answer)) (c .before .before .before .close .ensures)) (c .closed .ensures)), c .before .before .before .before .before .pre)
+returns c =
+    let c3 = c .before .before .before in
+    let close = c3 .close in
+    let c5 = c3 .before .before in
+    let args = c5 .args in
+    let asked = c5 .pre in (
+      (λ bytes table. did-desk (heldBy (args .s) bytes table) (ap (λ (x : Closing). x .desk) (close .ensures))
+          (ap (λ (x : Closing). closeLine (args .serial) (x .answer)) (close .ensures)) (c .closed .ensures)),
+      asked,
+    )
 
 pub close-spec : {M : Type 1} → statement M
 close-spec = tie.close (tie.spec close-requires closed-requires returns)

@@ -20,7 +20,17 @@ fed-requires : tie.Need-fed-requires
 fed-requires c κs = search needs
 
 returns : tie.Need-returns
-returns c = let a = c .before .before .before .before .before .before .before .before .args in ((λ bytes. did-feed (a .s) (a .serial) bytes (a .table .now) (a .piece .now) (c .before .before .before .feed .result) (c .before .before .before .feed .ensures) (c .fed .ensures)), c .before .before .before .before .before .before .before .before .pre .0)
+returns c =
+    let c3 = c .before .before .before in
+    let feed = c3 .feed in
+    let c8 = c3 .before .before .before .before .before in
+    let args = c8 .args in
+    let asked = c8 .pre in
+    let a = args in (
+      (λ bytes. did-feed (a .s) (a .serial) bytes (a .table .now) (a .piece .now) (feed .result) (feed .ensures)
+          (c .fed .ensures)),
+      asked .0,
+    )
 
 pub feed-spec : {M : Type 1} → statement M
 feed-spec =

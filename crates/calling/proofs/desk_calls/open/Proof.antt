@@ -15,7 +15,16 @@ opened-requires : tie.Need-opened-requires
 opened-requires c κs = search needs
 
 returns : tie.Need-returns
-returns c = ((λ bytes table. did-desk (heldBy (c .before .before .before .before .before .args .s) bytes table) (ap (λ (x : Opening). x .desk) (c .before .before .before .«open» .ensures)) (ap (λ (x : Opening). openLine (x .answer)) (c .before .before .before .«open» .ensures)) (c .opened .ensures)), c .before .before .before .before .before .pre)
+returns c =
+    let c2 = c .before .before in
+    let before = c2 .before in
+    let c5 = c2 .before .before .before in
+    let args = c5 .args in
+    let asked = c5 .pre in (
+      (λ bytes table. did-desk (heldBy (args .s) bytes table) (ap (λ (x : Opening). x .desk) (before .«open» .ensures))
+          (ap (λ (x : Opening). openLine (x .answer)) (before .«open» .ensures)) (c .opened .ensures)),
+      asked,
+    )
 
 pub open-spec : {M : Type 1} → statement M
 open-spec = tie.close (tie.spec open-requires opened-requires returns)

@@ -32,7 +32,17 @@ same-length : tie.Need-same-length
 same-length c = search needs
 
 returns : tie.Need-returns
-returns c = let a = c .before .before .before .before .before .before .before .before .before .before .before .args in (did-replace (a .s) (a .set .now) (a .table .now) (c .before .before .before .before .before .replace .last .1 .1 .0) (c .before .before .before .before .before .replace .result) (c .before .before .before .before .before .replace .ensures .0) (c .before .before .before .before .before .replace .ensures .1) (c .replaced .ensures), c .before .before .before .before .before .before .before .before .before .before .before .pre .0)
+returns c =
+    let c5 = c .before .before .before .before .before in
+    let replace = c5 .replace in
+    let c11 = c5 .before .before .before .before .before .before in
+    let args = c11 .args in
+    let asked = c11 .pre in
+    let a = args in (
+      did-replace (a .s) (a .set .now) (a .table .now) (replace .last .1 .1 .0) (replace .result) (replace .ensures .0)
+          (replace .ensures .1) (c .replaced .ensures),
+      asked .0,
+    )
 
 pub replace-spec : {M : Type 1} → statement M
 replace-spec =

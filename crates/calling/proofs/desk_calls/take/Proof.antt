@@ -15,7 +15,16 @@ taken-requires : tie.Need-taken-requires
 taken-requires c κs = search needs
 
 returns : tie.Need-returns
-returns c = ((λ bytes table. did-desk (heldBy (c .before .before .before .before .before .args .s) bytes table) (ap (λ (x : Taking). x .desk) (c .before .before .before .take .ensures)) (ap (λ (x : Taking). takeLine (x .answer)) (c .before .before .before .take .ensures)) (c .taken .ensures)), c .before .before .before .before .before .pre)
+returns c =
+    let c3 = c .before .before .before in
+    let take = c3 .take in
+    let c5 = c3 .before .before in
+    let args = c5 .args in
+    let asked = c5 .pre in (
+      (λ bytes table. did-desk (heldBy (args .s) bytes table) (ap (λ (x : Taking). x .desk) (take .ensures))
+          (ap (λ (x : Taking). takeLine (x .answer)) (take .ensures)) (c .taken .ensures)),
+      asked,
+    )
 
 pub take-spec : {M : Type 1} → statement M
 take-spec = tie.close (tie.spec take-requires taken-requires returns)

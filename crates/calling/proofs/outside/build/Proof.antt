@@ -32,7 +32,17 @@ same-length : tie.Need-same-length
 same-length c = search needs
 
 returns : tie.Need-returns
-returns c = let a = c .before .before .before .before .before .before .before .before .before .before .args in (did-build (a .s) (a .layout) (a .set .now) (a .table .now) (c .before .before .before .before .build-by .last .1 .1 .0) (c .before .before .before .before .build-by .result) (c .before .before .before .before .build-by .ensures .0) (c .before .before .before .before .build-by .ensures .1) (c .built-line .ensures), c .before .before .before .before .before .before .before .before .before .before .pre .0)
+returns c =
+    let c4 = c .before .before .before .before in
+    let build-by = c4 .build-by in
+    let c10 = c4 .before .before .before .before .before .before in
+    let args = c10 .args in
+    let asked = c10 .pre in
+    let a = args in (
+      did-build (a .s) (a .layout) (a .set .now) (a .table .now) (build-by .last .1 .1 .0) (build-by .result)
+          (build-by .ensures .0) (build-by .ensures .1) (c .built-line .ensures),
+      asked .0,
+    )
 
 pub build-spec : {M : Type 1} → statement M
 build-spec =

@@ -19,13 +19,21 @@ same-length : tie.Need-same-length
 same-length c = search needs
 
 returns : tie.Need-returns
-returns c = (rw (c .before .before .before .before .enum-told .given .1) (c .before .before .build-split .ensures .0), rw (c .before .before .before .before .enum-told .given .1) (c .before .before .build-split .ensures .1))
+returns c =
+    let c2 = c .before .before in
+    let build-split = c2 .build-split in
+    let enum-told = c2 .before .before .enum-told in
+    (rw (enum-told .given .1) (build-split .ensures .0), rw (enum-told .given .1) (build-split .ensures .1))
 
 same-length-2 : tie.Need-same-length-2
 same-length-2 c = search needs
 
 returns-2 : tie.Need-returns-2
-returns-2 c = (rw (c .before .before .before .before .enum-told2 .given .1) (c .before .before .build-whole .ensures .0), rw (c .before .before .before .before .enum-told2 .given .1) (c .before .before .build-whole .ensures .1))
+returns-2 c =
+    let c2 = c .before .before in
+    let build-whole = c2 .build-whole in
+    let enum-told2 = c2 .before .before .enum-told2 in
+    (rw (enum-told2 .given .1) (build-whole .ensures .0), rw (enum-told2 .given .1) (build-whole .ensures .1))
 
 pub build-by-spec : {M : Type 1} → statement M
 build-by-spec =

@@ -31,13 +31,20 @@ loop-less : tie.Need-loop-less Inv-loop μ-loop
 loop-less c = search needs
 
 loop-again : tie.Need-loop-again Inv-loop μ-loop
-loop-again c = let d = c .before .before .args .list .now in let l = c .before .loop in let h : l .i < length d = omega arith in (simp length-set (l .inv .0), (omega arith, ap (λ (m : List ℕ). set m (l .i) 7) (l .inv .1 .1) ∙ fill-more (l .i) 7 d h))
+loop-again c =
+    let args = c .before .before .args in
+    let d = args .list .now in let l = c .before .loop in let h : l .i < length d = omega arith in
+    (simp length-set (l .inv .0), (omega arith, ap (λ (m : List ℕ). set m (l .i) 7) (l .inv .1 .1) ∙ fill-more (l .i) 7 d h))
 
 same-length : tie.Need-same-length Inv-loop μ-loop
 same-length c = c .before .loop .inv .0
 
 returns : tie.Need-returns Inv-loop μ-loop
-returns c = let d = c .before .before .args .list .now in let l = c .before .loop in let h : length d ≤ l .i = omega arith in let e : l .i ≡ length d = omega arith in l .inv .1 .1 ∙ ap (λ (m : List ℕ). replicate (l .i) 7 ++ m) (drop-of-length-le d h) ∙ append-nil (replicate (l .i) 7) ∙ ap (λ (n : ℕ). replicate n 7) e
+returns c =
+    let args = c .before .before .args in
+    let d = args .list .now in let l = c .before .loop in let h : length d ≤ l .i = omega arith in let e : l .i ≡ length d = omega arith in
+    l .inv .1 .1 ∙ ap (λ (m : List ℕ). replicate (l .i) 7 ++ m) (drop-of-length-le d h) ∙ append-nil (replicate (l .i) 7) ∙ ap
+    (λ (n : ℕ). replicate n 7) e
 
 pub fill-spec : {M : Type 1} → statement M
 fill-spec =

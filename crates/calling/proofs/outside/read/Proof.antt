@@ -39,7 +39,23 @@ same-length : tie.Need-same-length
 same-length c = search needs
 
 returns : tie.Need-returns
-returns c = ((λ set. record { same = refl; puts = rw (off (c .before .before .before .before .before .before .before .before .before .before .before .args .s .lent), off (c .before .before .before .before .before .before .before .before .before .before .before .args .reading .piece), lent-length (c .before .before .before .before .before .before .before .before .before .before .before .args .reading .room) (c .before .before .before .before .before .before .before .before .before .before .before .args .list .now) (c .before .before .before .before .before .before .before .before .before .before .before .pre .2)) at (c .before .before .read-by .ensures) }), c .before .before .before .before .before .before .before .before .before .before .before .pre .0)
+returns c =
+    let c2 = c .before .before in
+    let read-by = c2 .read-by in
+    let c11 = c2 .before .before .before .before .before .before .before .before .before in
+    let args = c11 .args in
+    let asked = c11 .pre in (
+      (λ set. record {
+        same = refl;
+        puts = rw (
+          off (args .s .lent),
+          off (args .reading .piece),
+          lent-length (args .reading .room)
+              (args .list .now) (asked .2),
+        ) at (read-by .ensures);
+      }),
+      asked .0,
+    )
 
 pub read-spec : {M : Type 1} → statement M
 read-spec =

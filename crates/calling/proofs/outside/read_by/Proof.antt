@@ -27,13 +27,28 @@ same-length : tie.Need-same-length
 same-length c = search needs
 
 returns : tie.Need-returns
-returns c = let p = c .before .before .before .before .before .before .before .before .before .before .args .t4 in let g : length p ≡ 8 = c .before .before .before .before .before .before .before .before .before .before .good .1 .1 .1 .0 .1 .0 .1 in let h : length p ≤ 8 = omega arith in rw (c .before .before .before .before .before .enum-told .given .1) (rw (take-all 8 p h) (c .before .before .read-split .ensures))
+returns c =
+    let c2 = c .before .before in
+    let read-split = c2 .read-split in
+    let c5 = c2 .before .before .before in
+    let enum-told = c5 .enum-told in
+    let c10 = c5 .before .before .before .before .before in
+    let args = c10 .args in
+    let good = c10 .good in
+    let p = args .t4 in let g : length p ≡ 8 = good .1 .1 .1 .0 .1 .0 .1 in let h : length p ≤ 8 = omega arith in rw (enum-told .given .1)
+    (rw (take-all 8 p h) (read-split .ensures))
 
 same-length-2 : tie.Need-same-length-2
 same-length-2 c = search needs
 
 returns-2 : tie.Need-returns-2
-returns-2 c = let p = c .before .before .before .before .before .before .before .before .before .before .args .t4 in let h : 0 < 1 = omega arith in rw (c .before .before .before .before .before .enum-told2 .given .1) (rw (getD-take 1 p 0 0 h) (c .before .before .read-whole .ensures))
+returns-2 c =
+    let c2 = c .before .before in
+    let read-whole = c2 .read-whole in
+    let c5 = c2 .before .before .before in
+    let enum-told2 = c5 .enum-told2 in
+    let args = c5 .before .before .before .before .before .args in
+    let p = args .t4 in let h : 0 < 1 = omega arith in rw (enum-told2 .given .1) (rw (getD-take 1 p 0 0 h) (read-whole .ensures))
 
 pub read-by-spec : {M : Type 1} → statement M
 read-by-spec =

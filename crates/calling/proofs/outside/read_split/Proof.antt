@@ -18,10 +18,21 @@ read-lines-requires : tie.Need-read-lines-requires
 read-lines-requires c κs = search needs
 
 same-length : tie.Need-same-length
-same-length c = c .before .before .before .before .before .before .before .read-split .kept .1 .1 .1 .1 .0 ∙ c .before .before .before .before .before .before .before .before .before .before .before .fill .kept .0
+same-length c =
+    let c7 = c .before .before .before .before .before .before .before in
+    let read-split = c7 .read-split in
+    let fill = c7 .before .before .before .before .fill in
+    read-split .kept .1 .1 .1 .1 .0 ∙ fill .kept .0
 
 returns : tie.Need-returns
-returns c = let a = c .before .before .before .before .before .before .before .before .before .before .before .before .before .before .before .before .args in split-said (a .table .now) (a .place) (a .piece .now) (a .list .now) (c .before .before .before .before .before .before .before .before .before .before .before .fill .last .0) (c .before .before .before .before .before .before .before .read-split .last .1 .1 .1 .1 .0) (a .count) (c .before .before .before .before .before .before .before .read-split .result) (c .before .before .before .before .before .before .before .before .before .before .before .fill .ensures) (c .before .before .before .before .before .before .before .read-split .ensures .0) (c .before .before .before .before .before .before .before .read-split .ensures .1) (c .read-lines .ensures)
+returns c =
+    let c7 = c .before .before .before .before .before .before .before in
+    let read-split = c7 .read-split in
+    let c11 = c7 .before .before .before .before in
+    let fill = c11 .fill in
+    let args = c11 .before .before .before .before .before .args in
+    let a = args in split-said (a .table .now) (a .place) (a .piece .now) (a .list .now) (fill .last .0) (read-split .last .1 .1 .1 .1 .0)
+    (a .count) (read-split .result) (fill .ensures) (read-split .ensures .0) (read-split .ensures .1) (c .read-lines .ensures)
 
 pub read-split-spec : {M : Type 1} → statement M
 read-split-spec =

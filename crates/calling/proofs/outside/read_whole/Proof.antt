@@ -18,10 +18,21 @@ read-lines-requires : tie.Need-read-lines-requires
 read-lines-requires c κs = search needs
 
 same-length : tie.Need-same-length
-same-length c = c .before .before .before .before .before .before .read-whole .kept .1 .1 .1 .1 .0 ∙ c .before .before .before .before .before .before .before .before .before .before .fill .kept .0
+same-length c =
+    let c6 = c .before .before .before .before .before .before in
+    let read-whole = c6 .read-whole in
+    let fill = c6 .before .before .before .before .fill in
+    read-whole .kept .1 .1 .1 .1 .0 ∙ fill .kept .0
 
 returns : tie.Need-returns
-returns c = let a = c .before .before .before .before .before .before .before .before .before .before .before .before .before .before .before .args in whole-said (a .table .now) (a .piece .now) (a .list .now) (c .before .before .before .before .before .before .before .before .before .before .fill .last .0) (c .before .before .before .before .before .before .read-whole .last .1 .1 .1 .1 .0) (a .place) (a .count) (c .before .before .before .before .before .before .read-whole .result) (c .before .before .before .before .before .before .before .before .before .before .fill .ensures) (c .before .before .before .before .before .before .read-whole .ensures .0) (c .before .before .before .before .before .before .read-whole .ensures .1) (c .read-lines .ensures)
+returns c =
+    let c6 = c .before .before .before .before .before .before in
+    let read-whole = c6 .read-whole in
+    let c10 = c6 .before .before .before .before in
+    let fill = c10 .fill in
+    let args = c10 .before .before .before .before .before .args in
+    let a = args in whole-said (a .table .now) (a .piece .now) (a .list .now) (fill .last .0) (read-whole .last .1 .1 .1 .1 .0) (a .place)
+    (a .count) (read-whole .result) (fill .ensures) (read-whole .ensures .0) (read-whole .ensures .1) (c .read-lines .ensures)
 
 pub read-whole-spec : {M : Type 1} → statement M
 read-whole-spec =

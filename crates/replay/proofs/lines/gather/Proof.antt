@@ -42,16 +42,44 @@ part-line-part-end : tie.Need-part-line-part-end Inv-loop μ-loop
 part-line-part-end c = search needs
 
 line-part-requires : tie.Need-line-part-requires Inv-loop μ-loop
-line-part-requires c κs = omega (arith, c .before .before .before .before .before .before .before .before .before .loop .inv .1 .0, c .before .before .before .before .before .before .before .before .before .loop .inv .1 .1)
+line-part-requires c κs =
+    let loop = c .before .before .before .before .before .before .before .before .before .loop in
+    omega (arith, loop .inv .1 .0, loop .inv .1 .1)
 
 add-t20 : tie.Need-add-t20 Inv-loop μ-loop
-add-t20 c = let p = c .before .before .before .before .before .before .before .before .before .before .next-piece in omega (arith, c .before .before .before .line-part .ensures .1 .1 .1, lent-short (p .result .to - p .result .from) (p .result .from) (p .last .1 .0), p .ensures .0, p .ensures .1, p .kept .1 .0, c .before .before .before .before .before .before .before .before .before .before .before .before .before .loop .inv .0, c .before .before .before .before .before .before .before .before .before .before .before .before .before .before .before .before .good .1 .0 .1)
+add-t20 c =
+    let c3 = c .before .before .before in
+    let line-part = c3 .line-part in
+    let c10 = c3 .before .before .before .before .before .before .before in
+    let next-piece = c10 .next-piece in
+    let c13 = c10 .before .before .before in
+    let loop = c13 .loop in
+    let good = c13 .before .before .before .good in
+    let p = next-piece in omega (
+      arith,
+      line-part .ensures .1 .1 .1,
+      lent-short (p .result .to - p .result .from) (p .result .from)
+          (p .last .1 .0),
+      p .ensures .0,
+      p .ensures .1,
+      p .kept .1 .0,
+      loop .inv .0,
+      good .1 .0 .1,
+    )
 
 same-length-3 : tie.Need-same-length-3 Inv-loop μ-loop
-same-length-3 c = c .before .before .before .before .before .before .before .before .before .before .before .next-piece .kept .1 .0 ∙ c .before .before .before .before .before .before .before .before .before .before .before .before .before .before .loop .inv .0
+same-length-3 c =
+    let c11 = c .before .before .before .before .before .before .before .before .before .before .before in
+    let next-piece = c11 .next-piece in
+    let loop = c11 .before .before .before .loop in
+    next-piece .kept .1 .0 ∙ loop .inv .0
 
 same-length-4 : tie.Need-same-length-4 Inv-loop μ-loop
-same-length-4 c = c .before .before .before .before .line-part .kept .0 ∙ c .before .before .before .before .before .before .before .before .before .before .before .before .before .before .loop .inv .1 .0
+same-length-4 c =
+    let c4 = c .before .before .before .before in
+    let line-part = c4 .line-part in
+    let loop = c4 .before .before .before .before .before .before .before .before .before .before .loop in
+    line-part .kept .0 ∙ loop .inv .1 .0
 
 returns-2 : tie.Need-returns-2 Inv-loop μ-loop
 returns-2 c = search needs
@@ -60,7 +88,20 @@ loop-less : tie.Need-loop-less Inv-loop μ-loop
 loop-less c = search needs
 
 loop-again : tie.Need-loop-again Inv-loop μ-loop
-loop-again c = let l = c .before .before .before .before .before .before .before .before .before .before .before .before .before .before .loop in (c .before .before .before .before .before .before .before .before .before .before .before .next-piece .kept .1 .0 ∙ l .inv .0, (c .before .before .before .before .line-part .kept .0 ∙ l .inv .1 .0, omega (arith, l .inv .1 .0, c .before .before .before .before .line-part .ensures .1 .1 .0)))
+loop-again c =
+    let c4 = c .before .before .before .before in
+    let line-part = c4 .line-part in
+    let c11 = c4 .before .before .before .before .before .before .before in
+    let next-piece = c11 .next-piece in
+    let loop = c11 .before .before .before .loop in
+    let l = loop in (
+      next-piece .kept .1 .0 ∙ l .inv .0,
+      (
+        line-part .kept .0 ∙ l .inv .1 .0,
+        omega
+            (arith, l .inv .1 .0, line-part .ensures .1 .1 .0),
+      ),
+    )
 
 same-length-5 : tie.Need-same-length-5 Inv-loop μ-loop
 same-length-5 c = c .before .loop .inv .0

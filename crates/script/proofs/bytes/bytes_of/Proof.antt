@@ -32,13 +32,26 @@ part-hex-end : tie.Need-part-hex-end
 part-hex-end c = search needs
 
 hex-requires : tie.Need-hex-requires
-hex-requires c κs = let w = c .before .before .before .before .before .before .before .before .args .word .now in omega (arith, lent-short (length w - 1) 1 w, c .before .before .before .before .before .before .before .before .pre)
+hex-requires c κs =
+    let c8 = c .before .before .before .before .before .before .before .before in
+    let args = c8 .args in
+    let asked = c8 .pre in
+    let w = args .word .now in omega (arith, lent-short (length w - 1) 1 w, asked)
 
 same-length : tie.Need-same-length
 same-length c = search needs
 
 returns-4 : tie.Need-returns-4
-returns-4 c = (let w = c .before .before .before .before .before .before .before .before .before .before .before .args .word .now in c .before .before .hex .ensures .0 ∙ ap hexOf (rest-lent w 1) ∙ sym (bytes-hex w (c .before .before .before .before .before .if4 .taken)), let w = c .before .before .before .before .before .before .before .before .before .before .before .args .word .now in omega (arith, c .before .before .hex .ensures .1, lent-short (length w - 1) 1 w))
+returns-4 c =
+    let c2 = c .before .before in
+    let hex = c2 .hex in
+    let c5 = c2 .before .before .before in
+    let if4 = c5 .if4 in
+    let args = c5 .before .before .before .before .before .before .args in (
+      let w = args .word .now in hex .ensures .0 ∙ ap hexOf (rest-lent w 1) ∙ sym (bytes-hex w (if4 .taken)),
+      let w = args .word .now in
+          omega (arith, hex .ensures .1, lent-short (length w - 1) 1 w),
+    )
 
 sub-quoted : tie.Need-sub-quoted
 sub-quoted c = search needs
@@ -50,16 +63,33 @@ part-quoted-end : tie.Need-part-quoted-end
 part-quoted-end c = search needs
 
 quoted-requires : tie.Need-quoted-requires
-quoted-requires c κs = let w = c .before .before .before .before .before .before .before .before .before .args .word .now in omega (arith, lent-short (length w - 1) 1 w, c .before .before .before .before .before .before .before .before .before .pre)
+quoted-requires c κs =
+    let c9 = c .before .before .before .before .before .before .before .before .before in
+    let args = c9 .args in
+    let asked = c9 .pre in
+    let w = args .word .now in omega (arith, lent-short (length w - 1) 1 w, asked)
 
 same-length-2 : tie.Need-same-length-2
 same-length-2 c = search needs
 
 returns-5 : tie.Need-returns-5
-returns-5 c = (let w = c .before .before .before .before .before .before .before .before .before .before .before .before .args .word .now in c .before .before .quoted .ensures .0 ∙ ap quotedOf (rest-lent w 1) ∙ sym (bytes-quoted w (c .before .before .before .before .before .if5 .taken)), let w = c .before .before .before .before .before .before .before .before .before .before .before .before .args .word .now in omega (arith, c .before .before .quoted .ensures .1, lent-short (length w - 1) 1 w))
+returns-5 c =
+    let c2 = c .before .before in
+    let quoted = c2 .quoted in
+    let c5 = c2 .before .before .before in
+    let if5 = c5 .if5 in
+    let args = c5 .before .before .before .before .before .before .before .args in (
+      let w = args .word .now in quoted .ensures .0 ∙ ap quotedOf (rest-lent w 1) ∙ sym (bytes-quoted w (if5 .taken)),
+      let
+          w = args .word .now in omega (arith, quoted .ensures .1, lent-short (length w - 1) 1 w),
+    )
 
 returns-6 : tie.Need-returns-6
-returns-6 c = (sym (bytes-other (c .before .before .before .before .before .before .before .args .word .now) (c .before .before .if2 .left) (c .before .if4 .left) (c .if5 .left)), omega arith)
+returns-6 c =
+    let c2 = c .before .before in
+    let if2 = c2 .if2 in
+    let args = c2 .before .before .before .before .before .args in
+    (sym (bytes-other (args .word .now) (if2 .left) (c .before .if4 .left) (c .if5 .left)), omega arith)
 
 pub bytes-of-spec : {M : Type 1} → statement M
 bytes-of-spec =

@@ -23,10 +23,20 @@ digit-requires-2 : tie.Need-digit-requires-2
 digit-requires-2 c κs = search needs
 
 mul-result : tie.Need-mul-result
-mul-result c = let a = c .before .before .before .before .before .args in let h : a .at < length (a .digits .now) = omega arith in omega (arith, digits-at 16 (a .digits .now) (c .before .before .before .before .before .pre .0) (a .at) h)
+mul-result c =
+    let c5 = c .before .before .before .before .before in
+    let args = c5 .args in
+    let asked = c5 .pre in
+    let a = args in let h : a .at < length (a .digits .now) = omega arith in omega
+    (arith, digits-at 16 (a .digits .now) (asked .0) (a .at) h)
 
 add-result : tie.Need-add-result
-add-result c = let a = c .before .before .before .before .before .args in let h : a .at < length (a .digits .now) = omega arith in omega (arith, digits-at 16 (a .digits .now) (c .before .before .before .before .before .pre .0) (a .at) h, digits-at 16 (a .digits .now) (c .before .before .before .before .before .pre .0) (a .at + 1) (c .before .before .before .before .before .pre .1))
+add-result c =
+    let c5 = c .before .before .before .before .before in
+    let args = c5 .args in
+    let asked = c5 .pre in
+    let a = args in let h : a .at < length (a .digits .now) = omega arith in omega
+    (arith, digits-at 16 (a .digits .now) (asked .0) (a .at) h, digits-at 16 (a .digits .now) (asked .0) (a .at + 1) (asked .1))
 
 returns : tie.Need-returns
 returns c = omega arith

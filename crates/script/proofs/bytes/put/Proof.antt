@@ -25,7 +25,12 @@ add-buffer : tie.Need-add-buffer Inv-loop μ-loop
 add-buffer c = search needs
 
 slice-write-buffer : tie.Need-slice-write-buffer Inv-loop μ-loop
-slice-write-buffer c = let a = c .before .before .before .args in let l = c .before .before .loop in let h : a .at + l .i ≤ length (a .buffer .now) = omega arith in let g : l .i ≤ length (a .part .now) = l .inv .0 in omega (arith, ap length (l .inv .1), length-paste (a .buffer .now) (a .at) (a .part .now) (l .i) h g)
+slice-write-buffer c =
+    let c2 = c .before .before in
+    let loop = c2 .loop in
+    let args = c2 .before .args in
+    let a = args in let l = loop in let h : a .at + l .i ≤ length (a .buffer .now) = omega arith in let g : l .i ≤ length
+    (a .part .now) = l .inv .0 in omega (arith, ap length (l .inv .1), length-paste (a .buffer .now) (a .at) (a .part .now) (l .i) h g)
 
 add-i : tie.Need-add-i Inv-loop μ-loop
 add-i c = search needs
@@ -34,10 +39,21 @@ loop-less : tie.Need-loop-less Inv-loop μ-loop
 loop-less c = search needs
 
 loop-again : tie.Need-loop-again Inv-loop μ-loop
-loop-again c = let a = c .before .before .before .args in let l = c .before .before .loop in let h : a .at + l .i < length (a .buffer .now) = omega arith in (omega arith, rw (l .inv .1, add-one (l .i)) (paste-suc (a .buffer .now) (a .at) (a .part .now) (l .i) 0 h (c .before .loop-test .taken)))
+loop-again c =
+    let c2 = c .before .before in
+    let loop = c2 .loop in
+    let args = c2 .before .args in
+    let a = args in let l = loop in let h : a .at + l .i < length (a .buffer .now) = omega arith in (
+      omega arith,
+      rw (l .inv .1, add-one (l .i)) (paste-suc (a .buffer .now) (a .at) (a .part .now) (l .i) 0 h
+          (c .before .loop-test .taken)),
+    )
 
 same-length : tie.Need-same-length Inv-loop μ-loop
-same-length c = let a = c .before .before .args in let l = c .before .loop in let h : a .at + l .i ≤ length (a .buffer .now) = omega arith in ap length (l .inv .1) ∙ length-paste (a .buffer .now) (a .at) (a .part .now) (l .i) h (l .inv .0)
+same-length c =
+    let args = c .before .before .args in
+    let a = args in let l = c .before .loop in let h : a .at + l .i ≤ length (a .buffer .now) = omega arith in ap length (l .inv .1) ∙
+    length-paste (a .buffer .now) (a .at) (a .part .now) (l .i) h (l .inv .0)
 
 returns : tie.Need-returns Inv-loop μ-loop
 returns c = let a = c .before .before .args in let l = c .before .loop in let e : l .i ≡ length (a .part .now) = omega arith in rw e at (l .inv .1)

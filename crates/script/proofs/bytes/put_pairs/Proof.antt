@@ -35,14 +35,27 @@ loop-less : tie.Need-loop-less Inv-loop μ-loop
 loop-less c = search needs
 
 loop-again : tie.Need-loop-again Inv-loop μ-loop
-loop-again c = let a = c .before .before .before .before .before .args in let l = c .before .before .loop in let h : 2 * l .n + 1 < length (a .digits .now) = omega arith in let g : l .n < length (l .buffer) = omega arith in (simp length-set (l .inv .0), (omega arith, rw (c .pair .ensures) (pairs-more (a .digits .now) (l .buffer) (l .n) h g (l .inv .1 .1))))
+loop-again c =
+    let c2 = c .before .before in
+    let loop = c2 .loop in
+    let args = c2 .before .before .before .args in
+    let a = args in let l = loop in let h : 2 * l .n + 1 < length (a .digits .now) = omega arith in let g : l .n < length
+    (l .buffer) = omega arith in (
+      simp length-set (l .inv .0),
+      (omega arith, rw (c .pair .ensures) (pairs-more (a .digits .now) (l .buffer) (l .n) h g (l .inv .1 .1))),
+    )
 
 same-length : tie.Need-same-length Inv-loop μ-loop
 same-length c = search needs
 
 returns : tie.Need-returns Inv-loop μ-loop
 returns c =
-    (let a = c .before .before .before .before .args in let l = c .before .loop in let h : length (a .digits .now) ≤ 2 * l .n = omega arith in sym (l .inv .1 .1 ∙ ap (λ (m : List ℕ). take (l .n) (l .buffer) ++ m) (pairs-end (a .digits .now) (2 * l .n) h) ∙ append-nil (take (l .n) (l .buffer))), omega arith)
+    let args = c .before .before .before .before .args in (
+      let a = args in let l = c .before .loop in let h : length (a .digits .now) ≤ 2 * l .n = omega arith in sym
+          (l .inv .1 .1 ∙ ap (λ (m : List ℕ). take (l .n) (l .buffer) ++ m) (pairs-end (a .digits .now) (2 * l .n) h) ∙ append-nil
+          (take (l .n) (l .buffer))),
+      omega arith,
+    )
 
 pub put-pairs-spec : {M : Type 1} → statement M
 put-pairs-spec =

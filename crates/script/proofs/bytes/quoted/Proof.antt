@@ -15,7 +15,11 @@ add-if1 : tie.Need-add-if1
 add-if1 c = omega (arith, c .reach .ensures, reach-le 34 (c .before .before .before .args .rest .now))
 
 returns : tie.Need-returns
-returns c = (sym (quoted-none (c .before .before .before .before .args .rest .now) (c .before .reach .result) (c .before .reach .ensures) (c .if1 .taken)), omega arith)
+returns c =
+    let c1 = c .before in
+    let reach = c1 .reach in
+    let args = c1 .before .before .before .args in
+    (sym (quoted-none (args .rest .now) (reach .result) (reach .ensures) (c .if1 .taken)), omega arith)
 
 sub-put : tie.Need-sub-put
 sub-put c = search needs
@@ -27,13 +31,30 @@ part-put-end : tie.Need-part-put-end
 part-put-end c = search needs
 
 put-requires : tie.Need-put-requires
-put-requires c κs = omega (arith, lent-short (c .before .before .before .reach .result - 0) 0 (c .before .before .before .before .before .before .args .rest .now), c .before .before .before .before .before .before .pre)
+put-requires c κs =
+    let c3 = c .before .before .before in
+    let reach = c3 .reach in
+    let c6 = c3 .before .before .before in
+    let args = c6 .args in
+    let asked = c6 .pre in
+    omega (arith, lent-short (reach .result - 0) 0 (args .rest .now), asked)
 
 same-length : tie.Need-same-length
 same-length c = search needs
 
 returns-2 : tie.Need-returns-2
-returns-2 c = (quoted-put (c .before .before .before .before .before .before .before .before .before .args .buffer .now) (c .before .before .put .last .0) (c .before .before .before .before .before .before .before .before .before .args .rest .now) (c .before .before .before .before .before .before .reach .result) (c .before .before .before .before .before .before .reach .ensures) (c .before .before .before .before .before .if1 .left) (c .before .before .put .ensures), omega (arith, c .before .before .before .before .before .if1 .left))
+returns-2 c =
+    let c2 = c .before .before in
+    let put = c2 .put in
+    let c5 = c2 .before .before .before in
+    let if1 = c5 .if1 in
+    let c6 = c5 .before in
+    let reach = c6 .reach in
+    let args = c6 .before .before .before .args in (
+      quoted-put (args .buffer .now) (put .last .0) (args .rest .now) (reach .result) (reach .ensures) (if1 .left) (put .ensures),
+      omega
+          (arith, if1 .left),
+    )
 
 pub quoted-spec : {M : Type 1} → statement M
 quoted-spec =

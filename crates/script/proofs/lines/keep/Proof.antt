@@ -27,7 +27,15 @@ same-length : tie.Need-same-length
 same-length c = search needs
 
 returns : tie.Need-returns
-returns c = let a = c .before .before .before .before .before .before .before .before .args in (kept-part (a .line .now) (c .before .before .put .last .0) (a .more .now) (a .n) (c .before .before .before .before .before .before .before .before .pre) (c .before .before .before .before .before .if1 .taken) (c .before .before .put .ensures), omega (arith, c .before .before .before .before .before .before .before .before .pre))
+returns c =
+    let c2 = c .before .before in
+    let put = c2 .put in
+    let c5 = c2 .before .before .before in
+    let if1 = c5 .if1 in
+    let c8 = c5 .before .before .before in
+    let args = c8 .args in
+    let asked = c8 .pre in
+    let a = args in (kept-part (a .line .now) (put .last .0) (a .more .now) (a .n) asked (if1 .taken) (put .ensures), omega (arith, asked))
 
 put-requires-2 : tie.Need-put-requires-2
 put-requires-2 c κs = search needs
@@ -39,7 +47,19 @@ same-length-2 : tie.Need-same-length-2
 same-length-2 c = search needs
 
 returns-2 : tie.Need-returns-2
-returns-2 c = let a = c .before .before .before .before .before .before .before .args in (kept-all (a .line .now) (c .before .before .put2 .last .0) (a .more .now) (a .n) (c .before .before .before .before .before .before .before .pre) (c .before .before .before .before .if1 .left) (c .before .before .put2 .ensures), omega (arith, c .before .before .before .before .before .before .before .pre, c .before .before .before .before .if1 .left))
+returns-2 c =
+    let c2 = c .before .before in
+    let put2 = c2 .put2 in
+    let c4 = c2 .before .before in
+    let if1 = c4 .if1 in
+    let c7 = c4 .before .before .before in
+    let args = c7 .args in
+    let asked = c7 .pre in
+    let a = args in (
+      kept-all (a .line .now) (put2 .last .0) (a .more .now) (a .n) asked (if1 .left) (put2 .ensures),
+      omega
+          (arith, asked, if1 .left),
+    )
 
 pub keep-spec : {M : Type 1} → statement M
 keep-spec =

@@ -29,13 +29,31 @@ same-length : tie.Need-same-length
 same-length c = search needs
 
 returns : tie.Need-returns
-returns c = let a = c .before .before .before .before .before .before .before .before .before .args in let r = c .before .before .before .before .before .before .reach .result in let e = c .before .before .before .before .before .before .reach .ensures in (c .before .before .before .keep .ensures .0 ∙ part-kept (a .line .now) (a .piece .now) (a .n) r e, (part-ended (a .piece .now) r e (c .if1 .taken), (c .before .before .before .keep .ensures .1, omega (arith, c .if1 .taken))))
+returns c =
+    let c3 = c .before .before .before in
+    let keep = c3 .keep in
+    let c6 = c3 .before .before .before in
+    let reach = c6 .reach in
+    let args = c6 .before .before .before .args in
+    let a = args in let r = reach .result in let e = reach .ensures in (
+      keep .ensures .0 ∙ part-kept (a .line .now) (a .piece .now) (a .n) r e,
+      (part-ended (a .piece .now) r e (c .if1 .taken), (keep .ensures .1, omega (arith, c .if1 .taken))),
+    )
 
 same-length-2 : tie.Need-same-length-2
 same-length-2 c = search needs
 
 returns-2 : tie.Need-returns-2
-returns-2 c = let a = c .before .before .before .before .before .before .before .before .before .args in let r = c .before .before .before .before .before .before .reach .result in let e = c .before .before .before .before .before .before .reach .ensures in (c .before .before .before .keep .ensures .0 ∙ part-kept (a .line .now) (a .piece .now) (a .n) r e, (part-open (a .piece .now) r e (c .if1 .left), (c .before .before .before .keep .ensures .1, omega (arith, e, reach-le 10 (a .piece .now)))))
+returns-2 c =
+    let c3 = c .before .before .before in
+    let keep = c3 .keep in
+    let c6 = c3 .before .before .before in
+    let reach = c6 .reach in
+    let args = c6 .before .before .before .args in
+    let a = args in let r = reach .result in let e = reach .ensures in (
+      keep .ensures .0 ∙ part-kept (a .line .now) (a .piece .now) (a .n) r e,
+      (part-open (a .piece .now) r e (c .if1 .left), (keep .ensures .1, omega (arith, e, reach-le 10 (a .piece .now)))),
+    )
 
 pub line-part-spec : {M : Type 1} → statement M
 line-part-spec =

@@ -23,7 +23,11 @@ same-requires-2 c κs = search needs
 
 returns-2 : tie.Need-returns-2
 unfolding layoutOf
-returns-2 c = rw (sym (c .before .before .before .before .same .ensures) ∙ c .before .before .before .if1 .left, sym (c .before .same2 .ensures) ∙ c .if2 .taken)
+returns-2 c =
+    let c3 = c .before .before .before in
+    let if1 = c3 .if1 in
+    let same = c3 .before .same in
+    rw (sym (same .ensures) ∙ if1 .left, sym (c .before .same2 .ensures) ∙ c .if2 .taken)
 
 returns-3 : tie.Need-returns-3
 unfolding layoutOf

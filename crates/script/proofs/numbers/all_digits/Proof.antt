@@ -25,7 +25,14 @@ digit-requires : tie.Need-digit-requires Inv-loop μ-loop
 digit-requires c κs = search needs
 
 returns : tie.Need-returns Inv-loop μ-loop
-returns c = let a = c .before .before .before .before .before .before .args in let l = c .before .before .before .before .loop in sym (l .inv .1 ∙ digits-miss (a .base) (a .bytes .now) (l .i) (c .before .before .before .loop-test .taken) (rw (c .before .digit .ensures) at (c .if1 .taken)))
+returns c =
+    let c3 = c .before .before .before in
+    let loop-test = c3 .loop-test in
+    let c4 = c3 .before in
+    let loop = c4 .loop in
+    let args = c4 .before .before .args in
+    let a = args in let l = loop in sym (l .inv .1 ∙ digits-miss (a .base) (a .bytes .now) (l .i) (loop-test .taken)
+    (rw (c .before .digit .ensures) at (c .if1 .taken)))
 
 add-i : tie.Need-add-i Inv-loop μ-loop
 add-i c = search needs
@@ -34,10 +41,22 @@ loop-less : tie.Need-loop-less Inv-loop μ-loop
 loop-less c = search needs
 
 loop-again : tie.Need-loop-again Inv-loop μ-loop
-loop-again c = let a = c .before .before .before .before .before .before .args in let l = c .before .before .before .before .loop in (omega arith, l .inv .1 ∙ digits-step (a .base) (a .bytes .now) (l .i) (c .before .before .before .loop-test .taken) (rw (c .before .digit .ensures) at (c .if1 .left)))
+loop-again c =
+    let c3 = c .before .before .before in
+    let loop-test = c3 .loop-test in
+    let c4 = c3 .before in
+    let loop = c4 .loop in
+    let args = c4 .before .before .args in
+    let a = args in let l = loop in (
+      omega arith,
+      l .inv .1 ∙ digits-step (a .base) (a .bytes .now) (l .i) (loop-test .taken)
+          (rw (c .before .digit .ensures) at (c .if1 .left)),
+    )
 
 returns-2 : tie.Need-returns-2 Inv-loop μ-loop
-returns-2 c = let a = c .before .before .before .args in let l = c .before .loop in sym (l .inv .1 ∙ digits-end (a .base) (a .bytes .now) (l .i) (c .loop-test .left))
+returns-2 c =
+    let args = c .before .before .before .args in
+    let a = args in let l = c .before .loop in sym (l .inv .1 ∙ digits-end (a .base) (a .bytes .now) (l .i) (c .loop-test .left))
 
 pub all-digits-spec : {M : Type 1} → statement M
 all-digits-spec =

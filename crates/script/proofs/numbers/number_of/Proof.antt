@@ -23,7 +23,11 @@ all-digits-requires : tie.Need-all-digits-requires Inv-loop μ-loop
 all-digits-requires c κs = search needs
 
 returns-2 : tie.Need-returns-2 Inv-loop μ-loop
-returns-2 c = sym (number-other (c .before .before .before .before .args .most) (c .before .before .before .before .args .word .now) (sym (c .before .all-digits .ensures) ∙ not-true (c .before .all-digits .result) (c .if2 .taken)))
+returns-2 c =
+    let c1 = c .before in
+    let all-digits = c1 .all-digits in
+    let args = c1 .before .before .before .args in
+    sym (number-other (args .most) (args .word .now) (sym (all-digits .ensures) ∙ not-true (all-digits .result) (c .if2 .taken)))
 
 loop-holds : tie.Need-loop-holds Inv-loop μ-loop
 loop-holds c = (omega arith, (omega arith, refl))
@@ -44,7 +48,18 @@ add-n : tie.Need-add-n Inv-loop μ-loop
 add-n c = search needs
 
 returns-3 : tie.Need-returns-3 Inv-loop μ-loop
-returns-3 c = let a = c .before .before .before .before .before .before .before .before .before .before .args in let l = c .before .before .before .before .before .loop in sym (value-large (a .most) (a .word .now) (l .i) (l .n) (c .before .wide .result) (c .before .before .before .before .loop-test .taken) (c .before .wide .ensures ∙ c .before .before .digit .ensures) (l .inv .1 .1) (c .if3 .taken))
+returns-3 c =
+    let c1 = c .before in
+    let wide = c1 .wide in
+    let c2 = c1 .before in
+    let digit = c2 .digit in
+    let c4 = c2 .before .before in
+    let loop-test = c4 .loop-test in
+    let c5 = c4 .before in
+    let loop = c5 .loop in
+    let args = c5 .before .before .before .before .before .args in
+    let a = args in let l = loop in sym (value-large (a .most) (a .word .now) (l .i) (l .n) (wide .result) (loop-test .taken)
+    (wide .ensures ∙ digit .ensures) (l .inv .1 .1) (c .if3 .taken))
 
 add-i : tie.Need-add-i Inv-loop μ-loop
 add-i c = search needs
@@ -53,13 +68,39 @@ loop-less : tie.Need-loop-less Inv-loop μ-loop
 loop-less c = search needs
 
 loop-again : tie.Need-loop-again Inv-loop μ-loop
-loop-again c = let a = c .before .before .before .before .before .before .before .before .before .before .args in let l = c .before .before .before .before .before .loop in (omega arith, (omega arith, value-more (a .word .now) (l .i) (l .n) (c .before .wide .result) (c .before .before .before .before .loop-test .taken) (c .before .wide .ensures ∙ c .before .before .digit .ensures) (l .inv .1 .1)))
+loop-again c =
+    let c1 = c .before in
+    let wide = c1 .wide in
+    let c2 = c1 .before in
+    let digit = c2 .digit in
+    let c4 = c2 .before .before in
+    let loop-test = c4 .loop-test in
+    let c5 = c4 .before in
+    let loop = c5 .loop in
+    let args = c5 .before .before .before .before .before .args in
+    let a = args in let l = loop in (
+      omega arith,
+      (
+        omega arith,
+        value-more (a .word .now) (l .i) (l .n) (wide .result) (loop-test .taken)
+            (wide .ensures ∙ digit .ensures) (l .inv .1 .1),
+      ),
+    )
 
 cast-t15 : tie.Need-cast-t15 Inv-loop μ-loop
 cast-t15 c = search needs
 
 returns-4 : tie.Need-returns-4 Inv-loop μ-loop
-returns-4 c = let a = c .before .before .before .before .before .before .args in let l = c .before .loop in sym (value-whole (a .most) (a .word .now) (l .i) (l .n) (c .before .before .before .before .if1 .left) (sym (c .before .before .before .all-digits .ensures) ∙ not-false (c .before .before .before .all-digits .result) (c .before .before .if2 .left)) (c .loop-test .left) (l .inv .1 .0) (l .inv .1 .1))
+returns-4 c =
+    let c2 = c .before .before in
+    let if2 = c2 .if2 in
+    let c3 = c2 .before in
+    let all-digits = c3 .all-digits in
+    let c4 = c3 .before in
+    let if1 = c4 .if1 in
+    let args = c4 .before .before .args in
+    let a = args in let l = c .before .loop in sym (value-whole (a .most) (a .word .now) (l .i) (l .n) (if1 .left)
+    (sym (all-digits .ensures) ∙ not-false (all-digits .result) (if2 .left)) (c .loop-test .left) (l .inv .1 .0) (l .inv .1 .1))
 
 pub number-of-spec : {M : Type 1} → statement M
 number-of-spec =

@@ -34,10 +34,27 @@ enum-told : tie.Need-enum-told Inv-loop μ-loop
 enum-told c = search needs
 
 returns : tie.Need-returns Inv-loop μ-loop
-returns c = let a = c .before .before .before .before .before .before .before .args in let l = c .before .before .before .before .before .loop in sym (place-fails (a .k) (l .i) (a .words .now) (l .rest .now) (l .numbers) (c .before .before .before .before .loop-test .taken) (number-said 65535 (wordOf (l .rest .now)) NoNumber (c .before .before .number-of .ensures) (c .before .before .before .word .ensures) (c .enum-told .given .1)) (l .inv .1 .1))
+returns c =
+    let c2 = c .before .before in
+    let number-of = c2 .number-of in
+    let c3 = c2 .before in
+    let word = c3 .word in
+    let c4 = c3 .before in
+    let loop-test = c4 .loop-test in
+    let c5 = c4 .before in
+    let loop = c5 .loop in
+    let args = c5 .before .before .args in
+    let a = args in let l = loop in sym (place-fails (a .k) (l .i) (a .words .now) (l .rest .now) (l .numbers) (loop-test .taken)
+    (number-said 65535 (wordOf (l .rest .now)) NoNumber (number-of .ensures) (word .ensures) (c .enum-told .given .1)) (l .inv .1 .1))
 
 cast-numbers : tie.Need-cast-numbers Inv-loop μ-loop
-cast-numbers c = omega (arith, number-most 65535 (c .before .before .before .before .word .result .now) (c .before .n .given .0 .0) (sym (c .before .before .before .number-of .ensures) ∙ c .before .n .given .1))
+cast-numbers c =
+    let c1 = c .before in
+    let n = c1 .n in
+    let c3 = c1 .before .before in
+    let number-of = c3 .number-of in
+    let word = c3 .before .word in
+    omega (arith, number-most 65535 (word .result .now) (n .given .0 .0) (sym (number-of .ensures) ∙ n .given .1))
 
 mul-numbers : tie.Need-mul-numbers Inv-loop μ-loop
 mul-numbers c = search needs
@@ -55,10 +72,36 @@ loop-less : tie.Need-loop-less Inv-loop μ-loop
 loop-less c = search needs
 
 loop-again : tie.Need-loop-again Inv-loop μ-loop
-loop-again c = let a = c .before .before .before .before .before .before .before .before .before .args in let l = c .before .before .before .before .before .before .before .loop in let g : l .i < length (l .numbers) = omega (arith, c .before .before .before .before .before .before .before .before .before .pre, l .inv .0, c .before .before .before .before .before .before .loop-test .taken) in (simp length-set (l .inv .0), (omega arith, place-more (a .k) (l .i) (c .before .before .n .given .0 .0) (a .words .now) (l .rest .now) (c .behind .result .now) (l .numbers) (c .before .before .before .before .before .before .loop-test .taken) g (number-said 65535 (wordOf (l .rest .now)) (Is (c .before .before .n .given .0 .0)) (c .before .before .before .before .number-of .ensures) (c .before .before .before .before .before .word .ensures) (c .before .before .n .given .1)) (c .behind .ensures) (l .inv .1 .1)))
+loop-again c =
+    let c2 = c .before .before in
+    let n = c2 .n in
+    let c4 = c2 .before .before in
+    let number-of = c4 .number-of in
+    let c5 = c4 .before in
+    let word = c5 .word in
+    let c6 = c5 .before in
+    let loop-test = c6 .loop-test in
+    let c7 = c6 .before in
+    let loop = c7 .loop in
+    let c9 = c7 .before .before in
+    let args = c9 .args in
+    let asked = c9 .pre in
+    let a = args in let l = loop in let g : l .i < length (l .numbers) = omega (arith, asked, l .inv .0, loop-test .taken) in (
+      simp length-set (l .inv .0),
+      (
+        omega arith,
+        place-more (a .k) (l .i) (n .given .0 .0) (a .words .now) (l .rest .now)
+            (c .behind .result .now) (l .numbers) (loop-test .taken) g
+            (number-said 65535 (wordOf (l .rest .now)) (Is (n .given .0 .0)) (number-of .ensures) (word .ensures) (n .given .1))
+            (c .behind .ensures) (l .inv .1 .1),
+      ),
+    )
 
 returns-2 : tie.Need-returns-2 Inv-loop μ-loop
-returns-2 c = let a = c .before .before .before .args in let l = c .before .loop in let e : a .k ≡ l .i = omega arith in sym (place-whole (a .k) (l .i) (a .words .now) (l .rest .now) (l .numbers) e (l .inv .1 .1))
+returns-2 c =
+    let args = c .before .before .before .args in
+    let a = args in let l = c .before .loop in let e : a .k ≡ l .i = omega arith in sym
+    (place-whole (a .k) (l .i) (a .words .now) (l .rest .now) (l .numbers) e (l .inv .1 .1))
 
 pub place-of-spec : {M : Type 1} → statement M
 place-of-spec =

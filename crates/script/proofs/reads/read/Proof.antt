@@ -31,19 +31,49 @@ plain-requires : tie.Need-plain-requires
 plain-requires c κs = search needs
 
 returns : tie.Need-returns
-returns c = (let w = c .before .before .before .before .before .before .before .args .words .now in by-plain (c .before .before .before .before .before .before .before .args .buffer .now) (c .plain .result) (c .plain .ensures) (λ p. sym (ap (λ (x : Layouts). readOn x (behind w)) (layout-said (wordOf w) Unnamed (c .before .before .before .layout-of .ensures) (c .before .before .before .before .word .ensures) (c .before .enum-told .given .1)))), by-bounded (c .plain .result) (c .plain .ensures) tt)
+returns c =
+    let c3 = c .before .before .before in
+    let layout-of = c3 .layout-of in
+    let c4 = c3 .before in
+    let word = c4 .word in
+    let args = c4 .before .before .before .args in (
+      let w = args .words .now in by-plain (args .buffer .now) (c .plain .result) (c .plain .ensures)
+          (λ p. sym (ap (λ (x : Layouts). readOn x (behind w)) (layout-said (wordOf w) Unnamed (layout-of .ensures) (word .ensures)
+          (c .before .enum-told .given .1)))),
+      by-bounded (c .plain .result) (c .plain .ensures) tt,
+    )
 
 behind-requires : tie.Need-behind-requires
 behind-requires c κs = search needs
 
 read-over-requires : tie.Need-read-over-requires
-read-over-requires c κs = (omega (arith, ap length (c .before .behind .ensures), length-behind (c .before .before .before .before .before .before .before .before .before .args .words .now), c .before .before .before .before .before .before .before .before .before .pre .0), c .before .before .before .before .before .before .before .before .before .pre .1)
+read-over-requires c κs =
+    let c9 = c .before .before .before .before .before .before .before .before .before in
+    let args = c9 .args in
+    let asked = c9 .pre in
+    (omega (arith, ap length (c .before .behind .ensures), length-behind (args .words .now), asked .0), asked .1)
 
 same-length : tie.Need-same-length
 same-length c = search needs
 
 returns-2 : tie.Need-returns-2
-returns-2 c = (let w = c .before .before .before .before .before .before .before .before .before .before .before .before .args .words .now in let l = c .before .before .before .before .before .before .layout .given .0 .0 in c .before .before .read-over .ensures .0 ∙ ap (readOver l) (c .before .before .before .before .behind .ensures) ∙ sym (ap (λ (x : Layouts). readOn x (behind w)) (layout-said (wordOf w) (Named l) (c .before .before .before .before .before .before .before .before .layout-of .ensures) (c .before .before .before .before .before .before .before .before .before .word .ensures) (c .before .before .before .before .before .before .layout .given .1))), c .before .before .read-over .ensures .1)
+returns-2 c =
+    let c2 = c .before .before in
+    let read-over = c2 .read-over in
+    let c4 = c2 .before .before in
+    let the-behind = c4 .behind in
+    let c6 = c4 .before .before in
+    let layout = c6 .layout in
+    let c8 = c6 .before .before in
+    let layout-of = c8 .layout-of in
+    let c9 = c8 .before in
+    let word = c9 .word in
+    let args = c9 .before .before .before .args in (
+      let w = args .words .now in let l = layout .given .0 .0 in read-over .ensures .0 ∙ ap (readOver l) (the-behind .ensures) ∙ sym
+          (ap (λ (x : Layouts). readOn x (behind w)) (layout-said (wordOf w) (Named l) (layout-of .ensures) (word .ensures)
+          (layout .given .1))),
+      read-over .ensures .1,
+    )
 
 pub read-spec : {M : Type 1} → statement M
 read-spec =

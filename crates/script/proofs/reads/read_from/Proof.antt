@@ -23,13 +23,30 @@ plain-requires : tie.Need-plain-requires
 plain-requires c κs = search needs
 
 returns : tie.Need-returns
-returns c = (let a = c .before .before .before .before .before .before .before .args in by-plain (a .buffer .now) (c .plain .result) (c .plain .ensures) (λ p. sym (read-no-place (a .layout) (a .count) (a .room) (c .before .before .before .before .machines .result) (a .words .now) (c .before .before .before .place-of .result) (c .before .before .before .before .machines .ensures) (c .before .before .before .place-of .ensures) (not-true (c .before .before .before .place-of .result .found) (c .before .if1 .taken)))), by-bounded (c .plain .result) (c .plain .ensures) tt)
+returns c =
+    let c3 = c .before .before .before in
+    let place-of = c3 .place-of in
+    let c4 = c3 .before in
+    let machines = c4 .machines in
+    let args = c4 .before .before .before .args in (
+      let a = args in by-plain (a .buffer .now) (c .plain .result) (c .plain .ensures)
+          (λ p. sym (read-no-place (a .layout) (a .count) (a .room) (machines .result) (a .words .now) (place-of .result) (machines .ensures)
+          (place-of .ensures) (not-true (place-of .result .found) (c .before .if1 .taken)))),
+      by-bounded (c .plain .result)
+          (c .plain .ensures) tt,
+    )
 
 skipped-requires : tie.Need-skipped-requires
 skipped-requires c κs = search needs
 
 bytes-of-requires : tie.Need-bytes-of-requires
-bytes-of-requires c κs = omega (arith, ap length (c .before .skipped .ensures), length-skipped (c .before .before .before .before .before .machines .result) (c .before .before .before .before .before .before .before .before .args .words .now), c .before .before .before .before .before .before .before .before .pre)
+bytes-of-requires c κs =
+    let c5 = c .before .before .before .before .before in
+    let machines = c5 .machines in
+    let c8 = c5 .before .before .before in
+    let args = c8 .args in
+    let asked = c8 .pre in
+    omega (arith, ap length (c .before .skipped .ensures), length-skipped (machines .result) (args .words .now), asked)
 
 enum-known-piece : tie.Need-enum-known-piece
 enum-known-piece c = search needs
@@ -44,13 +61,56 @@ same-length : tie.Need-same-length
 same-length c = search needs
 
 returns-2 : tie.Need-returns-2
-returns-2 c = (let a = c .before .before .before .before .before .before .before .before .before .before .before .before .before .before .args in let b = c .before .before .before .before .before .bytes-of .last .1 .0 in let k = c .before .before .before .before .before .before .before .before .before .before .before .machines .result in by-plain b (c .plain2 .result) (c .plain2 .ensures) (λ p. sym (read-no-bytes (a .layout) (a .count) (a .room) k (a .words .now) (c .before .before .before .before .before .before .before .before .before .before .before .machines .ensures) (bytes-said (skipped k (a .words .now)) b NoBytes (c .before .before .before .before .before .bytes-of .ensures .0) (c .before .before .before .before .before .before .before .skipped .ensures) (c .before .enum-told .given .1)))), by-bounded (c .plain2 .result) (c .plain2 .ensures) tt)
+returns-2 c =
+    let c5 = c .before .before .before .before .before in
+    let bytes-of = c5 .bytes-of in
+    let c7 = c5 .before .before in
+    let the-skipped = c7 .skipped in
+    let c11 = c7 .before .before .before .before in
+    let machines = c11 .machines in
+    let args = c11 .before .before .before .args in (
+      let a = args in let b = bytes-of .last .1 .0 in let k = machines .result in by-plain b (c .plain2 .result) (c .plain2 .ensures)
+          (λ p. sym (read-no-bytes (a .layout) (a .count) (a .room) k (a .words .now) (machines .ensures)
+          (bytes-said (skipped k (a .words .now)) b NoBytes (bytes-of .ensures .0) (the-skipped .ensures) (c .before .enum-told .given .1)))),
+      by-bounded (c .plain2 .result) (c .plain2 .ensures) tt,
+    )
 
 same-length-2 : tie.Need-same-length-2
 same-length-2 c = search needs
 
 returns-3 : tie.Need-returns-3
-returns-3 c = (let a = c .before .before .before .before .before .before .before .before .before .before .before .before .before .before .before .args in let b = c .before .before .before .before .before .before .bytes-of .last .1 .0 in let k = c .before .before .before .before .before .before .before .before .before .before .before .before .machines .result in sym (read-whole (a .layout) (a .count) (a .room) k (a .words .now) _ (c .before .before .before .before .before .before .before .before .before .before .before .place-of .result) (c .before .before .before .before .before .before .before .before .before .before .before .before .machines .ensures) (c .before .before .before .before .before .before .before .before .before .before .before .place-of .ensures) (not-false (c .before .before .before .before .before .before .before .before .before .before .before .place-of .result .found) (c .before .before .before .before .before .before .before .before .before .if1 .left)) (bytes-said (skipped k (a .words .now)) b (Are (c .before .before .piece .given .0 .0)) (c .before .before .before .before .before .before .bytes-of .ensures .0) (c .before .before .before .before .before .before .before .before .skipped .ensures) (c .before .before .piece .given .1))), (c .before .before .before .before .before .before .before .before .before .before .before .before .before .before .before .pre .2, omega (arith, rw (c .before .before .piece .given .1) at (c .before .before .before .before .before .before .bytes-of .ensures .1), ap length (c .before .before .before .before .before .before .before .before .skipped .ensures), length-skipped (c .before .before .before .before .before .before .before .before .before .before .before .before .machines .result) (c .before .before .before .before .before .before .before .before .before .before .before .before .before .before .before .args .words .now), c .before .before .before .before .before .before .before .before .before .before .before .before .before .before .before .pre .0)))
+returns-3 c =
+    let c2 = c .before .before in
+    let piece = c2 .piece in
+    let c6 = c2 .before .before .before .before in
+    let bytes-of = c6 .bytes-of in
+    let c8 = c6 .before .before in
+    let the-skipped = c8 .skipped in
+    let c9 = c8 .before in
+    let if1 = c9 .if1 in
+    let c11 = c9 .before .before in
+    let place-of = c11 .place-of in
+    let c12 = c11 .before in
+    let machines = c12 .machines in
+    let c15 = c12 .before .before .before in
+    let args = c15 .args in
+    let asked = c15 .pre in (
+      let a = args in let b = bytes-of .last .1 .0 in let k = machines .result in sym
+          (read-whole (a .layout) (a .count) (a .room) k (a .words .now) _ (place-of .result) (machines .ensures) (place-of .ensures)
+          (not-false (place-of .result .found) (if1 .left)) (bytes-said (skipped k (a .words .now)) b (Are (piece .given .0 .0))
+          (bytes-of .ensures .0) (the-skipped .ensures) (piece .given .1))),
+      (
+        asked .2,
+        omega (
+          arith,
+          rw (piece .given .1) at (bytes-of .ensures .1),
+          ap length (the-skipped .ensures),
+          length-skipped
+              (machines .result) (args .words .now),
+          asked .0,
+        ),
+      ),
+    )
 
 pub read-from-spec : {M : Type 1} → statement M
 read-from-spec =

@@ -25,7 +25,13 @@ same-length : tie.Need-same-length
 same-length c = search needs
 
 returns-2 : tie.Need-returns-2
-returns-2 c = (c .before .before .entries .ensures .0 ∙ sym (set-quoted (c .before .before .before .before .before .before .before .before .before .args .words .now) (c .before .before .before .before .if2 .taken)), c .before .before .entries .ensures .1)
+returns-2 c =
+    let c2 = c .before .before in
+    let entries = c2 .entries in
+    let c4 = c2 .before .before in
+    let if2 = c4 .if2 in
+    let args = c4 .before .before .before .before .before .args in
+    (entries .ensures .0 ∙ sym (set-quoted (args .words .now) (if2 .taken)), entries .ensures .1)
 
 bytes-of-requires : tie.Need-bytes-of-requires
 bytes-of-requires c κs = search needs
@@ -40,19 +46,62 @@ same-length-2 : tie.Need-same-length-2
 same-length-2 c = search needs
 
 returns-3 : tie.Need-returns-3
-returns-3 c = let w = c .before .before .before .before .before .before .before .before .before .before .before .args .words .now in (sym (set-plain w (c .before .before .before .before .before .before .if2 .left) ∙ ap (within 4096) (bytes-said w (c .before .before .before .before .bytes-of .last .1 .0) NoBytes (c .before .before .before .before .bytes-of .ensures .0) refl (c .enum-told .given .1))), omega arith)
+returns-3 c =
+    let c4 = c .before .before .before .before in
+    let bytes-of = c4 .bytes-of in
+    let c6 = c4 .before .before in
+    let if2 = c6 .if2 in
+    let args = c6 .before .before .before .before .before .args in
+    let w = args .words .now in (
+      sym (set-plain w (if2 .left) ∙ ap (within 4096)
+          (bytes-said w (bytes-of .last .1 .0) NoBytes (bytes-of .ensures .0) refl (c .enum-told .given .1))),
+      omega arith,
+    )
 
 same-length-3 : tie.Need-same-length-3
 same-length-3 c = search needs
 
 returns-4 : tie.Need-returns-4
-returns-4 c = let w = c .before .before .before .before .before .before .before .before .before .before .before .before .before .args .words .now in let b = c .before .before .before .before .before .before .bytes-of .last .1 .0 in let n = c .before .before .n .given .0 .0 in let s : n ≤ length w = rw (c .before .before .n .given .1) at (c .before .before .before .before .before .before .bytes-of .ensures .1) in let m : n ≤ length b = omega (arith, s, c .before .before .before .before .before .before .before .before .before .before .before .before .before .pre .0, c .before .before .before .before .before .before .bytes-of .kept .1 .0) in let h : 4096 < length (take n b) = rw (length-take-le n b m) (c .if3 .taken) in (sym (set-plain w (c .before .before .before .before .before .before .before .before .if2 .left) ∙ ap (within 4096) (bytes-said w b (Are n) (c .before .before .before .before .before .before .bytes-of .ensures .0) refl (c .before .before .n .given .1)) ∙ within-long 4096 (take n b) h), omega arith)
+returns-4 c =
+    let c2 = c .before .before in
+    let the-n = c2 .n in
+    let c6 = c2 .before .before .before .before in
+    let bytes-of = c6 .bytes-of in
+    let c8 = c6 .before .before in
+    let if2 = c8 .if2 in
+    let c13 = c8 .before .before .before .before .before in
+    let args = c13 .args in
+    let asked = c13 .pre in
+    let w = args .words .now in let b = bytes-of .last .1 .0 in let n = the-n .given .0 .0 in let s : n ≤ length w = rw (the-n .given .1) at
+    (bytes-of .ensures .1) in let m : n ≤ length b = omega (arith, s, asked .0, bytes-of .kept .1 .0) in let h : 4096 < length
+    (take n b) = rw (length-take-le n b m) (c .if3 .taken) in (
+      sym (set-plain w (if2 .left) ∙ ap (within 4096) (bytes-said w b (Are n) (bytes-of .ensures .0) refl (the-n .given .1)) ∙
+          within-long 4096 (take n b) h),
+      omega arith,
+    )
 
 same-length-4 : tie.Need-same-length-4
 same-length-4 c = search needs
 
 returns-5 : tie.Need-returns-5
-returns-5 c = let w = c .before .before .before .before .before .before .before .before .before .before .before .before .before .args .words .now in let b = c .before .before .before .before .before .before .bytes-of .last .1 .0 in let n = c .before .before .n .given .0 .0 in let s : n ≤ length w = rw (c .before .before .n .given .1) at (c .before .before .before .before .before .before .bytes-of .ensures .1) in let m : n ≤ length b = omega (arith, s, c .before .before .before .before .before .before .before .before .before .before .before .before .before .pre .0, c .before .before .before .before .before .before .bytes-of .kept .1 .0) in let h : length (take n b) ≤ 4096 = rw (length-take-le n b m) (c .if3 .left) in (sym (set-plain w (c .before .before .before .before .before .before .before .before .if2 .left) ∙ ap (within 4096) (bytes-said w b (Are n) (c .before .before .before .before .before .before .bytes-of .ensures .0) refl (c .before .before .n .given .1)) ∙ within-these 4096 (take n b) h), c .if3 .left)
+returns-5 c =
+    let c2 = c .before .before in
+    let the-n = c2 .n in
+    let c6 = c2 .before .before .before .before in
+    let bytes-of = c6 .bytes-of in
+    let c8 = c6 .before .before in
+    let if2 = c8 .if2 in
+    let c13 = c8 .before .before .before .before .before in
+    let args = c13 .args in
+    let asked = c13 .pre in
+    let w = args .words .now in let b = bytes-of .last .1 .0 in let n = the-n .given .0 .0 in let s : n ≤ length w = rw (the-n .given .1) at
+    (bytes-of .ensures .1) in let m : n ≤ length b = omega (arith, s, asked .0, bytes-of .kept .1 .0) in let h : length (take n b) ≤
+    4096 = rw (length-take-le n b m) (c .if3 .left) in (
+      sym
+          (set-plain w (if2 .left) ∙ ap (within 4096) (bytes-said w b (Are n) (bytes-of .ensures .0) refl (the-n .given .1)) ∙ within-these
+          4096 (take n b) h),
+      c .if3 .left,
+    )
 
 pub set-bytes-spec : {M : Type 1} → statement M
 set-bytes-spec =

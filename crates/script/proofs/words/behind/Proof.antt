@@ -33,7 +33,11 @@ part-result-end-2 : tie.Need-part-result-end-2
 part-result-end-2 c = search needs
 
 returns-2 : tie.Need-returns-2
-returns-2 c = behind-last (c .before .before .before .before .args .bytes .now) (c .before .before .reach .result) (c .before .before .reach .ensures) (c .before .if1 .left)
+returns-2 c =
+    let c2 = c .before .before in
+    let reach = c2 .reach in
+    let args = c2 .before .before .args in
+    behind-last (args .bytes .now) (reach .result) (reach .ensures) (c .before .if1 .left)
 
 pub behind-spec : {M : Type 1} → statement M
 behind-spec =

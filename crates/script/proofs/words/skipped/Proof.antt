@@ -26,7 +26,12 @@ loop-less : tie.Need-loop-less Inv-loop μ-loop
 loop-less c = search needs
 
 loop-again : tie.Need-loop-again Inv-loop μ-loop
-loop-again c = let a = c .before .before .before .before .args in let l = c .before .before .loop in l .inv ∙ skip-one (a .k) (l .i) (l .rest .now) (c .before .loop-test .taken) ∙ ap (skipped (a .k - (l .i + 1))) (sym (c .behind .ensures))
+loop-again c =
+    let c2 = c .before .before in
+    let loop = c2 .loop in
+    let args = c2 .before .before .args in
+    let a = args in let l = loop in l .inv ∙ skip-one (a .k) (l .i) (l .rest .now) (c .before .loop-test .taken) ∙ ap
+    (skipped (a .k - (l .i + 1))) (sym (c .behind .ensures))
 
 returns : tie.Need-returns Inv-loop μ-loop
 returns c = let a = c .before .before .before .args in let l = c .before .loop in sym (l .inv ∙ skip-none (a .k) (l .i) (l .rest .now) (c .loop-test .left))
