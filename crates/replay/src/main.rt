@@ -1,20 +1,23 @@
 // Reads a script of calls, makes each of them on one desk, and writes each answer.
 mod lines;
 
+use calling::State;
 use lines::Span;
-use session::Session;
 ghost use mathlib.Core.Path.{_≡_};
-ghost use lib.ListN.{length};
-ghost use Rattle.session.specs.Calls.{Within};
+ghost use lib.ListN.{replicate};
+ghost use Rattle.calling.specs.Calls.{Within};
 
 // What is held after a line, what is left of the input at hand, and whether there was a line.
 struct Turn {
-    session: Session,
+    state: State,
     rest: Span,
     more: bool,
 }
 
-fn new_table() -> [u16; 131841] {
+// At first all numbers are 0.
+fn new_table() -> [u16; 131841]
+    ensures { λ r. ⌜ r ≡ replicate 131841 0 ⌝ }
+{
     [0u16; 131841]
 }
 
@@ -33,7 +36,7 @@ fn new_bytes() -> [u8; 20000] {
 
 // Reads line n and makes its call; where there is none, writes the answers that wait.
 fn one_line(
-    s: Session,
+    s: State,
     n: u64,
     fd: i32,
     rest: Span,
@@ -46,22 +49,22 @@ fn one_line(
     out: &mut [u8; 65536],
 ) -> Turn
     requires { ⌜ Within s ⌝ }
-    ensures { λ r. ⌜ Within (r .session) ⌝ }
+    ensures { λ r. ⌜ Within (r .state) ⌝ }
 {
     let gathered = lines::gather(fd, input, rest, line);
     let after = gathered.rest;
     if !gathered.begun {
         writing::flush(out, s.used);
         return Turn {
-            session: s,
+            state: s,
             rest: after,
             more: false,
         };
     }
     let whole = lines::first(line, gathered.kept);
-    let next = session::answer_line(s, n, whole, bytes, set, table, list, out);
+    let next = calling::answer_line(s, n, whole, bytes, set, table, list, out);
     Turn {
-        session: next,
+        state: next,
         rest: after,
         more: true,
     }
@@ -76,7 +79,7 @@ fn run(fd: i32) -> bool {
     let mut table = new_table();
     let mut list = new_list();
     let mut out = io::large_buffer();
-    let mut s = session::new_session();
+    let mut s = calling::new_state();
     let mut rest = Span {
         from: 0,
         to: 0,
@@ -101,7 +104,7 @@ fn run(fd: i32) -> bool {
         if !t.more {
             return after.failed;
         }
-        let next = t.session;
+        let next = t.state;
         s = next;
         rest = after;
         n += 1;
@@ -109,10 +112,16 @@ fn run(fd: i32) -> bool {
     true
 }
 
+// One line on standard error: what couldn't be read, and why.
+fn fail(name: &[u8]) {
+    io::write_all(libc::STDERR_FILENO, b"replay: ");
+    os::fail(name);
+}
+
 fn main() {
     if os::arg_count() < 2 {
         if run(libc::STDIN_FILENO) {
-            os::fail(b"standard input");
+            fail(b"standard input");
         }
         return;
     }
@@ -120,11 +129,11 @@ fn main() {
     let n = os::arg(1, &mut path);
     let fd = os::open_read(&path[..n]);
     if fd < 0 {
-        os::fail(&path[..n]);
+        fail(&path[..n]);
         return;
     }
     if run(fd) {
-        os::fail(&path[..n]);
+        fail(&path[..n]);
     }
     libc::close(fd);
 }

@@ -13,7 +13,7 @@ use Rattle.script.specs.declared.Layout.{Layout}
 use Rattle.script.specs.declared.Layout.the-variants.{Split, Whole}
 use Rattle.script.specs.declared.Call.{Call}
 use Rattle.script.specs.declared.Call.the-variants as C
-use Rattle.script.specs.declared.Place.{Place}
+use Rattle.script.specs.declared.reads.Place.{Place}
 use Rattle.script.specs.declared.names.Name.{Name}
 use Rattle.script.specs.declared.names.Name.the-variants as N
 use Rattle.script.specs.declared.names.Layouts.{Layouts}
@@ -56,7 +56,7 @@ meant place bytes (C.Close serial) = callClose serial
 meant place bytes C.Take = callTake
 meant place bytes C.Show = callShow
 meant place bytes (C.Build layout) = callBuild layout
-meant place bytes (C.Read layout count room n) = callRead layout count room (take (machinesOf layout) place) (take n bytes)
+meant place bytes (C.Read r) = callRead (r .layout) (r .count) (r .room) (take (machinesOf (r .layout)) place) (take (r .piece) bytes)
 meant place bytes (C.Poke at value) = callPoke at value
 meant place bytes (C.Peek at count) = callPeek at count
 
@@ -73,7 +73,7 @@ Bounded (C.Close serial) = Unit {0}
 Bounded C.Take = Unit {0}
 Bounded C.Show = Unit {0}
 Bounded (C.Build layout) = Unit {0}
-Bounded (C.Read layout count room n) = (room ≤ 2048) × (n ≤ 20000)
+Bounded (C.Read r) = (r .room ≤ 2048) × (r .piece ≤ 20000)
 Bounded (C.Poke at value) = at < 131841
 Bounded (C.Peek at count) = at + count ≤ 131841
 

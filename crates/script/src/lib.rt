@@ -3,6 +3,7 @@ mod bytes;
 mod lines;
 mod names;
 mod numbers;
+mod reads;
 mod sets;
 mod words;
 
@@ -15,8 +16,8 @@ use names::Layouts;
 use names::Name;
 use numbers::Number;
 use numbers::number_of;
+pub use reads::machines;
 use words::behind;
-use words::skipped;
 use words::word;
 ghost use mathlib.Core.Path.{_≡_};
 ghost use mathlib.Core.Bool.{cond};
@@ -28,7 +29,7 @@ ghost use Rattle.script.specs.Words.{behind as behind·of};
 ghost use Rattle.script.specs.Numbers.{numberOf};
 ghost use Rattle.script.specs.Bytes.{bytesOf};
 ghost use Rattle.script.specs.Sets.{setOf};
-ghost use Rattle.script.specs.Calls.{Bounded, callOf, callBy, meant, setBy, lendBy, feedBy, closeBy, buildBy, pokeBy, peekBy, layoutOf, machinesOf, placeIn, placeOf, readFrom, readOver, readOn};
+ghost use Rattle.script.specs.Calls.{Bounded, callOf, callBy, meant, setBy, lendBy, feedBy, closeBy, buildBy, pokeBy, peekBy, layoutOf};
 
 pub enum Layout {
     Split,
@@ -48,14 +49,17 @@ pub enum Call {
     Take,
     Show,
     Build(Layout),
-    Read {
-        layout: Layout,
-        count: u32,
-        room: usize,
-        piece: usize,
-    },
+    Read(ReadCall),
     Poke(usize, u16),
     Peek(usize, usize),
+}
+
+// A read outside the desk: so many bytes were taken before, and its list has so many numbers.
+pub struct ReadCall {
+    pub layout: Layout,
+    pub count: u32,
+    pub room: usize,
+    pub piece: usize,
 }
 
 // A line's call, and the place of a read: 8 numbers, or 1 and zeros. Of any other call the place is all 0.
@@ -110,7 +114,7 @@ fn by_name(name: Name, whole: bool, words: &[u8], buffer: &mut [u8]) -> Line
         Name::Take => plain(alone(whole, Call::Take)),
         Name::Show => plain(alone(whole, Call::Show)),
         Name::Build => plain(build(words)),
-        Name::Read => read(words, buffer),
+        Name::Read => reads::read(words, buffer),
         Name::Poke => plain(poke(words)),
         Name::Peek => plain(peek(words)),
         Name::Other => plain(Call::NotACall),
@@ -210,98 +214,4 @@ fn peek(words: &[u8]) -> Call
         return Call::NotACall;
     }
     Call::Peek(from, shown)
-}
-
-// How many numbers a place of a layout has.
-pub fn machines(layout: Layout) -> usize
-    ensures { λ r. ⌜ r ≡ machinesOf layout ⌝ }
-{
-    match layout {
-        Layout::Split => 8,
-        Layout::Whole => 1,
-    }
-}
-
-// The numbers of a place, where all its words are numbers.
-struct Place {
-    found: bool,
-    numbers: [u16; 8],
-}
-
-fn place_of(words: &[u8], k: usize) -> Place
-    requires { ⌜ k ≤ 8 ⌝ }
-    ensures { λ r. ⌜ placeIn k r ≡ placeOf k (now (words .entry)) ⌝ }
-{
-    let mut numbers = [0u16; 8];
-    let mut rest = words;
-    let mut i: usize = 0;
-    while i < k {
-        let Number::Is(n) = number_of(word(rest), 65535) else {
-            return Place {
-                found: false,
-                numbers,
-            };
-        };
-        numbers[i] = n as u16;
-        let next = behind(rest);
-        rest = next;
-        i += 1;
-    }
-    Place {
-        found: true,
-        numbers,
-    }
-}
-
-fn read(words: &[u8], buffer: &mut [u8]) -> Line
-    requires { ⌜ (length (now words) ≤ 20000) × (20000 ≤ length (now buffer)) ⌝ }
-    ensures { λ r. ⌜ meant (r .place) (now (buffer .exit)) (r .call) ≡ readOn (layoutOf (wordOf (now (words .entry)))) (behind·of (now (words .entry))) ⌝ }
-    ensures { λ r. ⌜ Bounded (r .call) ⌝ }
-{
-    let Layouts::Named(layout) = names::layout_of(word(words)) else {
-        return plain(Call::NotACall);
-    };
-    read_over(layout, behind(words), buffer)
-}
-
-// COUNT ROOM PLACE... BYTES
-fn read_over(layout: Layout, words: &[u8], buffer: &mut [u8]) -> Line
-    requires { ⌜ (length (now words) ≤ 20000) × (20000 ≤ length (now buffer)) ⌝ }
-    ensures { λ r. ⌜ meant (r .place) (now (buffer .exit)) (r .call) ≡ readOver layout (now (words .entry)) ⌝ }
-    ensures { λ r. ⌜ Bounded (r .call) ⌝ }
-{
-    let Number::Is(count) = number_of(word(words), LARGEST) else {
-        return plain(Call::NotACall);
-    };
-    let Number::Is(room) = number_of(word(behind(words)), 2048) else {
-        return plain(Call::NotACall);
-    };
-    read_from(layout, count, room, skipped(words, 2), buffer)
-}
-
-// PLACE... BYTES
-fn read_from(layout: Layout, count: u32, room: u32, words: &[u8], buffer: &mut [u8]) -> Line
-    requires { ⌜ (length (now words) ≤ 20000) × (20000 ≤ length (now buffer)) × (room ≤ 2048) ⌝ }
-    ensures { λ r. ⌜ meant (r .place) (now (buffer .exit)) (r .call) ≡ readFrom layout count room (now (words .entry)) ⌝ }
-    ensures { λ r. ⌜ Bounded (r .call) ⌝ }
-{
-    let k = machines(layout);
-    let place = place_of(words, k);
-    if !place.found {
-        return plain(Call::NotACall);
-    }
-    let Bytes::Are(piece) = bytes_of(skipped(words, k), buffer) else {
-        return plain(Call::NotACall);
-    };
-    let numbers = place.numbers;
-    let call = Call::Read {
-        layout,
-        count,
-        room: room as usize,
-        piece,
-    };
-    Line {
-        call,
-        place: numbers,
-    }
 }

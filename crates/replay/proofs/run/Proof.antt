@@ -3,7 +3,7 @@ use Rattle.replay.proofs.run.Statement.{statement}
 use Rattle.replay.proofs.run.Tie as tie
 use borrow.Author.Needs.{needs}
 use Prim.Native.Nat.{_-_}
-use Rattle.session.specs.Calls.{Within}
+use Rattle.calling.specs.Calls.{Within}
 
 abbrev Inv-loop : tie.InvT-loop
 Inv-loop fd input₀ line₀ bytes₀ set₀ table₀ list₀ out₀ s₀ rest₀ n₀ input line bytes set table list out s rest n = Within s
@@ -32,8 +32,8 @@ new-list-requires c κs = search needs
 large-buffer-requires-2 : tie.Need-large-buffer-requires-2 Inv-loop μ-loop
 large-buffer-requires-2 c κs = search needs
 
-new-session-requires : tie.Need-new-session-requires Inv-loop μ-loop
-new-session-requires c κs = search needs
+new-state-requires : tie.Need-new-state-requires Inv-loop μ-loop
+new-state-requires c κs = search needs
 
 loop-holds : tie.Need-loop-holds Inv-loop μ-loop
 loop-holds c = search needs
@@ -69,7 +69,7 @@ run-spec =
     new-table-requires
     new-list-requires
     large-buffer-requires-2
-    new-session-requires
+    new-state-requires
     loop-holds
     one-line-requires
     returns

@@ -18,7 +18,7 @@ use Rattle.script.specs.declared.Call.the-variants.{NotACall}
 use Rattle.script.specs.declared.Layout.{Layout}
 use Rattle.script.specs.declared.Layout.the-variants.{Split, Whole}
 use Rattle.script.specs.declared.Line.{Line}
-use Rattle.script.specs.declared.Place.{Place}
+use Rattle.script.specs.declared.reads.Place.{Place}
 use Rattle.script.specs.declared.names.Layouts.{Layouts}
 use Rattle.script.specs.declared.names.Name.{Name}
 use Rattle.script.specs.declared.numbers.Number.{Number}

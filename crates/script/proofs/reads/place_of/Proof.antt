@@ -1,0 +1,82 @@
+-- `script::reads::place_of` meets its contract. The invariant: the first i numbers are read, and the words behind them are left.
+use Rattle.script.proofs.reads.place_of.Statement.{statement}
+use Rattle.script.proofs.reads.place_of.Tie as tie
+use borrow.Author.Needs.{needs}
+use native.Mathlib.Omega.{arith}
+use Prim.Native.Nat.{_+_, _-_, _≤_, _<_}
+use mathlib.Core.Path.{_≡_, refl, sym, _∙_}
+use lib.ListN.{length, take, length-set}
+use Rattle.script.specs.declared.numbers.Number.the-variants.{Is, NoNumber}
+use Rattle.script.specs.Words.{wordOf, behind}
+use Rattle.script.specs.Calls.{placeOf}
+use Rattle.script.specs.Laws.Numbers.{number-most, number-said}
+use Rattle.script.specs.Laws.Calls.{before, place-start, place-more, place-fails, place-whole}
+
+abbrev Inv-loop : tie.InvT-loop
+Inv-loop words k numbers₀ rest₀ i₀ numbers rest i = (length numbers ≡ 8) × ((i ≤ k) × (placeOf k words ≡ before (take i numbers) (placeOf (k - i) rest)))
+
+abbrev μ-loop : tie.MeasureT-loop
+μ-loop words k numbers₀ rest₀ i₀ numbers rest i = k - i
+
+loop-holds : tie.Need-loop-holds Inv-loop μ-loop
+loop-holds c = (refl, (omega arith, place-start (c .before .args .k) (c .before .args .words .now)))
+
+word-requires : tie.Need-word-requires Inv-loop μ-loop
+word-requires c κs = search needs
+
+number-of-requires : tie.Need-number-of-requires Inv-loop μ-loop
+number-of-requires c κs = search needs
+
+enum-known-n : tie.Need-enum-known-n Inv-loop μ-loop
+enum-known-n c = search needs
+
+enum-told : tie.Need-enum-told Inv-loop μ-loop
+enum-told c = search needs
+
+returns : tie.Need-returns Inv-loop μ-loop
+returns c = let a = c .before .before .before .before .before .before .before .args in let l = c .before .before .before .before .before .loop in sym (place-fails (a .k) (l .i) (a .words .now) (l .rest .now) (l .numbers) (c .before .before .before .before .loop-test .taken) (number-said 65535 (wordOf (l .rest .now)) NoNumber (c .before .before .number-of .ensures) (c .before .before .before .word .ensures) (c .enum-told .given .1)) (l .inv .1 .1))
+
+cast-numbers : tie.Need-cast-numbers Inv-loop μ-loop
+cast-numbers c = omega (arith, number-most 65535 (c .before .before .before .before .word .result .now) (c .before .n .given .0 .0) (sym (c .before .before .before .number-of .ensures) ∙ c .before .n .given .1))
+
+mul-numbers : tie.Need-mul-numbers Inv-loop μ-loop
+mul-numbers c = search needs
+
+array-write-numbers : tie.Need-array-write-numbers Inv-loop μ-loop
+array-write-numbers c = search needs
+
+behind-requires : tie.Need-behind-requires Inv-loop μ-loop
+behind-requires c κs = search needs
+
+add-i : tie.Need-add-i Inv-loop μ-loop
+add-i c = search needs
+
+loop-less : tie.Need-loop-less Inv-loop μ-loop
+loop-less c = search needs
+
+loop-again : tie.Need-loop-again Inv-loop μ-loop
+loop-again c = let a = c .before .before .before .before .before .before .before .before .before .args in let l = c .before .before .before .before .before .before .before .loop in let g : l .i < length (l .numbers) = omega (arith, c .before .before .before .before .before .before .before .before .before .pre, l .inv .0, c .before .before .before .before .before .before .loop-test .taken) in (simp length-set (l .inv .0), (omega arith, place-more (a .k) (l .i) (c .before .before .n .given .0 .0) (a .words .now) (l .rest .now) (c .behind .result .now) (l .numbers) (c .before .before .before .before .before .before .loop-test .taken) g (number-said 65535 (wordOf (l .rest .now)) (Is (c .before .before .n .given .0 .0)) (c .before .before .before .before .number-of .ensures) (c .before .before .before .before .before .word .ensures) (c .before .before .n .given .1)) (c .behind .ensures) (l .inv .1 .1)))
+
+returns-2 : tie.Need-returns-2 Inv-loop μ-loop
+returns-2 c = let a = c .before .before .before .args in let l = c .before .loop in let e : a .k ≡ l .i = omega arith in sym (place-whole (a .k) (l .i) (a .words .now) (l .rest .now) (l .numbers) e (l .inv .1 .1))
+
+pub place-of-spec : {M : Type 1} → statement M
+place-of-spec =
+    tie.close
+    (tie.spec
+    Inv-loop
+    μ-loop
+    loop-holds
+    word-requires
+    number-of-requires
+    enum-known-n
+    enum-told
+    returns
+    cast-numbers
+    mul-numbers
+    array-write-numbers
+    behind-requires
+    add-i
+    loop-less
+    loop-again
+    returns-2)
