@@ -1,5 +1,5 @@
 // The desk timed call by call, as a caller has it: the desk goes in by value, and what comes back is kept.
-use crate::gateway::{self, Desk};
+use crate::gateway::{self, Image};
 use crate::inputs::{self, Kind};
 use crate::ours::{set_of, slots_of};
 use crate::timing::best_of;
@@ -22,7 +22,7 @@ pub struct Call {
 }
 
 struct Office {
-    desk: Desk,
+    desk: Image,
     set: Vec<u8>,
     table: Vec<u16>,
     quiet: Vec<u8>,
@@ -35,7 +35,7 @@ impl Office {
         let case = inputs::case(Kind::Many, 16, 1 << 16);
         let set = set_of(&case.tags);
         let mut table = vec![0; slots_of(&set).0 * 24];
-        let mut desk = Desk::new();
+        let mut desk = Image::new();
         assert_eq!(
             desk.replace(&set, &mut table).refusal,
             0,
@@ -169,13 +169,13 @@ fn reading_outside() -> Call {
     let nanos = best_of(|| {
         let read = gateway::read_split(
             &office.table,
-            &[0; 8],
+            &mut [0; 8],
             0,
             black_box(&office.quiet),
             &mut list,
         );
         assert_eq!(
-            (read.answer.refusal, read.answer.a),
+            (read.refusal, read.a),
             (0, 4096),
             "all is taken"
         );
@@ -210,19 +210,19 @@ fn taking() -> Vec<Call> {
     ]
 }
 
-fn take_many(desk: &mut Desk, n: usize) {
+fn take_many(desk: &mut Image, n: usize) {
     let mut list = [0; 4 * RECORDS];
     for _ in 0..RECORDS / n {
         assert_eq!(
             desk.take_many(black_box(&mut list[..4 * n])),
-            n,
+            n as u64,
             "so many records are held"
         );
     }
 }
 
 /// Nanoseconds a record, for a way to take all that a full list holds.
-fn taking_by(mut take_all: impl FnMut(&mut Desk)) -> f64 {
+fn taking_by(mut take_all: impl FnMut(&mut Image)) -> f64 {
     let mut office = Office::new();
     best_part(RECORDS, || {
         office.fill_the_list();

@@ -11,6 +11,8 @@ mod engine;
 mod engines;
 mod english;
 mod figures;
+// The archive's functions over slices, as the Rust crate has them.
+#[path = "../../rust/src/raw.rs"]
 mod gateway;
 mod goals;
 #[cfg(hyperscan)]

@@ -1,6 +1,6 @@
 // Our engines, as the gateway archive gives them: one-bit and whole-byte outside the desk, and the desk.
 use crate::engine::{Engine, Out};
-use crate::gateway::{self, Desk};
+use crate::gateway::{self, Answer, Image};
 
 const FULL: u64 = 1;
 const RECORDS_OF_A_DESK: usize = 256;
@@ -54,29 +54,36 @@ impl OneBit {
     }
 }
 
+/// Reads a piece to its end; the list is emptied whenever the reading stops.
+fn read_on(
+    input: &[u8],
+    from: usize,
+    to: usize,
+    out: &mut Out,
+    mut read: impl FnMut(u32, &[u8], &mut [u32]) -> Answer,
+) {
+    let mut at = from;
+    while at < to {
+        let answer = read(at as u32, &input[at..to], &mut out.list);
+        assert_eq!(
+            answer.refusal, 0,
+            "reading from a place of the table is not refused"
+        );
+        at += answer.a as usize;
+        out.take(answer.c as usize);
+    }
+}
+
 impl Engine for OneBit {
     fn begin(&mut self) {
         self.place = [0; 8];
     }
 
     fn piece(&mut self, input: &[u8], from: usize, to: usize, out: &mut Out) {
-        let mut at = from;
-        while at < to {
-            let reply = gateway::read_split(
-                &self.table,
-                &self.place,
-                at as u32,
-                &input[at..to],
-                &mut out.list,
-            );
-            assert_eq!(
-                reply.answer.refusal, 0,
-                "reading from a place of the table is not refused"
-            );
-            self.place = reply.place;
-            at += reply.answer.a as usize;
-            out.take(reply.answer.c as usize);
-        }
+        let (table, place) = (&self.table, &mut self.place);
+        read_on(input, from, to, out, |count, piece, list| {
+            gateway::read_split(table, place, count, piece, list)
+        });
     }
 }
 
@@ -100,30 +107,17 @@ impl Engine for WholeByte {
     }
 
     fn piece(&mut self, input: &[u8], from: usize, to: usize, out: &mut Out) {
-        let mut at = from;
-        while at < to {
-            let reply = gateway::read_whole(
-                &self.table,
-                self.place,
-                at as u32,
-                &input[at..to],
-                &mut out.list,
-            );
-            assert_eq!(
-                reply.answer.refusal, 0,
-                "reading from a place of the table is not refused"
-            );
-            self.place = reply.place;
-            at += reply.answer.a as usize;
-            out.take(reply.answer.c as usize);
-        }
+        let (table, place) = (&self.table, &mut self.place);
+        read_on(input, from, to, out, |count, piece, list| {
+            gateway::read_whole(table, place, count, piece, list)
+        });
     }
 }
 
 /// A ticket that is fed, and all records taken after each feed.
 pub struct AtTheDesk {
     table: Vec<u16>,
-    desk: Desk,
+    desk: Image,
     serial: u32,
     taken: Vec<u32>,
 }
@@ -132,7 +126,7 @@ impl AtTheDesk {
     pub fn new(tags: &[Vec<u8>]) -> AtTheDesk {
         let set = set_of(tags);
         let mut table = vec![0; slots_of(&set).0 * 24];
-        let mut desk = Desk::new();
+        let mut desk = Image::new();
         assert_eq!(
             desk.replace(&set, &mut table).refusal,
             0,
@@ -147,7 +141,7 @@ impl AtTheDesk {
     }
 
     fn hand_over(&mut self, out: &mut Out) {
-        let n = self.desk.take_many(&mut self.taken);
+        let n = self.desk.take_many(&mut self.taken) as usize;
         for record in self.taken[..4 * n].chunks_exact(4) {
             assert_eq!(record[0], self.serial, "only one ticket was fed");
             out.push(record[2], record[3]);
