@@ -35,9 +35,11 @@ impl Engine for PlainOneBit {
 
     fn piece(&mut self, input: &[u8], from: usize, to: usize, out: &mut Out) {
         let s = self.table.len() / 24;
-        for (end, c) in (from + 1..).zip(&input[from..to]) {
-            let hits = self.step(s, *c);
-            push_all(hits, end, out);
+        for i in from..to {
+            let hits = self.step(s, input[i]);
+            if hits != 0 {
+                push_all(hits, i + 1, out);
+            }
         }
         out.empty();
     }
@@ -64,16 +66,20 @@ impl Engine for PlainWholeByte {
 
     fn piece(&mut self, input: &[u8], from: usize, to: usize, out: &mut Out) {
         let s = self.table.len() / 257;
-        for (end, c) in (from + 1..).zip(&input[from..to]) {
-            self.state = usize::from(self.table[self.state * 257 + usize::from(*c)]);
+        for i in from..to {
+            self.state = usize::from(self.table[self.state * 257 + usize::from(input[i])]);
             assert!(self.state < s, "the table was built");
-            push_all(self.table[self.state * 257 + 256], end, out);
+            let hits = self.table[self.state * 257 + 256];
+            if hits != 0 {
+                push_all(hits, i + 1, out);
+            }
         }
         out.empty();
     }
 }
 
-/// A record for each bit of hits, the lowest first.
+/// A record for each bit of hits, the lowest first. Out of line, which makes the loops that call it a third shorter.
+#[inline(never)]
 fn push_all(hits: u16, end: usize, out: &mut Out) {
     let mut rest = hits;
     while rest != 0 {
