@@ -17,9 +17,10 @@ use Rattle.history.specs.Laws.Rows.{AlikeRows, alike-rows, done-demanded
 use Rattle.history.specs.Readings.{AsBuilt, DemandedRead, Row, Turn, TurnsOfBytes, inTurn, isLong, isRead, startPlace}
 use Rattle.matching.specs.Laws.Built.{enough-iff, placeAfter-start}
 use Rattle.matching.specs.Laws.Expected.{Done, expected-advances, expected-done}
-use Rattle.matching.specs.Laws.Occurrences.{occurrencesFrom-has, occurrencesFrom-only}
+use Rattle.matching.specs.Laws.Occurrences.{occurrencesBy-has, occurrencesBy-only}
 use Rattle.matching.specs.Machine.{states}
-use Rattle.matching.specs.Occurrence.{Occurrence, occurrences, occurrencesFrom}
+use Rattle.matching.specs.Laws.Matches.{tagsEnding-has}
+use Rattle.matching.specs.Occurrence.{Occurrence, occurrences, occurrencesFrom, tagsEnding}
 use Rattle.matching.specs.Reading.{Outcome, expected, placeAfter}
 use Rattle.matching.specs.Slicing.{Slicing}
 use Rattle.matching.specs.Table.{Room, enoughSlots, roomFrom, shortOfSlots, slotsIn, tagsFor}
@@ -47,9 +48,10 @@ found-in ts v piece m h e i = (there, back)
     there : List·Memᴰ (record { end = e; tag = i }) (occurrencesFrom ts v (length v) (take m piece))
         → (length v < e) × (e ≤ length v + m) × (i < length ts) × (ends (getD ts i []) (take e (v ++ piece)) ≡ true)
     there x =
-        let r = occurrencesFrom-only ts v (length v) (take m piece) (record { end = e; tag = i }) x in
+        let r = occurrencesBy-only (tagsEnding ts) (take m piece) v (length v) (record { end = e; tag = i }) x in
         let l : r .0 < m = omega (arith, r .1 .inside, size) in
-        (omega (arith, r .1 .counted), omega (arith, r .1 .counted, l), r .1 .tagged, subst (λ (u : Word). ends (getD ts i []) u ≡ true) (first (r .0) (r .1 .counted) l) (r .1 .ending))
+        let t = tagsEnding-has ts (v ++ take (suc (r .0)) (take m piece)) i .0 (r .1 .there) in
+        (omega (arith, r .1 .counted), omega (arith, r .1 .counted, l), t .0, subst (λ (u : Word). ends (getD ts i []) u ≡ true) (first (r .0) (r .1 .counted) l) (t .1))
 
     back : (length v < e) × (e ≤ length v + m) × (i < length ts) × (ends (getD ts i []) (take e (v ++ piece)) ≡ true)
         → List·Memᴰ (record { end = e; tag = i }) (occurrencesFrom ts v (length v) (take m piece))
@@ -57,8 +59,9 @@ found-in ts v piece m h e i = (there, back)
         let j = e - suc (length v) in
         let q : e ≡ suc (length v + j) = omega (arith, z .0) in
         let l : j < m = omega (arith, z .0, z .1) in
-        occurrencesFrom-has ts v (length v) (take m piece) (record { end = e; tag = i }) j
-        (record { inside = omega (arith, l, size); counted = q; tagged = z .2; ending = subst (λ (u : Word). ends (getD ts i []) u ≡ true) (sym (first j q l)) (z .3) })
+        let t = subst (λ (u : Word). ends (getD ts i []) u ≡ true) (sym (first j q l)) (z .3) in
+        occurrencesBy-has (tagsEnding ts) (take m piece) v (length v) (record { end = e; tag = i }) j
+        (record { inside = omega (arith, l, size); counted = q; there = tagsEnding-has ts (v ++ take (suc j) (take m piece)) i .1 (z .2, t) })
 
 module _ (n k : ℕ) (set run : List ℕ) (ts : List Word) (b : AsBuilt n k set run ts) where
   abbrev table : List ℕ

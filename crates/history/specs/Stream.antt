@@ -34,8 +34,8 @@ use Rattle.history.specs.Laws.LedgerSteps.{sound}
 use Rattle.history.specs.Laws.Seats.{room-for}
 use Rattle.history.specs.Laws.Steps.{inv-step}
 use Rattle.history.specs.Laws.Taking.{stream-takes}
-use Rattle.matching.specs.Laws.Occurrences.{occurrencesFrom-append}
-use Rattle.matching.specs.Occurrence.{occurrences, occurrencesFrom}
+use Rattle.matching.specs.Laws.Occurrences.{occurrencesBy-append}
+use Rattle.matching.specs.Occurrence.{occurrences, occurrencesBy, occurrencesFrom, tagsEnding}
 use Rattle.matching.specs.Words.{Below, Word}
 
 -- what a call adds to the stream: records of its serial, if it is a feed, and else none
@@ -156,13 +156,13 @@ even-feeds w v s piece b e = go _ (feeds (w .desk) s (w .table) piece)
         (ap {B = ℕ} length (stream-fed w v s (g .0) (g .1) (g .2) piece b h q m)
         ∙ length-append (stream w) (recordsOf (t .serial) (t .edition) (x .found))
         ∙ ap (λ (n : ℕ). length (stream w) + n) (recordsOf-length (t .serial) (t .edition) (x .found)))
-        (ap {B = ℕ} length (occurrencesFrom-append (a .tags) [] 0 (a .bytes) more)
+        (ap {B = ℕ} length (occurrencesBy-append (tagsEnding (a .tags)) [] 0 (a .bytes) more)
         ∙ length-append (occurrences (a .tags) (a .bytes)) (occurrencesFrom (a .tags) (a .bytes) (0 + length (a .bytes)) more)
         ∙ ap (λ (n : ℕ). length (occurrences (a .tags) (a .bytes)) + n)
         (ap {B = ℕ} (λ (n : ℕ). length (occurrencesFrom (a .tags) (a .bytes) n more)) (zero-add (length (a .bytes))) ∙ ap {B = ℕ} length (sym (d .found)))) e
 
 even-step : (w : World) → Inv w → (a : Act) → OfBytes a → Even w → Even (step w a)
-unfolding occurrencesIn occurrencesFrom
+unfolding occurrencesIn occurrencesBy
 even-step w v (actReplace set run) b e = go _ (replaces (w .desk) set (length run))
   where
     go : (r : Replacing) → Replaces (w .desk) set (length run) r → Even (replacing w set run (r .desk) (r .answer))

@@ -7,7 +7,11 @@ pub mod Prefixes
 pub mod Slices
 pub mod Vectors
 pub mod Bits
+pub mod Matches
+pub mod Stepping
 pub mod Occurrences
+pub mod Tags
+pub mod Inputs
 pub mod Tables
 pub mod Slots
 pub mod Readings

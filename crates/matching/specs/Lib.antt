@@ -5,5 +5,7 @@ pub mod Machine
 pub mod Slicing
 pub mod Table
 pub mod Occurrence
+pub mod Tags
+pub mod Stepping
 pub mod Reading
 pub mod Laws

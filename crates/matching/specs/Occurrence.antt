@@ -12,7 +12,7 @@ pub record Occurrence : Type 0 where
   pub tag : ℕ
 
 -- the numbers, counted from i, of the tags of which g holds
-unfoldable pub numbersWhere : (Word → Bool) → ℕ → List Word → List ℕ
+unfoldable pub numbersWhere : {A : Type 0} → (A → Bool) → ℕ → List A → List ℕ
 numbersWhere g i [] = []
 numbersWhere g i (t ∷ ts) = elim (g t) [ true ↦ i ∷ numbersWhere g (suc i) ts | false ↦ numbersWhere g (suc i) ts ]
 
@@ -24,10 +24,14 @@ tagsEnding ts w = numbersWhere (λ t. ends t w) 0 ts
 unfoldable pub occurAt : ℕ → List ℕ → List Occurrence
 occurAt e tags = map (λ i. record { end = e; tag = i }) tags
 
--- the occurrences whose last byte is in w, where v is the input before w and count is what was counted before w
-unfoldable pub occurrencesFrom : List Word → Word → ℕ → Word → List Occurrence
-occurrencesFrom ts v count [] = []
-occurrencesFrom ts v count (c ∷ w) = occurAt (suc count) (tagsEnding ts (v ++ c ∷ [])) ++ occurrencesFrom ts (v ++ c ∷ []) (suc count) w
+-- what f finds at each byte of w, where v is the input before w and count is what was counted before w
+unfoldable pub occurrencesBy : (Word → List ℕ) → Word → ℕ → Word → List Occurrence
+occurrencesBy f v count [] = []
+occurrencesBy f v count (c ∷ w) = occurAt (suc count) (f (v ++ c ∷ [])) ++ occurrencesBy f (v ++ c ∷ []) (suc count) w
+
+-- the occurrences of the tags whose last byte is in w
+abbrev pub occurrencesFrom : List Word → Word → ℕ → Word → List Occurrence
+occurrencesFrom ts v count w = occurrencesBy (tagsEnding ts) v count w
 
 -- the occurrences of the tags in a whole input: by end, then by tag number
 abbrev pub occurrences : List Word → Word → List Occurrence

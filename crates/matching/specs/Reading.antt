@@ -1,16 +1,20 @@
 -- The reading of a piece, over ANY run of numbers, as its numbers say (document 01, 'Reading a piece').
-use Prim.Native.Nat.{ℕ, zero, suc, _+_, _-_, _/_, _%_, _^_}
+use Prim.Native.Nat.{ℕ, zero, suc, _+_, _/_, _%_, _^_}
 use mathlib.Core.Bool.{Bool, true, false, _&&_}
-use mathlib.Core.List.{List, [], _∷_, _++_, map}
-use lib.Dec.{eqb, leb, ltb}
-use lib.ListN.{length, getD}
-use Rattle.matching.specs.declared.Stop.{Stop}
-use Rattle.matching.specs.declared.Stop.the-variants.{All, Full, Damaged}
+use mathlib.Core.List.{List, [], _∷_, map}
+use lib.Dec.{eqb, ltb}
+use lib.ListN.{getD}
 use Rattle.matching.specs.Words.{Word}
 use Rattle.matching.specs.Machine.{prefixes, walk}
 use Rattle.matching.specs.Slicing.{slice, anded}
 use Rattle.matching.specs.Table.{spot, tagsFor}
-use Rattle.matching.specs.Occurrence.{Occurrence, tagsEnding, occurAt}
+use Rattle.matching.specs.Occurrence.{tagsEnding}
+use Rattle.matching.specs.Stepping.{OutcomeOf, Step, goesTo, inputStep, isDamaged, onPlace, readBy}
+unfoldable pub use Rattle.matching.specs.Stepping.{halted, tookByte}
+
+-- a reading's place: a state for each machine
+abbrev pub Outcome : Type 0
+Outcome = OutcomeOf (List ℕ)
 
 -- the next numbers that byte c has in a table of s slots a machine, for machines m, m + 1, .. in the given states
 unfoldable pub nexts : ℕ → ℕ → List ℕ → ℕ → List ℕ → ℕ → List ℕ
@@ -36,34 +40,17 @@ unfoldable pub allBelow : ℕ → List ℕ → Bool
 allBelow s [] = true
 allBelow s (q ∷ qs) = ltb q s && allBelow s qs
 
--- what a reading comes to: the number of bytes taken, the place then, why it stopped, and the records, in order
-pub record Outcome : Type 0 where
-  pub taken : ℕ
-  pub place : List ℕ
-  pub stop : Stop
-  pub found : List Occurrence
-
-unfoldable pub halted : List ℕ → Stop → Outcome
-halted place why = record { taken = 0; place = place; stop = why; found = [] }
-
--- one byte taken, with its matches, before what the rest comes to
-unfoldable pub tookByte : ℕ → List ℕ → Outcome → Outcome
-tookByte e tags r = record { taken = suc (r .taken); place = r .place; stop = r .stop; found = occurAt e tags ++ r .found }
+-- a table's step: damage if a next number isn't below s; else the next states, and the tags that all machines flag there
+unfoldable pub tableStep : ℕ → ℕ → List ℕ → Step (List ℕ)
+tableStep n s table place c = elim (allBelow s (nexts n s table 0 place c)) [
+  | true ↦ goesTo (nexts n s table 0 place c) (flagged n s table (nexts n s table 0 place c))
+  | false ↦ isDamaged
+]
 
 -- a piece read from a place, with count bytes taken before, and room for so many records.
 -- Before each byte: DAMAGED if a next number isn't below s; else FULL if its matches don't all fit; else it is taken.
 unfoldable pub read : ℕ → ℕ → List ℕ → List ℕ → ℕ → ℕ → Word → Outcome
-read n s table place count room [] = halted place All
-read n s table place count room (c ∷ w) =
-    let to = nexts n s table 0 place c in
-    let tags = flagged n s table to in
-    elim (allBelow s to) [
-      | false ↦ halted place Damaged
-      | true ↦ elim (leb (length tags) room) [
-        | false ↦ halted place Full
-        | true ↦ tookByte (suc count) tags (read n s table to (suc count) (room - length tags) w)
-      ]
-    ]
+read n s table place count room w = readBy (tableStep n s table) place count room w
 
 -- the states of machines m, .., m + k - 1 of the tags after the input v: at the opening, all 0
 unfoldable pub placeAfter : ℕ → List Word → ℕ → ℕ → Word → List ℕ
@@ -73,10 +60,4 @@ placeAfter n ts m (suc k) v = walk (prefixes (tagsFor n ts m)) 0 (map (slice n m
 -- what a reading of w is to come to, where the tags are ts and v is the input before w: each byte is taken up to the
 -- first whose matches find no room, and its matches are the tags that end there
 unfoldable pub expected : ℕ → ℕ → List Word → Word → ℕ → ℕ → Word → Outcome
-expected n k ts v count room [] = halted (placeAfter n ts 0 k v) All
-expected n k ts v count room (c ∷ w) =
-    let tags = tagsEnding ts (v ++ c ∷ []) in
-    elim (leb (length tags) room) [
-      | false ↦ halted (placeAfter n ts 0 k v) Full
-      | true ↦ tookByte (suc count) tags (expected n k ts (v ++ c ∷ []) (suc count) (room - length tags) w)
-    ]
+expected n k ts v count room w = onPlace (placeAfter n ts 0 k) (readBy (inputStep (tagsEnding ts)) v count room w)

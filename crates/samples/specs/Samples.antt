@@ -15,9 +15,10 @@ use Rattle.desk.specs.Rooms.{editionOf, firstRoom, roomOf, serialOf}
 use Rattle.desk.specs.Shared.{pushAll, round}
 use Rattle.history.specs.History.{actFeed, actOpen, onSerial, run, start, stream}
 use Rattle.matching.specs.Machine.{longest, next, prefixes, states, vector, vectorBy, walk, withPrefixes, withTags, withWord}
-use Rattle.matching.specs.Occurrence.{numbersWhere, occurAt, occurrences, occurrencesFrom, tagsEnding}
-use Rattle.matching.specs.Reading.{allBelow, flagged, halted, nexts, onesOf, read, tookByte, vectorsAt}
+use Rattle.matching.specs.Occurrence.{numbersWhere, occurAt, occurrences, occurrencesBy, tagsEnding}
+use Rattle.matching.specs.Reading.{allBelow, flagged, halted, nexts, onesOf, read, tableStep, tookByte, vectorsAt}
 use Rattle.matching.specs.Slicing.{anded, reduced, slice}
+use Rattle.matching.specs.Stepping.{readBy, stepped}
 use Rattle.matching.specs.Table.{built, laid, roomFrom, slot, slots, spot, tagsFor}
 use Rattle.matching.specs.Words.{among, ends, indexOf, same}
 use Rattle.samples.specs.Sets.{a-record, acts-254, acts-255, acts-closed, acts-half, acts-open, asSet, at, ers, hishers, hx, later, long, one-two, singles, split, startPlace, tags, two, ush, ushers}
@@ -100,7 +101,7 @@ pub record Samples : Type 0 where
 -- THE SAMPLES
 pub samples : Samples
 unfolding asSet singles same among ends indexOf withWord withPrefixes withTags prefixes states longest next walk vectorBy vector slice reduced anded
-    spot laid slot slots built roomFrom numbersWhere tagsEnding occurAt occurrencesFrom nexts vectorsAt onesOf flagged allBelow halted tookByte read
+    spot laid slot slots built roomFrom numbersWhere tagsEnding occurAt occurrencesBy nexts vectorsAt onesOf flagged allBelow halted tookByte stepped readBy tableStep read
     entryOf entriesFrom distinct setOf builtOf tableOf firstRoom pushAll openOf closeOf takeOf replaceOf replacedRun feedOf onSerial run round
 samples = record {
   of-reading = record {

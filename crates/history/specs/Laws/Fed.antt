@@ -25,8 +25,8 @@ use Rattle.history.specs.Laws.Feeding.{agrees, live, mine, read-done}
 use Rattle.history.specs.Laws.Invariant.{Inv, Kept, Stranger, changed-each, wide}
 use Rattle.history.specs.Laws.Seats.{Agrees, Seat, for-other, seat-kept, seat-same, seated, unique-set}
 use Rattle.matching.specs.Laws.Expected.{Done}
-use Rattle.matching.specs.Laws.Occurrences.{occurrencesFrom-append}
-use Rattle.matching.specs.Occurrence.{Occurrence, occurrences, occurrencesFrom}
+use Rattle.matching.specs.Laws.Occurrences.{occurrencesBy-append}
+use Rattle.matching.specs.Occurrence.{Occurrence, occurrences, occurrencesFrom, tagsEnding}
 use Rattle.matching.specs.Reading.{Outcome}
 use Rattle.matching.specs.Words.{Below, Word}
 
@@ -102,7 +102,7 @@ module _ (w : World) (v : Inv w) (s : Serial) (k : ℕ) (hk : k < length (w .acc
       ∙ ap₂ (λ (n : ℕ) (l : List Occurrence). recordsDue a ++ recordsOf (serialOf n) (editionOf (a .edition)) l) (sym (v .numbered k hk)) (done .found)
       ∙ sym (recordsOf-append (serialOf (a .serial)) (editionOf (a .edition)) (occurrences (a .tags) (a .bytes)) (occurrencesFrom (a .tags) (a .bytes) (length (a .bytes)) more))
       ∙ ap (recordsOf (serialOf (a .serial)) (editionOf (a .edition)))
-      (sym (occurrencesFrom-append (a .tags) [] 0 (a .bytes) more
+      (sym (occurrencesBy-append (tagsEnding (a .tags)) [] 0 (a .bytes) more
       ∙ ap {B = List Occurrence} (λ (n : ℕ). occurrences (a .tags) (a .bytes) ++ occurrencesFrom (a .tags) (a .bytes) n more) (zero-add (length (a .bytes)))))
 
   -- another serial's are the same

@@ -21,7 +21,7 @@ use Rattle.history.specs.Laws.Seats.{Agrees, Seat, for-other, has-room, 
 use Rattle.history.specs.Laws.Snoc.{snoc-each, snoc-length}
 use Rattle.matching.specs.Laws.Bools.{is-false, not-both}
 use Rattle.matching.specs.Laws.Built.{placeAfter-start}
-use Rattle.matching.specs.Occurrence.{occurrencesFrom}
+use Rattle.matching.specs.Occurrence.{occurrencesBy}
 
 module _ (w : World) (v : Inv w) (i : ℕ) (ei : i ≡ freeRoom (w .desk .tickets)) (hi : i < 16) (some : w .desk .edition .0 ≡ 0 → ⊥) (p : Reached (openedIn (w .desk) i)) where
   abbrev rooms : List Ticket
@@ -66,7 +66,7 @@ module _ (w : World) (v : Inv w) (i : ℕ) (ei : i ≡ freeRoom (w .desk .ticket
   others s n = for-other serial s ticket mine (λ e. n (sym e))
 
   pub inv-opened : Inv after
-  unfolding occurrencesFrom
+  unfolding occurrencesBy
   inv-opened = record {
     reached = p;
     serials = omega (arith, count, v .serials);

@@ -16,10 +16,10 @@ use Rattle.history.specs.Laws.Numbers.{differ}
 use Rattle.history.specs.Readings.{AsBuilt, Demanded, Row, Turn, TurnsOfBytes, inTurn, onTurn, rowThen, stoppedFull, tookAll}
 use Rattle.matching.specs.Laws.Built.{enough-iff, read-built}
 use Rattle.matching.specs.Laws.Expected.{Done, expected-alike, expected-done}
-use Rattle.matching.specs.Laws.Occurrences.{occurrencesFrom-append}
+use Rattle.matching.specs.Laws.Occurrences.{occurrencesBy-append}
 use Rattle.matching.specs.Laws.Readings.{below-placeAfter}
 use Rattle.matching.specs.Laws.Tables.{built-holds}
-use Rattle.matching.specs.Occurrence.{Occurrence, occurrencesFrom, tagsEnding}
+use Rattle.matching.specs.Occurrence.{Occurrence, occurrencesBy, occurrencesFrom, tagsEnding}
 use Rattle.matching.specs.Reading.{Outcome, allBelow, expected, placeAfter, read}
 use Rattle.matching.specs.Table.{built, enoughSlots, roomFrom, slotSize, slotsIn}
 use Rattle.matching.specs.Words.{Below, Lawful, Word}
@@ -152,12 +152,12 @@ module _ (n k : ℕ) (set run : List ℕ) (ts : List Word) (b : AsBuilt n k set 
       let part = take (r .taken) (t .piece) in
       record {
         found = ap₂ (λ (x y : List Occurrence). x ++ y) (d .found) (h .found ∙ ap (λ (c : ℕ). occurrencesFrom ts (v ++ part) c (w .taken)) (length-append v part))
-            ∙ sym (occurrencesFrom-append ts v (length v) part (w .taken));
+            ∙ sym (occurrencesBy-append (tagsEnding ts) v (length v) part (w .taken));
         place = h .place ∙ ap (placeAfter n ts 0 k) (append-assoc v part (w .taken));
       }
 
   pub row-done : (turns : List Turn) → TurnsOfBytes turns → (v : Word) → Below 256 v → RowDone v (rowAfter n k set run ts v turns)
-  unfolding inTurn occurrencesFrom
+  unfolding inTurn occurrencesBy
   row-done [] h v hv = record { found = refl; place = ap (placeAfter n ts 0 k) (sym (append-nil v)) }
   row-done (t ∷ turns) h v hv = go _ (row-by v t turns hv (h .0)) (row-done turns (h .1))
     where

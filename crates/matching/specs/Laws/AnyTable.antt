@@ -1,29 +1,22 @@
 -- What every reading keeps, over any table, ours or not.
-use Prim.Native.Nat.{_%_, _+_, _-_, _/_, _<_, _≤_, suc, zero, ℕ}
+use Prim.Native.Nat.{_%_, _+_, _/_, _<_, _≤_, suc, zero, ℕ}
 use mathlib.Core.Bool.{false, true}
-use mathlib.Core.List.{List, [], _++_, _∷_}
+use mathlib.Core.List.{List, [], _∷_}
 use mathlib.Core.Logic.{_↔_, _⊎_, inl, inr}
-use mathlib.Core.Path.{_∙_, _≡_, ap, refl, subst}
-use native.Mathlib.Nat.{add-zero}
+use mathlib.Core.Path.{_∙_, _≡_, ap, refl, subst, sym}
 use native.Mathlib.Omega.{arith}
-use lib.Dec.{leb}
-use lib.ListN.{length, length-append}
+use lib.ListN.{length}
 use Rattle.matching.specs.Laws.Bits.{bit-cases, onesOf-none, onesOf-one}
 use Rattle.matching.specs.Laws.Bools.{decided}
-use Rattle.matching.specs.Laws.Expected.{leb-le}
-use Rattle.matching.specs.Laws.Occurrences.{occurAt-length}
-use Rattle.matching.specs.Laws.Readings.{read-damaged, read-full, read-tookByte}
-use Rattle.matching.specs.Occurrence.{Occurrence, occurAt}
-use Rattle.matching.specs.Reading.{Outcome, allBelow, flagged, halted, nexts, onesOf, read, tookByte, vectorsAt}
+use Rattle.matching.specs.Laws.Readings.{tableStep-goes, tableStep-wrong}
+use Rattle.matching.specs.Laws.Stepping.{Rising, every-both, every-map, readBy-keeps, readBy-ordered, readBy-tags, went}
+pub use Rattle.matching.specs.Laws.Stepping.{Every}
+use Rattle.matching.specs.Occurrence.{Ordered}
+use Rattle.matching.specs.Reading.{Outcome, allBelow, flagged, nexts, onesOf, read, tableStep, vectorsAt}
 use Rattle.matching.specs.Slicing.{anded}
+use Rattle.matching.specs.Stepping.{goesTo, readBy}
 use Rattle.matching.specs.Words.{Word}
-use Rattle.matching.specs.declared.Stop.{Stop}
-use Rattle.matching.specs.declared.Stop.the-variants.{All, Damaged, Full}
-
--- every one of a list
-abbrev pub Every : (Occurrence → Type 0) → List Occurrence → Type 0
-Every P [] = Unit {0}
-Every P (o ∷ os) = P o × Every P os
+use Rattle.matching.specs.declared.Stop.the-variants.{All}
 
 -- what a reading r of w has done: from a place, with count bytes taken before and room for so many records
 pub record Kept (s : ℕ) (place : List ℕ) (count room : ℕ) (w : Word) (r : Outcome) : Type 0 where
@@ -35,21 +28,23 @@ pub record Kept (s : ℕ) (place : List ℕ) (count room : ℕ) (w : Word) (r : 
   pub idle : r .taken ≡ 0 → (r .place ≡ place) × (r .found ≡ [])
   pub whole : (r .stop ≡ All) ↔ (r .taken ≡ length w)
 
-every-map : (P Q : Occurrence → Type 0) (os : List Occurrence) → ((o : Occurrence) → P o → Q o) → Every P os → Every Q os
-every-map P Q [] f h = tt
-every-map P Q (o ∷ os) f h = (f o (h .0), every-map P Q os f (h .1))
-
-every-append : (P : Occurrence → Type 0) (a b : List Occurrence) → Every P a → Every P b → Every P (a ++ b)
-every-append P [] b ha hb = hb
-every-append P (o ∷ a) b ha hb = (ha .0, every-append P a b (ha .1) hb)
-
-onesOf-every : (P : Occurrence → Type 0) (e width i v : ℕ) → ((j : ℕ) → j < width → P (record { end = e; tag = i + j })) → Every P (occurAt e (onesOf i width v))
-unfolding onesOf occurAt
-onesOf-every P e zero i v f = tt
-onesOf-every P e (suc width) i v f = go (bit-cases v) (onesOf-every P e width (suc i) (v / 2) (λ j h. subst (λ (x : ℕ). P (record { end = e; tag = x })) (omega arith) (f (suc j) (omega arith))))
+-- the places of the ones lie among the bits, and rise
+pub onesOf-within : (width i v : ℕ) → Every (λ j. (i ≤ j) × (j < i + width)) (onesOf i width v)
+unfolding onesOf
+onesOf-within zero i v = tt
+onesOf-within (suc width) i v = go (bit-cases v) (every-map _ (λ j. (i ≤ j) × (j < i + suc width)) (onesOf (suc i) width (v / 2)) (λ j h. (omega (arith, h .0), omega (arith, h .1))) (onesOf-within width (suc i) (v / 2)))
   where
-    go : (v % 2 ≡ 1) ⊎ (v % 2 ≡ 0) → Every P (occurAt e (onesOf (suc i) width (v / 2))) → Every P (occurAt e (onesOf i (suc width) v))
-    go (inl q) ih = rw (onesOf-one i width v q) (subst (λ (x : ℕ). P (record { end = e; tag = x })) (add-zero i) (f 0 (omega arith)), ih)
+    go : (v % 2 ≡ 1) ⊎ (v % 2 ≡ 0) → Every (λ j. (i ≤ j) × (j < i + suc width)) (onesOf (suc i) width (v / 2)) → Every (λ j. (i ≤ j) × (j < i + suc width)) (onesOf i (suc width) v)
+    go (inl q) ih = rw (onesOf-one i width v q) ((omega arith, omega arith), ih)
+    go (inr q) ih = rw (onesOf-none i width v q) ih
+
+pub onesOf-rising : (width i v : ℕ) → Rising (onesOf i width v)
+unfolding onesOf
+onesOf-rising zero i v = tt
+onesOf-rising (suc width) i v = go (bit-cases v) (onesOf-rising width (suc i) (v / 2))
+  where
+    go : (v % 2 ≡ 1) ⊎ (v % 2 ≡ 0) → Rising (onesOf (suc i) width (v / 2)) → Rising (onesOf i (suc width) v)
+    go (inl q) ih = rw (onesOf-one i width v q) (every-map _ (λ j. i < j) (onesOf (suc i) width (v / 2)) (λ j h. h .0) (onesOf-within width (suc i) (v / 2)), ih)
     go (inr q) ih = rw (onesOf-none i width v q) ih
 
 -- a place keeps its number of states
@@ -58,68 +53,53 @@ unfolding nexts
 nexts-length n s table m [] c = refl
 nexts-length n s table m (q ∷ qs) c = ap suc (nexts-length n s table (suc m) qs c)
 
--- a reading that halts before its first byte
-module _ (s : ℕ) (place : List ℕ) (count room : ℕ) where
-  kept-none : Kept s place count room [] (halted place All)
-  unfolding halted
-  kept-none = record {
-    part = omega arith;
-    fits = omega arith;
-    long = refl;
-    below = λ h. h;
-    records = tt;
-    idle = λ e. (refl, refl);
-    whole = (λ e. refl, λ e. refl);
-  }
+-- ---- what a table's step tells
 
-  kept-halted : (c : ℕ) (w : Word) (why : Stop) → (why ≡ All → ⊥) → Kept s place count room (c ∷ w) (halted place why)
-  unfolding halted
-  kept-halted c w why h = record {
-    part = omega arith;
-    fits = omega arith;
-    long = refl;
-    below = λ h. h;
-    records = tt;
-    idle = λ e. (refl, refl);
-    whole = (λ e. absurd (h e), λ e. absurd (omega (arith, e)));
-  }
+module _ (n s : ℕ) (table place : List ℕ) (c : ℕ) where
+  pub record Moved (to tags : List ℕ) : Type 0 where
+    pub there : nexts n s table 0 place c ≡ to
+    pub below : allBelow s to ≡ true
+    pub marks : flagged n s table to ≡ tags
 
-  kept-took : (to : List ℕ) (tags : List ℕ) (c : ℕ) (w : Word) (r : Outcome) → length to ≡ length place → allBelow s to ≡ true → length tags ≤ room
-      → Every (λ o. (count < o .end) × (o .end ≤ suc count) × (o .tag < 16)) (occurAt (suc count) tags)
-      → Kept s to (suc count) (room - length tags) w r → Kept s place count room (c ∷ w) (tookByte (suc count) tags r)
-  unfolding tookByte
-  kept-took to tags c w r long sound few good k = record {
-    part = omega (arith, k .part);
-    fits = omega (arith, k .fits, length-append (occurAt (suc count) tags) (r .found), occurAt-length (suc count) tags);
-    long = k .long ∙ long;
-    below = λ h. k .below sound;
-    records = every-append (λ o. (count < o .end) × (o .end ≤ count + suc (r .taken)) × (o .tag < 16)) (occurAt (suc count) tags) (r .found)
-        (every-map _ _ (occurAt (suc count) tags) (λ o h. (h .0, omega (arith, h .1), h .2)) good)
-        (every-map _ _ (r .found) (λ o h. (omega (arith, h .0), omega (arith, h .1), h .2)) (k .records));
-    idle = λ e. absurd (omega (arith, e));
-    whole = (λ e. ap suc (k .whole .0 e), λ e. k .whole .1 (omega (arith, e)));
-  }
+  pub moved : (to tags : List ℕ) → tableStep n s table place c ≡ goesTo to tags → Moved to tags
+  moved to tags e = go (decided (allBelow s (nexts n s table 0 place c)))
+    where
+      go : (allBelow s (nexts n s table 0 place c) ≡ true) ⊎ (allBelow s (nexts n s table 0 place c) ≡ false) → Moved to tags
+      go (inl b) =
+          let z = sym (tableStep-goes n s table place c b) ∙ e in
+          let at : nexts n s table 0 place c ≡ to = cc in
+          record { there = at; below = subst (λ (x : List ℕ). allBelow s x ≡ true) at b; marks = (let q : flagged n s table (nexts n s table 0 place c) ≡ tags = cc in rw at at q) }
+      go (inr b) = absurd (let y = sym (tableStep-wrong n s table place c b) ∙ e in let z : _≡_ {A = ℕ} 0 1 = cc in omega arith)
+
+  -- the tags of a step rise, and are below 16
+  pub moved-rising : (to tags : List ℕ) → tableStep n s table place c ≡ goesTo to tags → Rising tags
+  unfolding flagged
+  moved-rising to tags e = subst Rising (moved to tags e .marks) (onesOf-rising 16 0 (anded 65535 (vectorsAt n s table 0 to)))
+
+  pub moved-tags : (to tags : List ℕ) → tableStep n s table place c ≡ goesTo to tags → Every (λ i. i < 16) tags
+  unfolding flagged
+  moved-tags to tags e = subst (Every (λ i. i < 16)) (moved to tags e .marks)
+      (every-map _ (λ i. i < 16) (onesOf 0 16 (anded 65535 (vectorsAt n s table 0 to))) (λ j h. omega (arith, h .1)) (onesOf-within 16 0 (anded 65535 (vectorsAt n s table 0 to))))
 
 pub read-kept : (n s : ℕ) (table place : List ℕ) (count room : ℕ) (w : Word) → Kept s place count room w (read n s table place count room w)
-unfolding read flagged
-read-kept n s table place count room [] = kept-none s place count room
-read-kept n s table place count room (c ∷ w) =
-    go (decided (allBelow s to)) (decided (leb (length tags) room)) (read-kept n s table to (suc count) (room - length tags) w)
-  where
-    to : List ℕ
-    to = nexts n s table 0 place c
+unfolding read
+read-kept n s table place count room w =
+    let g = went (tableStep n s table) w place count room in
+    let r = readBy (tableStep n s table) place count room w in
+    record {
+      part = g .part;
+      fits = g .fits;
+      long = readBy-keeps (tableStep n s table) (λ p. length p ≡ length place)
+          (λ p c to tags h e. ap length (sym (moved n s table p c to tags e .there)) ∙ nexts-length n s table 0 p c ∙ h) w place count room refl;
+      below = readBy-keeps (tableStep n s table) (λ p. allBelow s p ≡ true) (λ p c to tags h e. moved n s table p c to tags e .below) w place count room;
+      records = every-map _ _ (r .found) (λ o h. (h .0 .0, h .0 .1, h .1))
+          (every-both (λ o. (count < o .end) × (o .end ≤ count + r .taken)) (λ o. o .tag < 16) (r .found) (g .between)
+          (readBy-tags (tableStep n s table) (λ i. i < 16) (λ p c to tags e. moved-tags n s table p c to tags e) w place count room));
+      idle = g .idle;
+      whole = g .whole;
+    }
 
-    tags : List ℕ
-    tags = flagged n s table to
-
-    good : Every (λ o. (count < o .end) × (o .end ≤ suc count) × (o .tag < 16)) (occurAt (suc count) tags)
-    good = onesOf-every (λ o. (count < o .end) × (o .end ≤ suc count) × (o .tag < 16)) (suc count) 16 0 (anded 65535 (vectorsAt n s table 0 to))
-        (λ j h. (omega arith, omega arith, omega (arith, h)))
-
-    go : (allBelow s to ≡ true) ⊎ (allBelow s to ≡ false) → (leb (length tags) room ≡ true) ⊎ (leb (length tags) room ≡ false)
-        → Kept s to (suc count) (room - length tags) w (read n s table to (suc count) (room - length tags) w)
-        → Kept s place count room (c ∷ w) (read n s table place count room (c ∷ w))
-    go (inl a) (inl b) k = rw (read-tookByte n s table place count room c w a b)
-        (kept-took s place count room to tags c w _ (nexts-length n s table 0 place c) a (leb-le (length tags) room b) good k)
-    go (inl a) (inr b) k = rw (read-full n s table place count room c w a b) (kept-halted s place count room c w Full (λ e. let z : _≡_ {A = ℕ} 0 1 = cc in omega arith))
-    go (inr a) b k = rw (read-damaged n s table place count room c w a) (kept-halted s place count room c w Damaged (λ e. let z : _≡_ {A = ℕ} 0 1 = cc in omega arith))
+-- in which order a reading writes its records
+pub read-ordered : (n s : ℕ) (table place : List ℕ) (count room : ℕ) (w : Word) → Ordered (read n s table place count room w .found)
+unfolding read
+read-ordered n s table place count room w = readBy-ordered (tableStep n s table) (λ p c to tags e. moved-rising n s table p c to tags e) w place count room

@@ -2,7 +2,6 @@
 use Prim.Native.Nat.{_*_, _+_, _-_, _/_, _<_, _^_, _≤_, suc, zero, ℕ}
 use mathlib.Core.Bool.{false, true}
 use mathlib.Core.List.{List, [], _++_, _∷_, map}
-use mathlib.Core.Logic.{_⊎_, inl, inr}
 use mathlib.Core.Path.{_∙_, _≡_, ap, ap₂, refl, sym}
 use native.Mathlib.Nat.{mod-lt}
 use native.Mathlib.Omega.{arith}
@@ -10,15 +9,18 @@ use lib.Dec.{leb, ltb, lt→ltb}
 use lib.ListN.{getD, length}
 use lib.Pow.{pow-pos}
 use Rattle.matching.specs.Laws.Bits.{onesOf-tagsEnding}
-use Rattle.matching.specs.Laws.Bools.{and-both, decided, is-true}
+use Rattle.matching.specs.Laws.Bools.{and-both, is-true}
+use Rattle.matching.specs.Laws.Inputs.{below-snoc, follows-place, input-step}
 use Rattle.matching.specs.Laws.Machine.{walk-snoc}
 use Rattle.matching.specs.Laws.Prefixes.{vector-walk, walk-lt}
 use Rattle.matching.specs.Laws.Slices.{map-append}
+use Rattle.matching.specs.Laws.Stepping.{readBy-damaged, readBy-full, readBy-took}
 use Rattle.matching.specs.Laws.Vectors.{and-slices, vectors}
 use Rattle.matching.specs.Machine.{next, prefixes, states, vector, walk}
 use Rattle.matching.specs.Occurrence.{tagsEnding}
-use Rattle.matching.specs.Reading.{allBelow, expected, flagged, halted, nexts, onesOf, placeAfter, read, tookByte, vectorsAt}
+use Rattle.matching.specs.Reading.{allBelow, expected, flagged, halted, nexts, onesOf, placeAfter, read, tableStep, tookByte, vectorsAt}
 use Rattle.matching.specs.Slicing.{anded, slice, slices}
+use Rattle.matching.specs.Stepping.{goesTo, inputStep, isDamaged, onPlace}
 use Rattle.matching.specs.Table.{spot, tagsFor}
 use Rattle.matching.specs.Words.{AllBelow, Below, Word}
 use Rattle.matching.specs.declared.Stop.the-variants.{Damaged, Full}
@@ -38,7 +40,7 @@ unfolding slice
 slice-lt n m c = mod-lt (c / 2 ^ (m * n)) (pow-pos n)
 
 module _ (n k s : ℕ) (ts : List Word) (tab : List ℕ) (held : Holds n k s ts tab) where
-  nexts-placeAfter : (j m : ℕ) (v : Word) (c : ℕ) → m + j ≤ k → nexts n s tab m (placeAfter n ts m j v) c ≡ placeAfter n ts m j (v ++ c ∷ [])
+  pub nexts-placeAfter : (j m : ℕ) (v : Word) (c : ℕ) → m + j ≤ k → nexts n s tab m (placeAfter n ts m j v) c ≡ placeAfter n ts m j (v ++ c ∷ [])
   unfolding nexts placeAfter
   nexts-placeAfter zero m v c h = refl
   nexts-placeAfter (suc j) m v c h = ap₂ _∷_ first (nexts-placeAfter j (suc m) v c (omega arith))
@@ -50,15 +52,6 @@ module _ (n k s : ℕ) (ts : List Word) (tab : List ℕ) (held : Holds n k s ts 
           ∙ sym (walk-snoc (prefixes (tagsFor n ts m)) 0 (map (slice n m) v) (slice n m c))
           ∙ ap (walk (prefixes (tagsFor n ts m)) 0) (sym (map-append (slice n m) v (c ∷ [])))
 
-  vectors-placeAfter : (j m : ℕ) (v : Word) → m + j ≤ k → vectorsAt n s tab m (placeAfter n ts m j v) ≡ vectors (slices n m j) ts v
-  unfolding vectorsAt placeAfter vectors slices
-  vectors-placeAfter zero m v h = refl
-  vectors-placeAfter (suc j) m v h =
-      ap₂ _∷_
-      (held .marks m (walk (prefixes (tagsFor n ts m)) 0 (map (slice n m) v)) (omega arith) (walk-lt (tagsFor n ts m) (map (slice n m) v))
-      ∙ vector-walk (tagsFor n ts m) (map (slice n m) v))
-      (vectors-placeAfter j (suc m) v (omega arith))
-
   pub below-placeAfter : (j m : ℕ) (v : Word) → m + j ≤ k → allBelow s (placeAfter n ts m j v) ≡ true
   unfolding allBelow placeAfter
   below-placeAfter zero m v h = refl
@@ -68,7 +61,27 @@ module _ (n k s : ℕ) (ts : List Word) (tab : List ℕ) (held : Holds n k s ts 
       (lt→ltb (walk (prefixes (tagsFor n ts m)) 0 (map (slice n m) v)) s (omega (arith, walk-lt (tagsFor n ts m) (map (slice n m) v), held .fits m (omega arith)))))
       (below-placeAfter j (suc m) v (omega arith))
 
+  vectors-placeAfter : (j m : ℕ) (v : Word) → m + j ≤ k → vectorsAt n s tab m (placeAfter n ts m j v) ≡ vectors (slices n m j) ts v
+  unfolding vectorsAt placeAfter vectors slices
+  vectors-placeAfter zero m v h = refl
+  vectors-placeAfter (suc j) m v h =
+      ap₂ _∷_
+      (held .marks m (walk (prefixes (tagsFor n ts m)) 0 (map (slice n m) v)) (omega arith) (walk-lt (tagsFor n ts m) (map (slice n m) v))
+      ∙ vector-walk (tagsFor n ts m) (map (slice n m) v))
+      (vectors-placeAfter j (suc m) v (omega arith))
+
 -- ---- one byte
+
+module _ (n s : ℕ) (tab qs : List ℕ) (c : ℕ) where
+  pub tableStep-goes : allBelow s (nexts n s tab 0 qs c) ≡ true
+      → tableStep n s tab qs c ≡ goesTo (nexts n s tab 0 qs c) (flagged n s tab (nexts n s tab 0 qs c))
+  unfolding tableStep
+  tableStep-goes e = rw (e, tableStep) refl
+
+  pub tableStep-wrong : allBelow s (nexts n s tab 0 qs c) ≡ false
+      → tableStep n s tab qs c ≡ isDamaged
+  unfolding tableStep
+  tableStep-wrong e = rw (e, tableStep) refl
 
 module _ (n s : ℕ) (tab qs : List ℕ) (count room c : ℕ) (w : Word) where
   pub read-tookByte : allBelow s (nexts n s tab 0 qs c) ≡ true → leb (length (flagged n s tab (nexts n s tab 0 qs c))) room ≡ true
@@ -76,31 +89,27 @@ module _ (n s : ℕ) (tab qs : List ℕ) (count room c : ℕ) (w : Word) where
       ≡ tookByte (suc count) (flagged n s tab (nexts n s tab 0 qs c))
       (read n s tab (nexts n s tab 0 qs c) (suc count) (room - length (flagged n s tab (nexts n s tab 0 qs c))) w)
   unfolding read
-  read-tookByte e f = rw (e, read) (rw f refl)
+  read-tookByte e f = readBy-took (tableStep n s tab) qs count room c w _ _ (tableStep-goes n s tab qs c e) f
 
   pub read-full : allBelow s (nexts n s tab 0 qs c) ≡ true → leb (length (flagged n s tab (nexts n s tab 0 qs c))) room ≡ false
       → read n s tab qs count room (c ∷ w) ≡ halted qs Full
   unfolding read
-  read-full e f = rw (e, read) (rw f refl)
+  read-full e f = readBy-full (tableStep n s tab) qs count room c w _ _ (tableStep-goes n s tab qs c e) f
 
   pub read-damaged : allBelow s (nexts n s tab 0 qs c) ≡ false → read n s tab qs count room (c ∷ w) ≡ halted qs Damaged
   unfolding read
-  read-damaged e = rw (e, read) refl
+  read-damaged e = readBy-damaged (tableStep n s tab) qs count room c w (tableStep-wrong n s tab qs c e)
 
 module _ (n k : ℕ) (ts : List Word) (v : Word) (count room c : ℕ) (w : Word) where
   pub expected-tookByte : leb (length (tagsEnding ts (v ++ c ∷ []))) room ≡ true
       → expected n k ts v count room (c ∷ w)
       ≡ tookByte (suc count) (tagsEnding ts (v ++ c ∷ [])) (expected n k ts (v ++ c ∷ []) (suc count) (room - length (tagsEnding ts (v ++ c ∷ []))) w)
-  unfolding expected
-  expected-tookByte e = rw (e, expected) refl
+  unfolding expected onPlace tookByte
+  expected-tookByte e = ap (onPlace (placeAfter n ts 0 k)) (readBy-took (inputStep (tagsEnding ts)) v count room c w _ _ (input-step (tagsEnding ts) v c) e)
 
   pub expected-full : leb (length (tagsEnding ts (v ++ c ∷ []))) room ≡ false → expected n k ts v count room (c ∷ w) ≡ halted (placeAfter n ts 0 k v) Full
-  unfolding expected
-  expected-full e = rw (e, expected) refl
-
-below-snoc : (m : ℕ) (v : Word) (c : ℕ) → Below m v → c < m → Below m (v ++ c ∷ [])
-below-snoc m [] c h hc = (hc, tt)
-below-snoc m (x ∷ v) c h hc = (h .0, below-snoc m v c (h .1) hc)
+  unfolding expected onPlace halted
+  expected-full e = ap (onPlace (placeAfter n ts 0 k)) (readBy-full (inputStep (tagsEnding ts)) v count room c w _ _ (input-step (tagsEnding ts) v c) e)
 
 -- ---- THE READING THEOREM: over a table that holds the machines of ts, from the states after v, a reading of w is as expected
 
@@ -111,35 +120,18 @@ module _ (n k s : ℕ) (ts : List Word) (tab : List ℕ) (held : Holds n (suc k)
       ap (λ (l : List ℕ). onesOf 0 16 (anded 65535 l)) (vectors-placeAfter n (suc k) s ts tab held (suc k) 0 v (omega arith))
       ∙ ap (onesOf 0 16) (and-slices n k ts v small h few) ∙ onesOf-tagsEnding ts v few
 
-  pub read-expected : (w v : Word) (count room : ℕ) → Below (2 ^ (suc k * n)) v → Below (2 ^ (suc k * n)) w
-      → read n s tab (placeAfter n ts 0 (suc k) v) count room w ≡ expected n (suc k) ts v count room w
-  unfolding read expected
-  read-expected [] v count room hv hw = refl
-  read-expected (c ∷ w) v count room hv hw =
-      go (decided (leb (length (tagsEnding ts (v ++ c ∷ []))) room))
-      (read-expected w (v ++ c ∷ []) (suc count) (room - length (tagsEnding ts (v ++ c ∷ []))) hv′ (hw .1))
+  -- one step: from the states after v to those after v and the byte, and the tags that end there
+  pub step-holds : (v : Word) (c : ℕ) → Below (2 ^ (suc k * n)) v → c < 2 ^ (suc k * n)
+      → tableStep n s tab (placeAfter n ts 0 (suc k) v) c ≡ goesTo (placeAfter n ts 0 (suc k) (v ++ c ∷ [])) (tagsEnding ts (v ++ c ∷ []))
+  step-holds v c hv hc =
+      tableStep-goes n s tab (placeAfter n ts 0 (suc k) v) c (rw onward (below-placeAfter n (suc k) s ts tab held (suc k) 0 (v ++ c ∷ []) (omega arith)))
+      ∙ rw (onward, flagged-placeAfter (v ++ c ∷ []) (below-snoc (2 ^ (suc k * n)) v c hv hc)) refl
     where
-      hv′ : Below (2 ^ (suc k * n)) (v ++ c ∷ [])
-      hv′ = below-snoc (2 ^ (suc k * n)) v c hv (hw .0)
-
       onward : nexts n s tab 0 (placeAfter n ts 0 (suc k) v) c ≡ placeAfter n ts 0 (suc k) (v ++ c ∷ [])
       onward = nexts-placeAfter n (suc k) s ts tab held (suc k) 0 v c (omega arith)
 
-      sound : allBelow s (nexts n s tab 0 (placeAfter n ts 0 (suc k) v) c) ≡ true
-      sound = rw onward (below-placeAfter n (suc k) s ts tab held (suc k) 0 (v ++ c ∷ []) (omega arith))
-
-      there : flagged n s tab (nexts n s tab 0 (placeAfter n ts 0 (suc k) v) c) ≡ tagsEnding ts (v ++ c ∷ [])
-      there = rw onward (flagged-placeAfter (v ++ c ∷ []) hv′)
-
-      go : (leb (length (tagsEnding ts (v ++ c ∷ []))) room ≡ true) ⊎ (leb (length (tagsEnding ts (v ++ c ∷ []))) room ≡ false)
-          → read n s tab (placeAfter n ts 0 (suc k) (v ++ c ∷ [])) (suc count) (room - length (tagsEnding ts (v ++ c ∷ []))) w
-          ≡ expected n (suc k) ts (v ++ c ∷ []) (suc count) (room - length (tagsEnding ts (v ++ c ∷ []))) w
-          → read n s tab (placeAfter n ts 0 (suc k) v) count room (c ∷ w) ≡ expected n (suc k) ts v count room (c ∷ w)
-      go (inl e) ih =
-          read-tookByte n s tab (placeAfter n ts 0 (suc k) v) count room c w sound (ap (λ (l : List ℕ). leb (length l) room) there ∙ e)
-          ∙ ap₂ (λ (l qs : List ℕ). tookByte (suc count) l (read n s tab qs (suc count) (room - length l) w)) there onward
-          ∙ ap (tookByte (suc count) (tagsEnding ts (v ++ c ∷ []))) ih
-          ∙ sym (expected-tookByte n (suc k) ts v count room c w e)
-      go (inr e) ih =
-          read-full n s tab (placeAfter n ts 0 (suc k) v) count room c w sound (ap (λ (l : List ℕ). leb (length l) room) there ∙ e)
-          ∙ sym (expected-full n (suc k) ts v count room c w e)
+  pub read-expected : (w v : Word) (count room : ℕ) → Below (2 ^ (suc k * n)) v → Below (2 ^ (suc k * n)) w
+      → read n s tab (placeAfter n ts 0 (suc k) v) count room w ≡ expected n (suc k) ts v count room w
+  unfolding read expected
+  read-expected w v count room hv hw =
+      follows-place (2 ^ (suc k * n)) (tableStep n s tab) (tagsEnding ts) (placeAfter n ts 0 (suc k)) step-holds w v count room hv hw

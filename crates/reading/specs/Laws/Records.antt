@@ -11,7 +11,7 @@ use lib.ListN.{length, length-append, set}
 use lib.Seq.{length-sets, sets}
 use borrow.Author.Tests.{le-leb, lt-leb}
 use Rattle.matching.specs.Laws.Bits.{bit-cases, onesOf-none, onesOf-one}
-use Rattle.matching.specs.Laws.Occurrences.{occurAt-length}
+use Rattle.matching.specs.Laws.Matches.{occurAt-length}
 use Rattle.matching.specs.Occurrence.{Occurrence, flat, occurAt}
 use Rattle.matching.specs.Reading.{onesOf}
 use Rattle.passing.specs.Laws.Passing.{ones-none}

@@ -11,12 +11,13 @@ use lib.ListN.{drop, drop-of-length-le, getD, length, length-append, length-drop
 use lib.Seq.{drop-append-add, drop-cons, drop-drop, sets, sets-eq, take-append-seam}
 use borrow.Author.Tests.{le-ltb, leb-true}
 use Rattle.matching.specs.Laws.AnyTable.{nexts-length}
-use Rattle.matching.specs.Laws.Occurrences.{occurAt-length}
+use Rattle.matching.specs.Laws.Matches.{occurAt-length}
 use Rattle.matching.specs.Laws.Readings.{read-damaged, read-full, read-tookByte}
 use Rattle.matching.specs.Machine.{next, vector}
 use Rattle.matching.specs.Occurrence.{Occurrence, flat, occurAt}
 use Rattle.matching.specs.Reading.{Outcome, allBelow, flagged, halted, nexts, onesOf, read, vectorsAt}
 use Rattle.matching.specs.Slicing.{anded}
+use Rattle.matching.specs.Stepping.{readBy}
 use Rattle.matching.specs.Words.{same}
 use Rattle.matching.specs.declared.Stop.{Stop}
 use Rattle.matching.specs.declared.Stop.the-variants.{All, Damaged, Full}
@@ -121,7 +122,7 @@ module _ (n s : ℕ) (table : List ℕ) (count : ℕ) (piece l₀ start : List �
         }
 
     pub going-all : length piece ≤ i → Ended whole l₀ l place All w i
-    unfolding read
+    unfolding read readBy
     going-all more = ended All (rw (drop-of-length-le piece {i = i} more))
 
     -- one byte: its next numbers, and the AND of their vectors

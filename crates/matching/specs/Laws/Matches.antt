@@ -1,0 +1,99 @@
+-- The laws of what is found at one byte: which tags end there, and how many.
+use Prim.Native.Nat.{_+_, _<_, _≤_, suc, zero, ℕ}
+use mathlib.Core.Bool.{Bool, false, true}
+use mathlib.Core.List.{List, List·Memᴰ, List·Memᴰ·cases-cons, List·Memᴰ·head, List·Memᴰ·not-nil, List·Memᴰ·tail, [], _∷_}
+use mathlib.Core.Logic.{_↔_, _⊎_, inl, inr}
+use mathlib.Core.Path.{_≡_, ap, refl, subst}
+use native.Mathlib.Nat.{add-zero, le-of-suc-le-suc, not-suc-le-zero, zero-add}
+use native.Mathlib.Omega.{arith}
+use lib.ListN.{getD, length, length-map}
+use Rattle.matching.specs.Laws.Bits.{numbersWhere-hit, numbersWhere-miss}
+use Rattle.matching.specs.Laws.Bools.{decided}
+use Rattle.matching.specs.Occurrence.{Occurrence, numbersWhere, occurAt, tagsEnding}
+use Rattle.matching.specs.Words.{Word, ends}
+
+pub occurAt-length : (e : ℕ) (is : List ℕ) → length (occurAt e is) ≡ length is
+unfolding occurAt
+occurAt-length e is = length-map is (λ i. record { end = e; tag = i })
+
+-- no byte has more matches than there are tags
+pub numbersWhere-length : {A : Type 0} (g : A → Bool) (i : ℕ) (ts : List A) → length (numbersWhere g i ts) ≤ length ts
+unfolding numbersWhere
+numbersWhere-length g i [] = omega arith
+numbersWhere-length g i (t ∷ ts) = go (decided (g t)) (numbersWhere-length g (suc i) ts)
+  where
+    go : (g t ≡ true) ⊎ (g t ≡ false) → length (numbersWhere g (suc i) ts) ≤ length ts → length (numbersWhere g i (t ∷ ts)) ≤ suc (length ts)
+    go (inl e) ih = rw (numbersWhere-hit g i t ts e) (omega arith)
+    go (inr e) ih = rw (numbersWhere-miss g i t ts e) (omega arith)
+
+pub tagsEnding-length : (ts : List Word) (w : Word) → length (tagsEnding ts w) ≤ length ts
+unfolding tagsEnding
+tagsEnding-length ts w = numbersWhere-length (λ t. ends t w) 0 ts
+
+-- ---- the tags that are found
+
+pub numbersWhere-has : {A : Type 0} (z : A) (g : A → Bool) (ts : List A) (i j : ℕ) → j < length ts → g (getD ts j z) ≡ true → List·Memᴰ (i + j) (numbersWhere g i ts)
+numbersWhere-has z g [] i j h e = absurd (not-suc-le-zero h)
+numbersWhere-has z g (t ∷ ts) i zero h e = rw (numbersWhere-hit g i t ts e, add-zero i) (List·Memᴰ·head refl)
+numbersWhere-has {A} z g (t ∷ ts) i (suc j) h e = go (decided (g t)) (numbersWhere-has z g ts (suc i) j (le-of-suc-le-suc h) e)
+  where
+    sum : suc i + j ≡ i + suc j
+    sum = omega arith
+
+    go : (g t ≡ true) ⊎ (g t ≡ false) → List·Memᴰ (suc i + j) (numbersWhere g (suc i) ts) → List·Memᴰ (i + suc j) (numbersWhere g i (t ∷ ts))
+    go (inl q) m = rw (numbersWhere-hit g i t ts q, ← sum) (List·Memᴰ·tail m)
+    go (inr q) m = rw (numbersWhere-miss g i t ts q, ← sum) m
+
+pub numbersWhere-only : {A : Type 0} (z : A) (g : A → Bool) (ts : List A) (i x : ℕ) → List·Memᴰ x (numbersWhere g i ts) → (j : ℕ) × (x ≡ i + j) × (j < length ts) × (g (getD ts j z) ≡ true)
+unfolding numbersWhere
+numbersWhere-only z g [] i x m = absurd (List·Memᴰ·not-nil m)
+numbersWhere-only {A} z g (t ∷ ts) i x m = go (decided (g t)) (numbersWhere-only z g ts (suc i) x)
+  where
+    up : (j : ℕ) × (x ≡ suc i + j) × (j < length ts) × (g (getD ts j z) ≡ true) → (j : ℕ) × (x ≡ i + j) × (j < suc (length ts)) × (g (getD (t ∷ ts) j z) ≡ true)
+    up r = (suc (r .0), omega (arith, r .1), omega (arith, r .2), r .3)
+
+    first : g t ≡ true → (x ≡ i) ⊎ List·Memᴰ x (numbersWhere g (suc i) ts)
+        → (List·Memᴰ x (numbersWhere g (suc i) ts) → (j : ℕ) × (x ≡ suc i + j) × (j < length ts) × (g (getD ts j z) ≡ true))
+        → (j : ℕ) × (x ≡ i + j) × (j < suc (length ts)) × (g (getD (t ∷ ts) j z) ≡ true)
+    first q (inl e) ih = (0, omega (arith, e), omega arith, q)
+    first q (inr k) ih = up (ih k)
+
+    go : (g t ≡ true) ⊎ (g t ≡ false) → (List·Memᴰ x (numbersWhere g (suc i) ts) → (j : ℕ) × (x ≡ suc i + j) × (j < length ts) × (g (getD ts j z) ≡ true))
+        → (j : ℕ) × (x ≡ i + j) × (j < suc (length ts)) × (g (getD (t ∷ ts) j z) ≡ true)
+    go (inl q) ih = first q (List·Memᴰ·cases-cons (rw (numbersWhere-hit g i t ts q) at m)) ih
+    go (inr q) ih = up (ih (rw (numbersWhere-miss g i t ts q) at m))
+
+-- tag i is found at w exactly if it ends w
+pub tagsEnding-has : (ts : List Word) (w : Word) (i : ℕ) → List·Memᴰ i (tagsEnding ts w) ↔ ((i < length ts) × (ends (getD ts i []) w ≡ true))
+unfolding tagsEnding
+tagsEnding-has ts w i = (there, back)
+  where
+    there : List·Memᴰ i (numbersWhere (λ t. ends t w) 0 ts) → (i < length ts) × (ends (getD ts i []) w ≡ true)
+    there m =
+        let r = numbersWhere-only [] (λ t. ends t w) ts 0 i m in
+        let e : r .0 ≡ i = omega (arith, r .1) in
+        (omega (arith, e, r .2), subst (λ (j : ℕ). ends (getD ts j []) w ≡ true) e (r .3))
+
+    back : (i < length ts) × (ends (getD ts i []) w ≡ true) → List·Memᴰ i (numbersWhere (λ t. ends t w) 0 ts)
+    back h = subst (λ (j : ℕ). List·Memᴰ j (numbersWhere (λ t. ends t w) 0 ts)) (zero-add i) (numbersWhere-has [] (λ t. ends t w) ts 0 i (h .0) (h .1))
+
+-- ---- a byte's matches
+
+pub occurAt-only : (e : ℕ) (tags : List ℕ) (o : Occurrence) → List·Memᴰ o (occurAt e tags) → (o .end ≡ e) × List·Memᴰ (o .tag) tags
+unfolding occurAt
+occurAt-only e [] o m = absurd (List·Memᴰ·not-nil m)
+occurAt-only e (i ∷ tags) o m = go (List·Memᴰ·cases-cons m) (occurAt-only e tags o)
+  where
+    go : (o ≡ record { end = e; tag = i }) ⊎ List·Memᴰ o (occurAt e tags) → (List·Memᴰ o (occurAt e tags) → (o .end ≡ e) × List·Memᴰ (o .tag) tags)
+        → (o .end ≡ e) × List·Memᴰ (o .tag) (i ∷ tags)
+    go (inl q) ih = (ap (λ (p : Occurrence). p .end) q, List·Memᴰ·head (ap (λ (p : Occurrence). p .tag) q))
+    go (inr k) ih = (ih k .0, List·Memᴰ·tail (ih k .1))
+
+pub occurAt-has : (e : ℕ) (tags : List ℕ) (o : Occurrence) → o .end ≡ e → List·Memᴰ (o .tag) tags → List·Memᴰ o (occurAt e tags)
+unfolding occurAt
+occurAt-has e [] o q m = absurd (List·Memᴰ·not-nil m)
+occurAt-has e (i ∷ tags) o q m = go (List·Memᴰ·cases-cons m) (occurAt-has e tags o q)
+  where
+    go : (o .tag ≡ i) ⊎ List·Memᴰ (o .tag) tags → (List·Memᴰ (o .tag) tags → List·Memᴰ o (occurAt e tags)) → List·Memᴰ o (occurAt e (i ∷ tags))
+    go (inl t) ih = List·Memᴰ·head (λ d. record { end = q d; tag = t d })
+    go (inr k) ih = List·Memᴰ·tail (ih k)
