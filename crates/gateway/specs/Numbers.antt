@@ -18,9 +18,18 @@ use Rattle.tables.specs.Building.{builtNumber, builtValues, neededNumber, neede
 use Rattle.tables.specs.declared.Built.{Built}
 use Rattle.tables.specs.declared.Needed.{Needed}
 
--- a number and up to four values; those that there aren't are 0
+-- a number and up to seven values; those that there aren't are 0
 abbrev pub answerOf : ℕ → List ℕ → Answer
-answerOf n values = record { refusal = n; a = getD values 0 0; b = getD values 1 0; c = getD values 2 0; d = getD values 3 0 }
+answerOf n values = record {
+  refusal = n;
+  a = getD values 0 0;
+  b = getD values 1 0;
+  c = getD values 2 0;
+  d = getD values 3 0;
+  e = getD values 4 0;
+  f = getD values 5 0;
+  g = getD values 6 0;
+}
 
 -- building: the number of tags, or what is returned with its refusal
 abbrev pub builtAnswer : Built → Answer

@@ -17,6 +17,7 @@ ghost use Rattle.reading.specs.Outside.{readNumber};
 ghost use Rattle.desk.specs.Numbers.{stopNumber};
 ghost use Rattle.gateway.specs.Numbers.{answerOf, builtAnswer, neededAnswer, replaceAnswer, openAnswer, feedAnswer, closeAnswer, takeAnswer, readAnswer};
 
+// No call gives more than four values yet; the others leave the layout as it is when one gives more.
 #[repr(C)]
 pub struct Answer {
     pub refusal: u64,
@@ -24,6 +25,9 @@ pub struct Answer {
     pub b: u64,
     pub c: u64,
     pub d: u64,
+    pub e: u64,
+    pub f: u64,
+    pub g: u64,
 }
 
 fn with(refusal: u64, a: u64, b: u64, c: u64, d: u64) -> Answer
@@ -35,6 +39,9 @@ fn with(refusal: u64, a: u64, b: u64, c: u64, d: u64) -> Answer
         b,
         c,
         d,
+        e: 0,
+        f: 0,
+        g: 0,
     }
 }
 

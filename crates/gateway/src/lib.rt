@@ -44,6 +44,14 @@ pub struct WholeReply {
     pub place: u16,
 }
 
+// 10,000 for the major number, 100 for the minor one, and the patch: the header and the crate say which one they are written for.
+#[no_mangle]
+pub extern "C" fn sleet_version() -> u64
+    ensures { λ r. ⌜ r ≡ 10000 ⌝ }
+{
+    10000
+}
+
 #[no_mangle]
 pub extern "C" fn sleet_desk_new() -> Desk
     ensures { λ r. ⌜ r ≡ newDesk ⌝ }
