@@ -1,10 +1,8 @@
 // The static library for C and Rust: each call of the desk, building and reading outside it, and the size query.
 // A desk goes in by value and comes back beside its answer; its image is numbers alone, so any bytes of its size are a desk.
-mod answers;
-
-use answers::Answer;
 use desk::Desk;
 use desk::Serial;
+use numbers::Answer;
 ghost use mathlib.Core.Path.{_≡_};
 ghost use mathlib.Core.List.{[], _∷_};
 ghost use lib.ListN.{length};
@@ -15,7 +13,7 @@ ghost use Rattle.desk.specs.Feed.{feedOf};
 ghost use Rattle.desk.specs.TakeMany.{manyOf, takeManyOf, listTaken};
 ghost use Rattle.tables.specs.Building.{builtOf, tableOf, neededOf};
 ghost use Rattle.reading.specs.Outside.{readOf, splitBy, wholeBy, listBy};
-ghost use Rattle.gateway.specs.Numbers.{builtAnswer, neededAnswer, replaceAnswer, openAnswer, feedAnswer, closeAnswer, takeAnswer, splitSaid, wholeSaid};
+ghost use Rattle.numbers.specs.Answers.{builtAnswer, neededAnswer, replaceAnswer, openAnswer, feedAnswer, closeAnswer, takeAnswer, splitSaid, wholeSaid};
 
 // A desk after a call, and the call's answer.
 #[repr(C)]
@@ -66,7 +64,7 @@ pub extern "C" fn sleet_desk_replace(desk: Desk, set: &[u8], table: &mut [u16]) 
     let r = desk.replace(set, table);
     let after = r.desk;
     let said = r.answer;
-    let answer = answers::of_replace(said);
+    let answer = numbers::of_replace(said);
     Reply {
         desk: after,
         answer,
@@ -80,7 +78,7 @@ pub extern "C" fn sleet_desk_open(desk: Desk) -> Reply
     let r = desk.open();
     let after = r.desk;
     let said = r.answer;
-    let answer = answers::of_open(said);
+    let answer = numbers::of_open(said);
     Reply {
         desk: after,
         answer,
@@ -94,7 +92,7 @@ pub extern "C" fn sleet_desk_feed(desk: Desk, serial: u32, table: &[u16], piece:
     let r = desk.feed(Serial(serial), table, piece);
     let after = r.desk;
     let said = r.answer;
-    let answer = answers::of_feed(said);
+    let answer = numbers::of_feed(said);
     Reply {
         desk: after,
         answer,
@@ -108,7 +106,7 @@ pub extern "C" fn sleet_desk_close(desk: Desk, serial: u32) -> Reply
     let r = desk.close(Serial(serial));
     let after = r.desk;
     let said = r.answer;
-    let answer = answers::of_close(said);
+    let answer = numbers::of_close(said);
     Reply {
         desk: after,
         answer,
@@ -122,7 +120,7 @@ pub extern "C" fn sleet_desk_take(desk: Desk) -> Reply
     let r = desk.take();
     let after = r.desk;
     let said = r.answer;
-    let answer = answers::of_take(said);
+    let answer = numbers::of_take(said);
     Reply {
         desk: after,
         answer,
@@ -145,21 +143,21 @@ pub extern "C" fn sleet_desk_take_many(desk: Desk, list: &mut [u32]) -> TakenMan
 pub extern "C" fn sleet_slots_needed(set: &[u8]) -> Answer
     ensures { λ r. ⌜ r ≡ neededAnswer (neededOf (now (set .entry))) ⌝ }
 {
-    answers::of_needed(tables::slots_needed(set))
+    numbers::of_needed(tables::slots_needed(set))
 }
 
 #[no_mangle]
 pub extern "C" fn sleet_build_split(set: &[u8], table: &mut [u16]) -> Answer
     ensures { λ r. ⌜ (r ≡ builtAnswer (builtOf 1 8 (now (set .entry)) (length (now (table .entry))))) × (now (table .exit) ≡ tableOf 1 8 (now (set .entry)) (now (table .entry))) ⌝ }
 {
-    answers::of_built(tables::build_split(set, table))
+    numbers::of_built(tables::build_split(set, table))
 }
 
 #[no_mangle]
 pub extern "C" fn sleet_build_whole(set: &[u8], table: &mut [u16]) -> Answer
     ensures { λ r. ⌜ (r ≡ builtAnswer (builtOf 8 1 (now (set .entry)) (length (now (table .entry))))) × (now (table .exit) ≡ tableOf 8 1 (now (set .entry)) (now (table .entry))) ⌝ }
 {
-    answers::of_built(tables::build_whole(set, table))
+    numbers::of_built(tables::build_whole(set, table))
 }
 
 #[no_mangle]
@@ -176,7 +174,7 @@ pub extern "C" fn sleet_read_split(
     let r = reading::read_split(table, start, count, piece, list);
     let after = r.place;
     let ending = r.ending;
-    let answer = answers::of_read(r.taken, r.records, ending);
+    let answer = numbers::of_read(r.taken, r.records, ending);
     SplitReply {
         answer,
         place: after,
@@ -195,7 +193,7 @@ pub extern "C" fn sleet_read_whole(
 {
     let r = reading::read_whole(table, place, count, piece, list);
     let ending = r.ending;
-    let answer = answers::of_read(r.taken, r.records, ending);
+    let answer = numbers::of_read(r.taken, r.records, ending);
     WholeReply {
         answer,
         place: r.place,
