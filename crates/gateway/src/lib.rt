@@ -1,7 +1,8 @@
-// The static library for C and Rust: each call of the desk, building and reading outside it, and the size query.
-// A desk goes in by value and comes back beside its answer; its image is numbers alone, so any bytes of its size are a desk.
+// The static library for C and Rust: each call of the gate and of the desk, building and reading outside it, and the size query.
+// A gate or a desk goes in by value and comes back beside its answer; its image is numbers alone, so any bytes of its size are one.
 use desk::Desk;
 use desk::Serial;
+use gate::Gate;
 use numbers::Answer;
 ghost use mathlib.Core.Path.{_≡_};
 ghost use mathlib.Core.List.{[], _∷_};
@@ -11,14 +12,23 @@ ghost use Rattle.desk.specs.Calls.{newDesk, openOf, closeOf, takeOf};
 ghost use Rattle.desk.specs.Replace.{replaceOf, replacedRun};
 ghost use Rattle.desk.specs.Feed.{feedOf};
 ghost use Rattle.desk.specs.TakeMany.{manyOf, takeManyOf, listTaken};
+ghost use Rattle.desk.specs.State.{stateOf};
+ghost use Rattle.gate.specs.Gate.{newGate, changeOf, beginOf, pieceOf, decideOf};
 ghost use Rattle.tables.specs.Building.{builtOf, tableOf, neededOf};
 ghost use Rattle.reading.specs.Outside.{readOf, splitBy, wholeBy, listBy};
-ghost use Rattle.numbers.specs.Answers.{builtAnswer, neededAnswer, replaceAnswer, openAnswer, feedAnswer, closeAnswer, takeAnswer, splitSaid, wholeSaid};
+ghost use Rattle.numbers.specs.Answers.{builtAnswer, neededAnswer, replaceAnswer, openAnswer, feedAnswer, closeAnswer, takeAnswer, stateAnswer, pieceAnswer, verdictAnswer, splitSaid, wholeSaid};
 
 // A desk after a call, and the call's answer.
 #[repr(C)]
 pub struct Reply {
     pub desk: Desk,
+    pub answer: Answer,
+}
+
+// A gate after a call, and the call's answer.
+#[repr(C)]
+pub struct GateReply {
+    pub gate: Gate,
     pub answer: Answer,
 }
 
@@ -136,6 +146,81 @@ pub extern "C" fn sleet_desk_take_many(desk: Desk, list: &mut [u32]) -> TakenMan
     TakenMany {
         desk: after,
         count: r.count as u64,
+    }
+}
+
+#[no_mangle]
+pub extern "C" fn sleet_desk_state(desk: Desk, serial: u32) -> Answer
+    ensures { λ r. ⌜ r ≡ stateAnswer (stateOf desk (serialOf serial)) ⌝ }
+{
+    numbers::of_state(desk.state(Serial(serial)))
+}
+
+#[no_mangle]
+pub extern "C" fn sleet_gate_new() -> Gate
+    ensures { λ r. ⌜ r ≡ newGate ⌝ }
+{
+    Gate::new()
+}
+
+#[no_mangle]
+pub extern "C" fn sleet_gate_replace(gate: Gate, set: &[u8], table: &mut [u16]) -> GateReply
+    ensures { λ r. ⌜ (r .gate ≡ changeOf gate (now (set .entry)) (length (now (table .entry))) .gate) × (r .answer ≡ replaceAnswer (changeOf gate (now (set .entry)) (length (now (table .entry))) .answer)) × (now (table .exit) ≡ replacedRun (gate .desk) (now (set .entry)) (now (table .entry))) ⌝ }
+{
+    let r = gate.replace(set, table);
+    let after = r.gate;
+    let said = r.answer;
+    let answer = numbers::of_replace(said);
+    GateReply {
+        gate: after,
+        answer,
+    }
+}
+
+#[no_mangle]
+pub extern "C" fn sleet_gate_begin(gate: Gate) -> GateReply
+    ensures { λ r. ⌜ (r .gate ≡ beginOf gate .gate) × (r .answer ≡ openAnswer (beginOf gate .answer)) ⌝ }
+{
+    let r = gate.begin();
+    let after = r.gate;
+    let said = r.answer;
+    let answer = numbers::of_open(said);
+    GateReply {
+        gate: after,
+        answer,
+    }
+}
+
+#[no_mangle]
+pub extern "C" fn sleet_gate_piece(
+    gate: Gate,
+    serial: u32,
+    table: &[u16],
+    piece: &[u8],
+) -> GateReply
+    ensures { λ r. ⌜ (r .gate ≡ pieceOf gate (serialOf serial) (now (table .entry)) (now (piece .entry)) .gate) × (r .answer ≡ pieceAnswer (pieceOf gate (serialOf serial) (now (table .entry)) (now (piece .entry)) .answer)) ⌝ }
+{
+    let r = gate.piece(Serial(serial), table, piece);
+    let after = r.gate;
+    let said = r.answer;
+    let answer = numbers::of_piece(said);
+    GateReply {
+        gate: after,
+        answer,
+    }
+}
+
+#[no_mangle]
+pub extern "C" fn sleet_gate_decide(gate: Gate, serial: u32) -> GateReply
+    ensures { λ r. ⌜ (r .gate ≡ decideOf gate (serialOf serial) .gate) × (r .answer ≡ verdictAnswer (decideOf gate (serialOf serial) .answer)) ⌝ }
+{
+    let r = gate.decide(Serial(serial));
+    let after = r.gate;
+    let said = r.answer;
+    let answer = numbers::of_verdict(said);
+    GateReply {
+        gate: after,
+        answer,
     }
 }
 

@@ -3,12 +3,16 @@ use Rattle.reading.specs.declared.Ending.the-variants as E
 use Prim.Native.Nat.{ℕ}
 use mathlib.Core.List.{List, [], _∷_}
 use lib.ListN.{getD}
-use Rattle.desk.specs.Numbers.{closeNumber, closeValues, feedNumber, feedValues, openNumber, openValues, replaceNumber, replaceValues, stopNumber, takeNumber, takeValues}
+use Rattle.desk.specs.Numbers.{closeNumber, closeValues, feedNumber, feedValues, openNumber, openValues, replaceNumber, replaceValues, stateValues, stopNumber, takeNumber, takeValues}
 use Rattle.desk.specs.declared.CloseAnswer.{CloseAnswer}
 use Rattle.desk.specs.declared.FeedAnswer.{FeedAnswer}
 use Rattle.desk.specs.declared.OpenAnswer.{OpenAnswer}
 use Rattle.desk.specs.declared.ReplaceAnswer.{ReplaceAnswer}
+use Rattle.desk.specs.declared.StateAnswer.{StateAnswer}
 use Rattle.desk.specs.declared.TakeAnswer.{TakeAnswer}
+use Rattle.gate.specs.Numbers.{pieceNumber, pieceValues, verdictNumber, verdictValues}
+use Rattle.gate.specs.declared.PieceAnswer.{PieceAnswer}
+use Rattle.gate.specs.declared.Verdict.{Verdict}
 use Rattle.numbers.specs.declared.Answer.{Answer}
 use Rattle.reading.specs.Outside.{readNumber, readValues}
 use Rattle.reading.specs.declared.Ending.{Ending}
@@ -54,6 +58,17 @@ closeAnswer r = answerOf (closeNumber r) (closeValues r)
 
 abbrev pub takeAnswer : TakeAnswer → Answer
 takeAnswer r = answerOf (takeNumber r) (takeValues r)
+
+-- the state of a ticket, never refused
+abbrev pub stateAnswer : StateAnswer → Answer
+stateAnswer r = answerOf 0 (stateValues r)
+
+-- the gate's calls, each by the gate's own numbers and values; its replacing and beginning answer as the desk does
+abbrev pub pieceAnswer : PieceAnswer → Answer
+pieceAnswer r = answerOf (pieceNumber r) (pieceValues r)
+
+abbrev pub verdictAnswer : Verdict → Answer
+verdictAnswer r = answerOf (verdictNumber r) (verdictValues r)
 
 -- a read outside: the bytes taken, why it stopped, and the records written
 abbrev pub readAnswer : ℕ → ℕ → Ending → Answer

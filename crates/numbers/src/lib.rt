@@ -3,7 +3,10 @@ use desk::CloseAnswer;
 use desk::FeedAnswer;
 use desk::OpenAnswer;
 use desk::ReplaceAnswer;
+use desk::StateAnswer;
 use desk::TakeAnswer;
+use gate::PieceAnswer;
+use gate::Verdict;
 use matching::Stop;
 use reading::Ending;
 use reading::ReadRefusal;
@@ -15,7 +18,7 @@ ghost use mathlib.Core.List.{[], _∷_};
 ghost use Rattle.tagset.specs.Answer.{faultNumber, faultValues};
 ghost use Rattle.reading.specs.Outside.{readNumber};
 ghost use Rattle.desk.specs.Numbers.{stopNumber};
-ghost use Rattle.numbers.specs.Answers.{answerOf, builtAnswer, neededAnswer, replaceAnswer, openAnswer, feedAnswer, closeAnswer, takeAnswer, readAnswer};
+ghost use Rattle.numbers.specs.Answers.{answerOf, builtAnswer, neededAnswer, replaceAnswer, openAnswer, feedAnswer, closeAnswer, takeAnswer, stateAnswer, readAnswer, pieceAnswer, verdictAnswer};
 
 // No call gives more than four values yet; the others leave the layout as it is when one gives more.
 #[repr(C)]
@@ -157,6 +160,41 @@ pub fn of_take(said: TakeAnswer) -> Answer
             )
         }
         TakeAnswer::Nothing => with(16, 0, 0, 0, 0),
+    }
+}
+
+pub fn of_state(said: StateAnswer) -> Answer
+    ensures { λ r. ⌜ r ≡ stateAnswer said ⌝ }
+{
+    match said {
+        StateAnswer::Never => with(0, 0, 0, 0, 0),
+        StateAnswer::Closed => with(0, 1, 0, 0, 0),
+        StateAnswer::Stale(edition, taken) => with(0, 2, edition.0 as u64, taken as u64, 0),
+        StateAnswer::Open(edition, taken) => with(0, 3, edition.0 as u64, taken as u64, 0),
+    }
+}
+
+pub fn of_piece(said: PieceAnswer) -> Answer
+    ensures { λ r. ⌜ r ≡ pieceAnswer said ⌝ }
+{
+    match said {
+        PieceAnswer::Read => with(0, 1, 0, 0, 0),
+        PieceAnswer::Cut(taken) => with(0, 0, taken as u64, 0, 0),
+        PieceAnswer::NoTicket => with(12, 0, 0, 0, 0),
+        PieceAnswer::Stale(edition) => with(13, edition.0 as u64, 0, 0, 0),
+    }
+}
+
+// No verdict is 0, so that an answer of zeros lets nothing pass.
+pub fn of_verdict(said: Verdict) -> Answer
+    ensures { λ r. ⌜ r ≡ verdictAnswer said ⌝ }
+{
+    match said {
+        Verdict::Pass => with(0, 1, 0, 0, 0),
+        Verdict::Hold(mask) => with(0, 2, mask, 0, 0),
+        Verdict::Stale(edition) => with(0, 3, edition.0 as u64, 0, 0),
+        Verdict::Unread => with(0, 4, 0, 0, 0),
+        Verdict::NoTicket => with(12, 0, 0, 0, 0),
     }
 }
 
