@@ -1,5 +1,6 @@
 -- Once the list is empty, a nonempty piece on a live ticket, not LONG and over the table as replacement left it, advances.
 use Rattle.desk.specs.declared.FeedAnswer.the-variants as F
+use Rattle.desk.specs.declared.StateAnswer.the-variants as A
 use Prim.Native.Nat.{_-_, _<_, ℕ}
 use mathlib.Core.Bool.{Bool, false, true}
 use mathlib.Core.List.{List, _∷_}
@@ -12,16 +13,18 @@ use Rattle.desk.specs.Feed.{feedOf}
 use Rattle.desk.specs.Laws.Good.{good, on-place}
 use Rattle.desk.specs.Laws.Views.{Feeds, feed-long, feed-no-place, feed-no-ticket, feed-other-slots, feed-read, feed-stale, feeds}
 use Rattle.desk.specs.Rooms.{roomOf, ticketIn}
+use Rattle.desk.specs.State.{isGiven, stateBy, stateOf}
 use Rattle.desk.specs.declared.Desk.{Desk}
+use Rattle.desk.specs.declared.Edition.{Edition}
 use Rattle.desk.specs.declared.FeedAnswer.{FeedAnswer}
 use Rattle.desk.specs.declared.Feeding.{Feeding}
 use Rattle.desk.specs.declared.Serial.{Serial}
+use Rattle.desk.specs.declared.Ticket.{Ticket}
 use Rattle.history.specs.History.{Act, AllBytes, World, accountAt, run, start}
 use Rattle.history.specs.Laws.Feeding.{force, read-due}
 use Rattle.history.specs.Laws.Invariant.{Inv, given}
 use Rattle.history.specs.Laws.LedgerSteps.{sound}
 use Rattle.history.specs.Laws.Numbers.{differ}
-use Rattle.history.specs.Served.{isOpen, stateBy, stateOf, wasGiven}
 use Rattle.matching.specs.Laws.Expected.{expected-advances}
 use Rattle.matching.specs.Words.{Below, Word}
 
@@ -33,23 +36,27 @@ bytesTaken (F.Stale e) = 0
 bytesTaken F.Long = 0
 
 -- a ticket that the desk shows as open has a room and is of the edition in force
-open-has : (d : Desk) (s : Serial) → stateOf d s ≡ isOpen
+open-has : (d : Desk) (s : Serial) (e : Edition) (n : ℕ) → stateOf d s ≡ A.Open e n
     → (roomOf (d .tickets) s < 16) × (ticketIn (d .tickets) (roomOf (d .tickets) s) .edition .0 ≡ d .edition .0)
 unfolding stateOf
-open-has d s e = go (wasGiven d s) (ltb (roomOf (d .tickets) s) 16) refl (eqb (ticketIn (d .tickets) (roomOf (d .tickets) s) .edition .0) (d .edition .0)) refl e
+open-has d s e n =
+    go (ltb (roomOf (d .tickets) s) 16) refl (eqb (t .edition .0) (d .edition .0)) refl (isGiven s (d .serial))
   where
-    go : (a b : Bool) → ltb (roomOf (d .tickets) s) 16 ≡ b → (c : Bool) → eqb (ticketIn (d .tickets) (roomOf (d .tickets) s) .edition .0) (d .edition .0) ≡ c → stateBy a b c ≡ isOpen
-        → (roomOf (d .tickets) s < 16) × (ticketIn (d .tickets) (roomOf (d .tickets) s) .edition .0 ≡ d .edition .0)
-    go true true p true q z = (ltb-true _ _ p, eqb-true _ _ q)
-    go true true p false q z = differ cc
-    go true false p c q z = differ cc
-    go false b p c q z = differ cc
+    t : Ticket
+    t = ticketIn (d .tickets) (roomOf (d .tickets) s)
+
+    go : (a : Bool) → ltb (roomOf (d .tickets) s) 16 ≡ a → (b : Bool) → eqb (t .edition .0) (d .edition .0) ≡ b → (c : Bool) → stateBy (t .edition) (t .taken) a b c ≡ A.Open e n
+        → (roomOf (d .tickets) s < 16) × (t .edition .0 ≡ d .edition .0)
+    go true p true q c z = (ltb-true _ _ p, eqb-true _ _ q)
+    go true p false q c z = differ cc
+    go false p b q true z = differ cc
+    go false p b q false z = differ cc
 
 -- PROGRESS: no byte has more than 16 matches, and an empty list has room for 256
-pub progress : (acts : List Act) → AllBytes acts → (s : Serial) → stateOf (run start acts .desk) s ≡ isOpen → run start acts .desk .records .count ≡ 0
+pub progress : (acts : List Act) → AllBytes acts → (s : Serial) (e : Edition) (n : ℕ) → stateOf (run start acts .desk) s ≡ A.Open e n → run start acts .desk .records .count ≡ 0
     → (c : ℕ) (piece : Word) → Below 256 (c ∷ piece) → (feedOf (run start acts .desk) s (run start acts .table) (c ∷ piece) .answer ≡ F.Long → ⊥)
     → 0 < bytesTaken (feedOf (run start acts .desk) s (run start acts .table) (c ∷ piece) .answer)
-progress acts b s is-open empty c piece bytes not-long = go _ (feeds d s (w .table) (c ∷ piece)) refl
+progress acts b s e n is-open empty c piece bytes not-long = go _ (feeds d s (w .table) (c ∷ piece)) refl
   where
     w : World
     w = run start acts
@@ -61,7 +68,7 @@ progress acts b s is-open empty c piece bytes not-long = go _ (feeds d s (w .tab
     v = sound acts b .inv
 
     have : (roomOf (d .tickets) s < 16) × (ticketIn (d .tickets) (roomOf (d .tickets) s) .edition .0 ≡ d .edition .0)
-    have = open-has d s is-open
+    have = open-has d s e n is-open
 
     go : (r : Feeding) → Feeds d (roomOf (d .tickets) s) (w .table) (c ∷ piece) r → feedOf d s (w .table) (c ∷ piece) ≡ r → 0 < bytesTaken (r .answer)
     go r (feed-no-ticket h) q = absurd (omega (arith, h, have .0))
