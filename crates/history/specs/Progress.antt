@@ -2,23 +2,22 @@
 use Rattle.desk.specs.declared.FeedAnswer.the-variants as F
 use Rattle.desk.specs.declared.StateAnswer.the-variants as A
 use Prim.Native.Nat.{_-_, _<_, ℕ}
-use mathlib.Core.Bool.{Bool, false, true}
 use mathlib.Core.List.{List, _∷_}
-use mathlib.Core.Path.{_≡_, ap, refl}
+use mathlib.Core.Path.{_∙_, _≡_, ap, refl, sym}
 use native.Mathlib.Omega.{arith}
-use lib.Dec.{eqb, ltb}
 use lib.ListN.{length}
-use borrow.Author.Tests.{eqb-true, ltb-true}
 use Rattle.desk.specs.Feed.{feedOf}
 use Rattle.desk.specs.Laws.Good.{good, on-place}
 use Rattle.desk.specs.Laws.Views.{Feeds, feed-long, feed-no-place, feed-no-ticket, feed-other-slots, feed-read, feed-stale, feeds}
+use Rattle.desk.specs.Laws.Views.{States, state-closed, state-never, state-open, state-stale, states}
 use Rattle.desk.specs.Rooms.{roomOf, ticketIn}
-use Rattle.desk.specs.State.{isGiven, stateBy, stateOf}
+use Rattle.desk.specs.State.{stateOf}
 use Rattle.desk.specs.declared.Desk.{Desk}
 use Rattle.desk.specs.declared.Edition.{Edition}
 use Rattle.desk.specs.declared.FeedAnswer.{FeedAnswer}
 use Rattle.desk.specs.declared.Feeding.{Feeding}
 use Rattle.desk.specs.declared.Serial.{Serial}
+use Rattle.desk.specs.declared.StateAnswer.{StateAnswer}
 use Rattle.desk.specs.declared.Ticket.{Ticket}
 use Rattle.history.specs.History.{Act, AllBytes, World, accountAt, run, start}
 use Rattle.history.specs.Laws.Feeding.{force, read-due}
@@ -38,19 +37,13 @@ bytesTaken F.Long = 0
 -- a ticket that the desk shows as open has a room and is of the edition in force
 open-has : (d : Desk) (s : Serial) (e : Edition) (n : ℕ) → stateOf d s ≡ A.Open e n
     → (roomOf (d .tickets) s < 16) × (ticketIn (d .tickets) (roomOf (d .tickets) s) .edition .0 ≡ d .edition .0)
-unfolding stateOf
-open-has d s e n =
-    go (ltb (roomOf (d .tickets) s) 16) refl (eqb (t .edition .0) (d .edition .0)) refl (isGiven s (d .serial))
+open-has d s e n = go _ (states d s)
   where
-    t : Ticket
-    t = ticketIn (d .tickets) (roomOf (d .tickets) s)
-
-    go : (a : Bool) → ltb (roomOf (d .tickets) s) 16 ≡ a → (b : Bool) → eqb (t .edition .0) (d .edition .0) ≡ b → (c : Bool) → stateBy (t .edition) (t .taken) a b c ≡ A.Open e n
-        → (roomOf (d .tickets) s < 16) × (t .edition .0 ≡ d .edition .0)
-    go true p true q c z = (ltb-true _ _ p, eqb-true _ _ q)
-    go true p false q c z = differ cc
-    go false p b q true z = differ cc
-    go false p b q false z = differ cc
+    go : (a : StateAnswer) → States d s a → a ≡ A.Open e n → (roomOf (d .tickets) s < 16) × (ticketIn (d .tickets) (roomOf (d .tickets) s) .edition .0 ≡ d .edition .0)
+    go a (state-never h x) z = differ cc
+    go a (state-closed h x y) z = differ cc
+    go a (state-stale t q h x) z = differ cc
+    go a (state-open t q h x) z = (h, ap (λ (y : Ticket). y .edition .0) (sym q) ∙ x)
 
 -- PROGRESS: no byte has more than 16 matches, and an empty list has room for 256
 pub progress : (acts : List Act) → AllBytes acts → (s : Serial) (e : Edition) (n : ℕ) → stateOf (run start acts .desk) s ≡ A.Open e n → run start acts .desk .records .count ≡ 0
