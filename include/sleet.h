@@ -6,8 +6,8 @@
 
    Every function of the archive is proved to return, and to give the answer that its contract
    says, for every value of its arguments (crates/gateway/src/lib.rt). The archive has no state of
-   its own, takes no memory and calls nothing but memcpy and memset, so gates and desks in different
-   threads have nothing in common. docs/EMBEDDING.md leads through a first program.
+   its own, takes no memory and calls nothing but memcpy, memmove and memset, so gates and desks in
+   different threads have nothing in common. docs/EMBEDDING.md leads through a first program.
 
    WHICH CALL GIVES WHAT
    - To decide about approvals use the gate and nothing else: sleet_gateway_start, sleet_change,
@@ -27,6 +27,8 @@
      no elements, whatever its count says. Other pointers (to a gate, a desk, a place) aren't null.
    - Nobody else writes a lent run during the call. A run that the call writes overlaps no other run
      lent to it, and nobody else reads it meanwhile. Runs that are only read may overlap.
+   - A call wants less than 80 KiB of stack, its copies of the gate or desk included (measured, not
+     proved; a desk's calls want less than 56 KiB).
    - Histories: what is promised of a whole history of calls holds for a gateway that came from
      sleet_gateway_start and whose members only the calls below write; and for a desk that came from
      sleet_desk_new and the calls, and whose feeds are lent the table as the last accepted

@@ -1,5 +1,5 @@
 /* edges.c: what C can hand over and Rust can't. Null runs and empty ones; runs that end, or begin,
-   just where a page begins that nobody may touch; a stack of 64 KiB. Each answer is checked. */
+   just where a page begins that nobody may touch; a stack of 96 KiB. Each answer is checked. */
 #define _GNU_SOURCE
 #include <inttypes.h>
 #include <pthread.h>
@@ -286,7 +286,7 @@ int main(void)
 {
     pthread_attr_t small;
     pthread_t thread;
-    need("a small stack", pthread_attr_init(&small) == 0 && pthread_attr_setstacksize(&small, 65536) == 0);
+    need("a small stack", pthread_attr_init(&small) == 0 && pthread_attr_setstacksize(&small, 98304) == 0);
     need("a thread", pthread_create(&thread, &small, all, NULL) == 0 && pthread_join(thread, NULL) == 0);
     puts("edges: every answer as expected");
     return 0;

@@ -257,7 +257,7 @@ static void sets_of_all_lengths(void)
 {
     uint64_t seed = 88172645463325252u, accepted = 0;
     uint8_t tag[700];
-    for (int round = 0; round < 20000; round++) {
+    for (int round = 0; round < 6000; round++) {
         sleet_tags tags = sleet_tags_none();
         size_t count = (size_t)round % 24, longest = round % 7 == 0 ? 700 : 33, lawful = count > 0 && count <= 16;
         for (size_t i = 0; i < count; i++) {
@@ -274,7 +274,7 @@ static void sets_of_all_lengths(void)
         need("with every tag", said.tags == (lawful ? count : 0));
         accepted += lawful;
     }
-    need("both kinds were met", accepted > 1000 && accepted < 19000);
+    need("both kinds were met", accepted > 1000 && accepted < 5000);
 }
 
 int main(void)
