@@ -8,12 +8,11 @@ use native.Mathlib.Omega.{arith}
 use lib.Dec.{eqb, ltb}
 use lib.ListN.{length}
 use borrow.Author.Tests.{eqb-true, ltb-true}
-use Rattle.desk.specs.Feed.{feedOf}
+use Rattle.desk.specs.Feed.{feedOf, takenBy}
 use Rattle.desk.specs.Laws.Good.{good, on-place}
 use Rattle.desk.specs.Laws.Views.{Feeds, feed-long, feed-no-place, feed-no-ticket, feed-other-slots, feed-read, feed-stale, feeds}
 use Rattle.desk.specs.Rooms.{roomOf, ticketIn}
 use Rattle.desk.specs.declared.Desk.{Desk}
-use Rattle.desk.specs.declared.FeedAnswer.{FeedAnswer}
 use Rattle.desk.specs.declared.Feeding.{Feeding}
 use Rattle.desk.specs.declared.Serial.{Serial}
 use Rattle.history.specs.History.{Act, AllBytes, World, accountAt, run, start}
@@ -24,13 +23,6 @@ use Rattle.history.specs.Laws.Numbers.{differ}
 use Rattle.history.specs.Served.{isOpen, stateBy, stateOf, wasGiven}
 use Rattle.matching.specs.Laws.Expected.{expected-advances}
 use Rattle.matching.specs.Words.{Below, Word}
-
--- the bytes that a feed took
-abbrev pub bytesTaken : FeedAnswer → ℕ
-bytesTaken (F.Fed count records stop) = count
-bytesTaken F.NoTicket = 0
-bytesTaken (F.Stale e) = 0
-bytesTaken F.Long = 0
 
 -- a ticket that the desk shows as open has a room and is of the edition in force
 open-has : (d : Desk) (s : Serial) → stateOf d s ≡ isOpen
@@ -48,7 +40,7 @@ open-has d s e = go (wasGiven d s) (ltb (roomOf (d .tickets) s) 16) refl (eqb (t
 -- PROGRESS: no byte has more than 16 matches, and an empty list has room for 256
 pub progress : (acts : List Act) → AllBytes acts → (s : Serial) → stateOf (run start acts .desk) s ≡ isOpen → run start acts .desk .records .count ≡ 0
     → (c : ℕ) (piece : Word) → Below 256 (c ∷ piece) → (feedOf (run start acts .desk) s (run start acts .table) (c ∷ piece) .answer ≡ F.Long → ⊥)
-    → 0 < bytesTaken (feedOf (run start acts .desk) s (run start acts .table) (c ∷ piece) .answer)
+    → 0 < takenBy (feedOf (run start acts .desk) s (run start acts .table) (c ∷ piece) .answer)
 progress acts b s is-open empty c piece bytes not-long = go _ (feeds d s (w .table) (c ∷ piece)) refl
   where
     w : World
@@ -63,7 +55,7 @@ progress acts b s is-open empty c piece bytes not-long = go _ (feeds d s (w .tab
     have : (roomOf (d .tickets) s < 16) × (ticketIn (d .tickets) (roomOf (d .tickets) s) .edition .0 ≡ d .edition .0)
     have = open-has d s is-open
 
-    go : (r : Feeding) → Feeds d (roomOf (d .tickets) s) (w .table) (c ∷ piece) r → feedOf d s (w .table) (c ∷ piece) ≡ r → 0 < bytesTaken (r .answer)
+    go : (r : Feeding) → Feeds d (roomOf (d .tickets) s) (w .table) (c ∷ piece) r → feedOf d s (w .table) (c ∷ piece) ≡ r → 0 < takenBy (r .answer)
     go r (feed-no-ticket h) q = absurd (omega (arith, h, have .0))
     go r (feed-stale h e) q = absurd (e (have .1))
     go r (feed-other-slots h e n) q = let g = given w v s h in absurd (n (force w v s (g .0) (g .1) (g .2) h e .slots-are))
