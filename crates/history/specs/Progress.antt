@@ -37,11 +37,13 @@ open-has d s e = go (wasGiven d s) (ltb (roomOf (d .tickets) s) 16) refl (eqb (t
     go true false p c q z = differ cc
     go false b p c q z = differ cc
 
--- PROGRESS: no byte has more than 16 matches, and an empty list has room for 256
-pub progress : (acts : List Act) → AllBytes acts → (s : Serial) → stateOf (run start acts .desk) s ≡ isOpen → run start acts .desk .records .count ≡ 0
+-- no byte has more than 16 matches, and an empty list has room for 256
+pub advances : (acts : List Act) → AllBytes acts → (s : Serial) → roomOf (run start acts .desk .tickets) s < 16
+    → ticketIn (run start acts .desk .tickets) (roomOf (run start acts .desk .tickets) s) .edition .0 ≡ run start acts .desk .edition .0
+    → run start acts .desk .records .count ≡ 0
     → (c : ℕ) (piece : Word) → Below 256 (c ∷ piece) → (feedOf (run start acts .desk) s (run start acts .table) (c ∷ piece) .answer ≡ F.Long → ⊥)
     → 0 < takenBy (feedOf (run start acts .desk) s (run start acts .table) (c ∷ piece) .answer)
-progress acts b s is-open empty c piece bytes not-long = go _ (feeds d s (w .table) (c ∷ piece)) refl
+advances acts b s room current empty c piece bytes not-long = go _ (feeds d s (w .table) (c ∷ piece)) refl
   where
     w : World
     w = run start acts
@@ -52,12 +54,9 @@ progress acts b s is-open empty c piece bytes not-long = go _ (feeds d s (w .tab
     v : Inv w
     v = sound acts b .inv
 
-    have : (roomOf (d .tickets) s < 16) × (ticketIn (d .tickets) (roomOf (d .tickets) s) .edition .0 ≡ d .edition .0)
-    have = open-has d s is-open
-
     go : (r : Feeding) → Feeds d (roomOf (d .tickets) s) (w .table) (c ∷ piece) r → feedOf d s (w .table) (c ∷ piece) ≡ r → 0 < takenBy (r .answer)
-    go r (feed-no-ticket h) q = absurd (omega (arith, h, have .0))
-    go r (feed-stale h e) q = absurd (e (have .1))
+    go r (feed-no-ticket h) q = absurd (omega (arith, h, room))
+    go r (feed-stale h e) q = absurd (e current)
     go r (feed-other-slots h e n) q = let g = given w v s h in absurd (n (force w v s (g .0) (g .1) (g .2) h e .slots-are))
     go r (feed-long h e l m) q = absurd (not-long (ap (λ (x : Feeding). x .answer) q))
     go r (feed-no-place h e l m n) q = absurd (on-place d s (w .table) (good (v .reached)) h e l n)
@@ -66,3 +65,9 @@ progress acts b s is-open empty c piece bytes not-long = go _ (feeds d s (w .tab
         let a = accountAt w (g .0) in
         rw (read-due w v s (g .0) (g .1) (g .2) h e (c ∷ piece) bytes)
         (expected-advances 1 8 (a .tags) c piece (a .bytes) (length (a .bytes)) (256 - d .records .count) (omega (arith, v .kept (g .0) (g .1) .lawful .few, empty)))
+
+-- PROGRESS
+pub progress : (acts : List Act) → AllBytes acts → (s : Serial) → stateOf (run start acts .desk) s ≡ isOpen → run start acts .desk .records .count ≡ 0
+    → (c : ℕ) (piece : Word) → Below 256 (c ∷ piece) → (feedOf (run start acts .desk) s (run start acts .table) (c ∷ piece) .answer ≡ F.Long → ⊥)
+    → 0 < takenBy (feedOf (run start acts .desk) s (run start acts .table) (c ∷ piece) .answer)
+progress acts b s is-open = let have = open-has (run start acts .desk) s is-open in advances acts b s (have .0) (have .1)
