@@ -25,6 +25,8 @@
    - A run is lent as a pointer and a count of elements. The pointer is aligned for its element, and
      so many elements can be read there (written too, where it isn't const). Null counts as a run of
      no elements, whatever its count says. Other pointers (to a gate, a desk, a place) aren't null.
+   - A gateway or a desk is in one call at a time: threads that share one need a lock around each
+     call.
    - Nobody else writes a lent run during the call. A run that the call writes overlaps no other run
      lent to it, and nobody else reads it meanwhile. Runs that are only read may overlap.
    - A call wants less than 80 KiB of stack, its copies of the gate or desk included (measured, not
@@ -427,7 +429,7 @@ typedef struct sleet_decided {
     uint32_t edition; /* TOO_OLD: that under which it began */
 } sleet_decided;
 
-/* Makes it a new one: edition 0, no set, no approval. */
+/* Makes it a new one: edition 0, no set, no approval. One of zeros, as a static one is, is new too. */
 static inline void sleet_gateway_start(sleet_gateway *gateway)
 {
     gateway->gate = sleet_gate_new();
