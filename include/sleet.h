@@ -24,7 +24,8 @@
    WHAT A CALLER KEEPS
    - A run is lent as a pointer and a count of elements. The pointer is aligned for its element, and
      so many elements can be read there (written too, where it isn't const). Null counts as a run of
-     no elements, whatever its count says. Other pointers (to a gate, a desk, a place) aren't null.
+     no elements, whatever its count says (but see sleet_piece). Other pointers (to a gate, a desk, a
+     place) aren't null.
    - A gateway or a desk is in one call at a time: threads that share one need a lock around each
      call.
    - Nobody else writes a lent run during the call. A run that the call writes overlaps no other run
@@ -333,6 +334,8 @@ static inline void sleet_put_head(uint8_t *entry, size_t tag_length)
 SLEET_LOOK static inline int sleet_tags_add(sleet_tags *tags, const void *tag, size_t tag_length)
 {
     size_t room = tags->length > sizeof tags->bytes ? 0 : sizeof tags->bytes - tags->length;
+    if (!tag && tag_length > 0)
+        tag_length = SIZE_MAX; /* a tag that nobody can read is refused as too long */
     size_t wanted = tag_length > sizeof tags->bytes ? sizeof tags->bytes + 1 : SLEET_TAG_HEAD + tag_length;
     if (room < SLEET_TAG_HEAD)
         return 0; /* more than 576 bytes are written, which no lawful set has */
@@ -360,7 +363,7 @@ SLEET_LOOK static inline sleet_added sleet_set_add(uint8_t *set, size_t set_room
 {
     sleet_added said = {0, set_length};
     size_t room = set_room < set_length ? 0 : set_room - set_length;
-    if (tag_length > 65535 || room < SLEET_TAG_HEAD || room - SLEET_TAG_HEAD < tag_length)
+    if (tag_length > 65535 || room < SLEET_TAG_HEAD || room - SLEET_TAG_HEAD < tag_length || (!tag && tag_length > 0))
         return said;
     sleet_put_head(set + set_length, tag_length);
     if (tag_length > 0)
@@ -458,12 +461,15 @@ SLEET_LOOK static inline sleet_begun sleet_begin(sleet_gateway *gateway)
 }
 
 /* The next piece of an approval, of any length; a tag may lie across pieces. Refused: NO_TICKET,
-   STALE. What it answers need not be looked at: the decision knows it too. */
+   STALE. What it answers need not be looked at: the decision knows it too. Null with a length above
+   0 is a piece that nobody can read: none of it is taken, so the approval can't pass. */
 static inline sleet_pieced sleet_piece(sleet_gateway *gateway, uint32_t serial, const uint8_t *piece,
                                        size_t piece_length)
 {
-    size_t length = SLEET_COUNT(piece, piece_length);
-    sleet_gate_reply r = sleet_gate_piece(gateway->gate, serial, gateway->table, SLEET_SPLIT_TABLE,
+    /* over a table of no numbers, which is never that of the replacement, no byte is taken */
+    size_t lent = piece || piece_length == 0 ? SLEET_SPLIT_TABLE : 0;
+    size_t length = piece || piece_length == 0 ? piece_length : 1;
+    sleet_gate_reply r = sleet_gate_piece(gateway->gate, serial, gateway->table, lent,
                                           SLEET_AT(const uint8_t, piece), length);
     sleet_pieced said = {r.answer.refusal, 0, 0, sleet_stale_edition(r.answer)};
     gateway->gate = r.gate;

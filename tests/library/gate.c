@@ -159,7 +159,7 @@ static void across_a_cut(void)
         uint32_t one = begun(), other = begun();
         need("its front", sleet_piece(&g, one, (const uint8_t *)text, cut).whole);
         hand(other, "K-10");
-        need("null is an empty piece", sleet_piece(&g, one, NULL, 9).whole);
+        need("null with no length is an empty piece", sleet_piece(&g, one, NULL, 0).whole);
         hand(one, text + cut);
         verdict("held wherever it is cut", one, SLEET_HOLD, 2, 0);
         verdict("the other has no part of it", other, SLEET_PASS, 0, 0);
@@ -213,7 +213,10 @@ static void cut_pieces(void)
     static uint16_t kept[SLEET_SPLIT_TABLE];
     sleet_gateway_start(&g);
     in_force("he");
-    uint32_t one = begun(), other = begun(), tagged = begun(), longest = begun();
+    uint32_t one = begun(), other = begun(), tagged = begun(), longest = begun(), lost = begun();
+    need("nobody can read it", !sleet_piece(&g, lost, NULL, 9).whole);
+    hand(lost, "us");
+    verdict("what nobody could read can't pass", lost, SLEET_UNREAD, 0, 0);
     hand(tagged, "he");
     memcpy(kept, g.table, sizeof kept);
     memset(g.table, 255, sizeof g.table);
