@@ -24,7 +24,10 @@
    WHAT A CALLER KEEPS
    - A run is lent as a pointer and a count of elements. The pointer is aligned for its element, and
      so many elements can be read there (written too, where it isn't const). Null counts as a run of
-     no elements, whatever its count says (but see sleet_piece). Other pointers (to a gate, a desk, a place) aren't null.
+     no elements, whatever its count says (but see sleet_piece). Other pointers (to a gate, a desk, a
+     place) aren't null.
+   - A gateway or a desk is in one call at a time: threads that share one need a lock around each
+     call.
    - Nobody else writes a lent run during the call. A run that the call writes overlaps no other run
      lent to it, and nobody else reads it meanwhile. Runs that are only read may overlap.
    - A call wants less than 80 KiB of stack, its copies of the gate or desk included (measured, not
@@ -140,9 +143,9 @@ enum {
 /* Names as the documents write them: CUT to NOTHING, ALL to DAMAGED, PASS to UNREAD. */
 static inline const char *sleet_refusal_name(uint64_t refusal)
 {
-    static const char *const names[] = {"accepted", "CUT",   "MANY",   "KIND",      "LENGTH", "EMPTY",
-                                        "REPEAT",   "TABLE", "EDITION", "NO SET",   "SERIAL", "NO ROOM",
-                                        "NO TICKET", "STALE", "LONG",   "PLACE",    "NOTHING"};
+    static const char *const names[] = {
+        "accepted", "CUT",    "MANY",    "KIND",      "LENGTH", "EMPTY", "REPEAT", "TABLE",  "EDITION",
+        "NO SET",   "SERIAL", "NO ROOM", "NO TICKET", "STALE",  "LONG",  "PLACE",  "NOTHING"};
     return refusal <= SLEET_REFUSED_NOTHING ? names[refusal] : "unknown";
 }
 
@@ -429,7 +432,7 @@ typedef struct sleet_decided {
     uint32_t edition; /* TOO_OLD: that under which it began */
 } sleet_decided;
 
-/* Makes it a new one: edition 0, no set, no approval. */
+/* Makes it a new one: edition 0, no set, no approval. One of zeros, as a static one is, is new too. */
 static inline void sleet_gateway_start(sleet_gateway *gateway)
 {
     gateway->gate = sleet_gate_new();

@@ -11,6 +11,7 @@ export CARGO_TARGET_DIR="$PWD/target/rust"
 built=$CARGO_TARGET_DIR/$RELEASE
 compare=$CARGO_TARGET_DIR/release/compare
 scripts=${SCRIPTS:-100}
+histories=${HISTORIES:-10000}
 note() { printf -- '-- %s\n' "$1"; }
 same() { diff "$1" - >&2 || { echo "library.sh: $2 wrote something else than $1" >&2; exit 1; }; }
 
@@ -83,8 +84,17 @@ grep -q 'Run ./library' <<<"$said"
 note 'docs/EMBEDDING.md, followed as a new user would'
 env -u CARGO_TARGET_DIR SLEETBARLEY="$PWD" tests/library/follow.sh docs/EMBEDDING.md
 
-note "generated scripts: the library's answers and the second program's"
+note "generated histories of a gate: the library's answers in C and in Rust, and those of plain search"
 native cargo build --quiet --release --manifest-path second/Cargo.toml
+"$CC" -std=c11 -O2 $warnings -I "$out/include" tests/library/histories.c "$out/lib/libsleet.a" -o "$out/histories"
+"$CARGO_TARGET_DIR/release/histories" 1 "$histories" >"$out/histories.txt"
+"$CARGO_TARGET_DIR/release/histories" 1 "$histories" --answers >"$out/histories.answers"
+for program in "$out/histories" "$built/examples/histories"; do
+  $RUN "$program" <"$out/histories.txt" | same "$out/histories.answers" "$program"
+done
+echo "$histories histories, $(wc -l <"$out/histories.answers") calls: no difference"
+
+note "generated scripts: the library's answers and the second program's"
 cargo test --quiet --release --manifest-path tests/library/replay/Cargo.toml
 cargo build --quiet --release --manifest-path tests/library/replay/Cargo.toml
 cd "$out"

@@ -69,9 +69,13 @@ static void new_gate(void)
     need("nothing begins without a set", said.refusal == SLEET_REFUSED_NO_SET && said.serial == 0);
     no_ticket("serial 0 is nobody's", 0);
     no_ticket("serial 1 isn't given yet", 1);
-    sleet_decided zeros;
-    memset(&zeros, 0, sizeof zeros);
+    static const sleet_decided zeros;
     need("zeros are no Pass", zeros.verdict != SLEET_PASS);
+    memset(&g, 0, sizeof g);
+    need("a gateway of zeros is a new one", sleet_begin(&g).refusal == SLEET_REFUSED_NO_SET && in_force("he") == 1);
+    uint32_t first = begun();
+    hand(first, "she");
+    verdict("it begins with serial 1", 1, SLEET_HOLD, 1, 0);
 }
 
 /* The set is replaced between the last piece and the decision, and withdraws what it carries. */
