@@ -2,6 +2,7 @@
 mod agreement;
 #[cfg(aho_corasick)]
 mod aho_corasick_peer;
+mod at_the_gate;
 mod building;
 mod calls;
 mod chart;
@@ -41,6 +42,7 @@ use std::process::ExitCode;
 const USAGE: &str = "speed FOLDER: measure all, and write table.md, figures.csv and chart.svg into FOLDER
 speed quick FOLDER: check that all engines give the same records, on short inputs, and judge no figure
 speed wrong FOLDER: the same with a wrong engine among them, on which it must stop
+speed gate FOLDER: the gate's calls beside the desk's, and write gate.md into FOLDER
 speed counts FOLDER: count instructions and loads by valgrind, and write counts.md into FOLDER";
 
 fn main() -> ExitCode {
@@ -57,6 +59,9 @@ fn main() -> ExitCode {
         ),
         ["counts", folder] => {
             counts::table().and_then(|table| write(Path::new(folder), "counts.md", &table))
+        }
+        ["gate", folder] => {
+            at_the_gate::table().and_then(|table| write(Path::new(folder), "gate.md", &table))
         }
         ["walk", engine, kind, passes] => counts::walk(engine, kind, passes),
         [folder] => measure(&Plan::full(), Path::new(folder)),
