@@ -8,8 +8,8 @@
 mod desk_calls;
 mod odd;
 mod outside_calls;
-mod pieces;
-mod sets;
+pub(crate) mod pieces;
+pub(crate) mod sets;
 
 use crate::machine::Machine;
 use crate::replay::Replay;
@@ -87,7 +87,7 @@ impl Generator {
         let mut menu: Vec<Action> = vec![Generator::feed];
         for (share, action) in ACTIONS {
             let times = share * self.rng.below(3);
-            menu.extend(std::iter::repeat_n(*action, times));
+            menu.extend(std::iter::repeat(*action).take(times));
         }
         menu
     }

@@ -14,6 +14,7 @@ use Rattle.desk.specs.declared.Serial.{Serial}
 use Rattle.desk.specs.declared.Ticket.{Ticket}
 use Rattle.desk.specs.declared.Desk.{Desk}
 use Rattle.desk.specs.declared.Feeding.{Feeding}
+use Rattle.desk.specs.declared.FeedAnswer.{FeedAnswer}
 use Rattle.desk.specs.declared.FeedAnswer.the-variants as F
 
 -- the reading of a piece for a ticket, into the room that the list has left
@@ -64,3 +65,10 @@ feedIn d i table piece =
 
 unfoldable pub feedOf : Desk → Serial → List ℕ → Word → Feeding
 feedOf d s table piece = feedIn d (roomOf (d .tickets) s) table piece
+
+-- the bytes that a feed took; none where it was refused
+abbrev pub takenBy : FeedAnswer → ℕ
+takenBy (F.Fed count records stop) = count
+takenBy F.NoTicket = 0
+takenBy (F.Stale edition) = 0
+takenBy F.Long = 0

@@ -5,3 +5,4 @@ pub mod Shared
 pub mod Views
 pub mod Good
 pub mod TakeMany
+pub mod Pieces

@@ -5,6 +5,7 @@ pub mod Accounts
 pub mod Seats
 pub mod Invariant
 pub mod Taking
+pub mod Takings
 pub mod Opening
 pub mod Closing
 pub mod Replacing

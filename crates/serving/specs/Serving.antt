@@ -4,22 +4,13 @@ use mathlib.Core.List.{List, [], _∷_, _++_}
 use mathlib.Core.Path.{_≡_}
 use lib.ListN.{drop, length, take}
 use Rattle.desk.specs.declared.Desk.{Desk}
-use Rattle.desk.specs.declared.FeedAnswer.{FeedAnswer}
-use Rattle.desk.specs.declared.FeedAnswer.the-variants as F
 use Rattle.desk.specs.declared.Serial.{Serial}
-use Rattle.desk.specs.Feed.{feedOf}
+use Rattle.desk.specs.Feed.{feedOf, takenBy}
 use Rattle.desk.specs.TakeMany.{manyOf, oldest, takeManyOf}
 use Rattle.matching.specs.Words.{Word}
 use Rattle.writing.specs.Buffer.{Buffer, Puts}
 use Rattle.serving.specs.Lines.{linesOf}
 use Rattle.serving.specs.declared.Fed.{Fed}
-
--- the bytes that a feed took; none where it was refused
-abbrev pub takenBy : FeedAnswer → ℕ
-takenBy (F.Fed count records stop) = count
-takenBy F.NoTicket = 0
-takenBy (F.Stale edition) = 0
-takenBy F.Long = 0
 
 module _ (s : Serial) (table : List ℕ) (d : Desk) (rest : Word) where
   -- one feed of what is left of a piece, and the taking of every record: the bytes taken, the lines of the records, and the desk then.

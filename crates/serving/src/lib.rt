@@ -2,41 +2,18 @@
 pub mod lines;
 
 use desk::Desk;
-use desk::FeedAnswer;
 use desk::Serial;
+use desk::pieces::new_list;
+use desk::pieces::taken_by;
 ghost use mathlib.Core.Path.{_≡_};
-ghost use lib.ListN.{length};
 ghost use Rattle.writing.specs.Buffer.{buffer};
-ghost use Rattle.serving.specs.Serving.{takenBy, FeedsRest, FeedsPiece};
+ghost use Rattle.serving.specs.Serving.{FeedsRest, FeedsPiece};
 
 // The desk and the bytes that wait after a step, and what it took.
 pub struct Fed {
     pub desk: Desk,
     pub used: usize,
     pub taken: usize,
-}
-
-// A list for all records that a desk can hold, four numbers each.
-fn new_list() -> [u32; 1024]
-    ensures { λ r. ⌜ 1024 ≡ length r ⌝ }
-{
-    [0u32; 1024]
-}
-
-// The bytes that a feed took; none where it was refused.
-fn taken_by(answer: FeedAnswer) -> usize
-    ensures { λ r. ⌜ r ≡ takenBy answer ⌝ }
-{
-    match answer {
-        FeedAnswer::Fed {
-            taken,
-            records: _,
-            stop: _,
-        } => taken,
-        FeedAnswer::NoTicket => 0,
-        FeedAnswer::Stale(_) => 0,
-        FeedAnswer::Long => 0,
-    }
 }
 
 // One feed of what is left of a piece; then every record is taken and written.

@@ -10,6 +10,7 @@ use lib.ListN.{drop, getD, length, length-append, length-drop, take}
 use lib.Seq.{length-take-le, take-all}
 use Rattle.desk.specs.Calls.{newDesk, openOf}
 use Rattle.desk.specs.Feed.{feedOf}
+use Rattle.desk.specs.Laws.Pieces.{fed-at-most}
 use Rattle.desk.specs.Laws.Views.{Feeds, feed-long, feed-no-place, feed-no-ticket, feed-other-slots, feed-read, feed-stale, feeds}
 use Rattle.desk.specs.Replace.{replaceOf, replacedRun}
 use Rattle.desk.specs.Rooms.{editionOf, roomOf, serialOf}
@@ -25,22 +26,16 @@ use Rattle.history.specs.Laws.Feeding.{agrees}
 use Rattle.history.specs.Laws.Invariant.{Inv}
 use Rattle.history.specs.Laws.LedgerSteps.{sound}
 use Rattle.history.specs.Laws.States.{state-is, stateOfAccount}
-use Rattle.history.specs.Progress.{bytesTaken, progress}
+use Rattle.history.specs.Laws.Takings.{below-rest, bytes-append}
+use Rattle.history.specs.Progress.{progress}
 use Rattle.history.specs.Served.{joined}
 use Rattle.matching.specs.Occurrence.{occurrences}
 use Rattle.matching.specs.Words.{AllBelow, Below, Word}
-use Rattle.serving.specs.Laws.Serving.{fed-at-most}
 use Rattle.serving.specs.Lines.{linesOf}
-use Rattle.serving.specs.Serving.{Served, ServedAll, all-taken, no-piece, none-taken, one-piece, restTaken, some-taken, takenBy}
+use Rattle.serving.specs.Serving.{Served, ServedAll, all-taken, no-piece, none-taken, one-piece, restTaken, some-taken}
 use Rattle.tagset.specs.Grammar.{goodSet, setOf}
-use Rattle.written.specs.Laws.Acts.{Comes, below-rest, bytes-append, rest-comes-by, served-comes}
+use Rattle.written.specs.Laws.Acts.{Comes, rest-comes-by, served-comes}
 use Rattle.written.specs.Occurrences.{Begun, accountOf, begun, writes-the-occurrences}
-
-same-taken : (a : FeedAnswer) → bytesTaken a ≡ takenBy a
-same-taken (F.Fed taken records stop) = refl
-same-taken F.NoTicket = refl
-same-taken (F.Stale e) = refl
-same-taken F.Long = refl
 
 -- a history in which the one ticket is open and has taken these bytes, and no record is held
 pub record Ready (ts : List Word) (before : Word) (acts : List Act) : Type 0 where
@@ -79,8 +74,7 @@ module _ {ts : List Word} {before : Word} {acts : List Act} (ready : Ready ts be
 
   some-bytes : (c : ℕ) (piece : Word) → Below 256 (c ∷ piece) → length before + length (c ∷ piece) ≤ 4294967295 → 0 < restTaken (serialOf 1) (w .table) (w .desk) (c ∷ piece)
   some-bytes c piece below few =
-      subst (λ (n : ℕ). 0 < n) (same-taken (feedOf (w .desk) (serialOf 1) (w .table) (c ∷ piece) .answer))
-      (progress acts (ready .bytes) (serialOf 1) (editionOf 1) (length before) ticket-open (ready .empty) c piece below (not-long (c ∷ piece) few))
+      progress acts (ready .bytes) (serialOf 1) (editionOf 1) (length before) ticket-open (ready .empty) c piece below (not-long (c ∷ piece) few)
 
   -- after a history that goes on from there
   ready-on : {taken : Word} {e : Desk} {lines : List ℕ} (c : Comes w (serialOf 1) taken e lines) → Ready ts (before ++ taken) (acts ++ c .acts)

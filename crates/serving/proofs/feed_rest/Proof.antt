@@ -1,4 +1,5 @@
-use Rattle.serving.specs.Laws.Serving.{at-most-held, rest-fed}
+use Rattle.desk.specs.Laws.Pieces.{at-most-held}
+use Rattle.serving.specs.Laws.Serving.{rest-fed}
 use borrow.Author.Needs.{needs}
 use Rattle.serving.proofs.feed_rest.Statement.{statement}
 use Rattle.serving.proofs.feed_rest.Tie as tie

@@ -1,19 +1,16 @@
--- A feed takes no more than it is given; a piece is served in one way.
+-- A piece is served in one way.
 use Prim.Native.Nat.{ℕ, _+_, _*_, _-_, _<_, _≤_}
 use mathlib.Core.List.{List, [], _++_, append-assoc}
 use mathlib.Core.Path.{_≡_, _∙_, refl, sym, ap, subst}
-use native.Mathlib.Nat.{zero-add, add-zero, add-assoc, min-le-right}
+use native.Mathlib.Nat.{zero-add, add-zero, add-assoc}
 use native.Mathlib.Omega.{arith}
 use lib.ListN.{take, drop, length, length-drop, drop-of-length-le}
 use lib.Seq.{drop-drop, take-all}
 use Rattle.desk.specs.declared.Desk.{Desk}
 use Rattle.desk.specs.declared.Feeding.{Feeding}
 use Rattle.desk.specs.declared.Serial.{Serial}
-use Rattle.desk.specs.Feed.{feedOf}
-use Rattle.desk.specs.Laws.Views.{Feeds, feeds, feed-no-ticket, feed-stale, feed-other-slots, feed-long, feed-no-place, feed-read}
-use Rattle.desk.specs.Rooms.{ticketIn, roomOf}
-use Rattle.matching.specs.Laws.AnyTable.{read-kept}
-use Rattle.matching.specs.Table.{slotsIn}
+use Rattle.desk.specs.Feed.{feedOf, takenBy}
+use Rattle.desk.specs.Laws.Pieces.{fed-at-most}
 use Rattle.matching.specs.Words.{Word}
 use Rattle.desk.specs.TakeMany.{listTaken, manyOf, oldest, takeManyOf}
 use Rattle.desk.specs.declared.TakingMany.{TakingMany}
@@ -21,24 +18,8 @@ use Rattle.serving.specs.Laws.Lines.{numbered-lines}
 use Rattle.serving.specs.Lines.{linesOf, recordLines}
 use Rattle.writing.specs.Buffer.{Buffer, Puts}
 use Rattle.writing.specs.Laws.Waiting.{put-none, put-then}
-use Rattle.serving.specs.Serving.{FeedsPiece, FeedsRest, Served, all-taken, none-taken, restDesk, restLines, restTaken, some-taken, takenBy}
+use Rattle.serving.specs.Serving.{FeedsPiece, FeedsRest, Served, all-taken, none-taken, restDesk, restLines, restTaken, some-taken}
 use Rattle.serving.specs.declared.Fed.{Fed}
-
-pub fed-at-most : (d : Desk) (s : Serial) (table : List ℕ) (piece : Word) → takenBy (feedOf d s table piece .answer) ≤ length piece
-fed-at-most d s table piece = go (roomOf (d .tickets) s) _ (feeds d s table piece)
-  where
-    go : (i : ℕ) (r : Feeding) → Feeds d i table piece r → takenBy (r .answer) ≤ length piece
-    go i r (feed-no-ticket a) = omega arith
-    go i r (feed-stale a b) = omega arith
-    go i r (feed-other-slots a b e) = omega arith
-    go i r (feed-long a b e f) = omega arith
-    go i r (feed-no-place a b e f g) = omega arith
-    go i r (feed-read a b e f) = read-kept 1 (slotsIn 1 8 (length table)) table (ticketIn (d .tickets) i .place) (ticketIn (d .tickets) i .taken) _ piece .part
-
--- a list of 1,024 numbers has room for 256 records
-pub at-most-held : (d : Desk) (t : TakingMany) (list : List ℕ) → 1024 ≡ length list → t ≡ takeManyOf d (length list) → t .count ≤ 256
-unfolding takeManyOf
-at-most-held d t list h e = rw (e, ← h) (min-le-right (d .records .count) 256)
 
 -- the parts of a feed of what is left, together
 pub rest-fed : (s : Serial) (table : List ℕ) (d : Desk) (rest : Word) (before after : Buffer) (f : Feeding) (t : TakingMany) (list filled : List ℕ) (used count : ℕ)

@@ -30,7 +30,7 @@ fn answer(desk: &mut Desk, set: &mut Vec<u8>, call: Call) -> Result<Vec<String>,
             format!("set {}", set.len())
         }
         Call::Replace => {
-            let now = desk.replace(&set)?;
+            let now = desk.replace_bytes(set)?;
             format!("edition {} tags {}", now.edition, now.tags)
         }
         Call::Open => format!("serial {}", desk.open()?),

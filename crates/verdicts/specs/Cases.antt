@@ -1,0 +1,59 @@
+-- When each answer of `decide` is given.
+use Rattle.gate.specs.declared.Verdict.the-variants as Q
+use Prim.Native.Nat.{ℕ}
+use mathlib.Core.Bool.{false}
+use mathlib.Core.Logic.{_↔_}
+use mathlib.Core.Path.{_≡_}
+use Rattle.desk.specs.declared.Edition.{Edition}
+use Rattle.desk.specs.declared.Serial.{Serial}
+use Rattle.gate.specs.declared.Verdict.{Verdict}
+use Rattle.history.specs.Verdict.{EndsAt}
+use Rattle.matching.specs.Tags.{Tags}
+use Rattle.matching.specs.Words.{Word}
+use Rattle.verdicts.specs.GateHistory.{GateWorld, NotReplaced, Readable, Replaced, Undecided, approvalAt}
+use Rattle.verdicts.specs.Mask.{maskOf}
+
+-- no tag ends anywhere in the bytes
+abbrev pub Clean : Tags → Word → Type 0
+Clean tags bytes = (i e : ℕ) → EndsAt tags bytes i e → ⊥
+
+module _ (w : GateWorld) (s : Serial) where
+  -- there is no undecided approval of the serial
+  abbrev pub IsNone : Type 0
+  IsNone = (k : ℕ) → Undecided w s k → ⊥
+
+  -- there is one, and a replacement was accepted since it began; its edition is the count of those accepted before
+  abbrev pub IsStale : Edition → Type 0
+  IsStale e = (k : ℕ) × Undecided w s k × Replaced w k × (e .0 ≡ approvalAt w k .accepted)
+
+  -- there is one, none was accepted since it began, and not every byte handed in was taken
+  abbrev pub IsUnread : Type 0
+  IsUnread = (k : ℕ) × Undecided w s k × NotReplaced w k × (approvalAt w k .whole ≡ false)
+
+  -- there is one, none was accepted since it began, and every byte handed in was taken
+  abbrev pub IsRead : Type 0
+  IsRead = (k : ℕ) × Readable w s k
+
+  -- and no tag of the set in force ends anywhere in the bytes handed in
+  abbrev pub IsClean : Type 0
+  IsClean = (k : ℕ) × Readable w s k × Clean (w .tags) (approvalAt w k .handed)
+
+  -- or some do, and this is their mask
+  abbrev pub IsTagged : ℕ → Type 0
+  IsTagged mask = (k : ℕ) × Readable w s k × (mask ≡ maskOf (w .tags) (approvalAt w k .handed)) × (mask ≡ 0 → ⊥)
+
+  -- whatever tables the pieces were lent
+  pub record OverAnyTables (answer : Verdict) : Type 0 where
+    pub none : (answer ≡ Q.NoTicket) ↔ IsNone
+    pub stale : (e : Edition) → (answer ≡ Q.Stale e) ↔ IsStale e
+    pub unread : (answer ≡ Q.Unread) ↔ IsUnread
+    pub pass : answer ≡ Q.Pass → IsRead
+    pub hold : (mask : ℕ) → answer ≡ Q.Hold mask → IsRead
+
+  -- over tables as left
+  pub record Exactly (answer : Verdict) : Type 0 where
+    pub none : (answer ≡ Q.NoTicket) ↔ IsNone
+    pub stale : (e : Edition) → (answer ≡ Q.Stale e) ↔ IsStale e
+    pub unread : (answer ≡ Q.Unread) ↔ IsUnread
+    pub pass : (answer ≡ Q.Pass) ↔ IsClean
+    pub hold : (mask : ℕ) → (answer ≡ Q.Hold mask) ↔ IsTagged mask

@@ -1,0 +1,382 @@
+-- What holds after every history of the gate's calls, whatever tables the pieces were lent.
+use Rattle.desk.specs.declared.ReplaceAnswer.the-variants as R
+use Prim.Native.Nat.{ℕ, zero, suc, _+_, _<_, _≤_}
+use mathlib.Core.Bool.{Bool, false, true}
+use mathlib.Core.List.{List, [], _++_, _∷_}
+use mathlib.Core.Logic.{_⊎_, inl, inr}
+use mathlib.Core.Path.{_≡_, _∙_, refl, sym, ap, subst}
+use native.Mathlib.Decide.{ℕ-discrete}
+use native.Mathlib.Nat.{le-of-eq, le-trans}
+use native.Mathlib.Omega.{arith}
+use lib.Dec.{eqb, ltb}
+use lib.ListN.{getD, length, length-set, set}
+use lib.Seq.{getD-set-other, getD-set-same}
+use borrow.Author.Tests.{eqb-false, eqb-true, ltb-true}
+use Rattle.desk.specs.Laws.Good.{good}
+use Rattle.desk.specs.Laws.Rooms.{firstRoom-holds, for-held, free-held, held-for, new-held}
+use Rattle.desk.specs.Laws.Views.{Closes, Opens, Replaces, close-done, close-no-ticket, closes, open-done, open-no-room, open-no-set, open-serial-end, opens, replace-done, replace-edition-end, replace-fault, replace-table, replaces}
+use Rattle.desk.specs.Reached.{Reached, byCall, callClose, callOpen, callReplace, fromNew}
+use Rattle.desk.specs.Rooms.{freeRoom, freeTicket, isFor, isFree, isHeld, newTicket, roomOf, serialOf, ticketIn}
+use Rattle.desk.specs.declared.Closing.{Closing}
+use Rattle.desk.specs.declared.Desk.{Desk}
+use Rattle.desk.specs.declared.Edition.{Edition}
+use Rattle.desk.specs.declared.Opening.{Opening}
+use Rattle.desk.specs.declared.ReplaceAnswer.{ReplaceAnswer}
+use Rattle.desk.specs.declared.Replacing.{Replacing}
+use Rattle.desk.specs.declared.Serial.{Serial}
+use Rattle.desk.specs.declared.Ticket.{Ticket}
+use Rattle.gate.specs.Feeding.{fedOn}
+use Rattle.gate.specs.Gate.{beginOf, changeOf, cutIn, decideBy, decideOf, endedBy, pieceBy, pieceOf}
+use Rattle.gate.specs.Noting.{begunSeen, seenIn, unseen}
+use Rattle.gate.specs.declared.Gate.{Gate}
+use Rattle.gate.specs.declared.Seen.{Seen}
+use Rattle.gate.specs.declared.feeding.Fed.{Fed}
+use Rattle.history.specs.Laws.Invariant.{Stranger, stranger-less}
+use Rattle.history.specs.Laws.Numbers.{differ}
+use Rattle.history.specs.Laws.Seats.{Unique, for-other, has-room, nobody-new, room-for, room-kept, seat-gone, seat-new, ticket-kept, unique-new, unique-set}
+use Rattle.history.specs.Laws.Snoc.{snoc-each, snoc-length}
+use Rattle.matching.specs.Laws.Bools.{is-false, not-both}
+use Rattle.matching.specs.Words.{Word}
+use Rattle.verdicts.specs.GateHistory.{Approval, GateAct, GateWorld, approvalAt, begunWith, decidedWith, gateBegin, gateDecide, gatePiece, gateReplace, gateRun, gateStart, gateStep, handedCut, handedWhole, handedWith, newApproval, noApproval, onApproval, replacedWith, settled, withApprovals}
+use Rattle.verdicts.specs.Laws.Alike.{Alike, fed-alike, same-unique}
+use Rattle.verdicts.specs.Laws.Approvals.{on-each, on-length, verdict-settles}
+use Rattle.verdicts.specs.Laws.Masks.{nothingSeen, rooms-apart}
+
+-- what a room keeps for an approval: the ticket is of the edition that the count of replacements was, and unread is 0 while it is whole
+pub record Kept (t : Ticket) (x : Seen) (p : Approval) : Type 0 where
+  pub edition : t .edition .0 ≡ p .accepted
+  pub read : eqb (x .unread) 0 ≡ p .whole
+
+-- an approval has a room exactly while it is not decided
+pub data Sits (rooms : List Ticket) (seen : List Seen) (p : Approval) : Type 0 where
+  stood : p .decided ≡ true → 16 ≤ roomOf rooms (serialOf (p .serial)) → Sits rooms seen p
+  sits : p .decided ≡ false → roomOf rooms (serialOf (p .serial)) < 16
+      → Kept (ticketIn rooms (roomOf rooms (serialOf (p .serial)))) (seenIn seen (roomOf rooms (serialOf (p .serial)))) p → Sits rooms seen p
+
+pub record Standing (g : GateWorld) : Type 0 where
+  pub reached : Reached (g .gate .desk)
+  pub wide : length (g .gate .seen) ≡ 16
+  pub editions : g .gate .desk .edition .0 ≡ g .accepted
+  pub serials : length (g .approvals) ≡ g .gate .desk .serial .0
+  pub numbered : (k : ℕ) → k < length (g .approvals) → approvalAt g k .serial ≡ suc k
+  pub upto : (k : ℕ) → k < length (g .approvals) → approvalAt g k .accepted ≤ g .accepted
+  pub seats : (k : ℕ) → k < length (g .approvals) → Sits (g .gate .desk .tickets) (g .gate .seen) (approvalAt g k)
+  pub strangers : (s : Serial) → Stranger (length (g .approvals)) (s .0) → 16 ≤ roomOf (g .gate .desk .tickets) s
+  pub unique : Unique (g .gate .desk .tickets)
+
+pub standing-start : Standing gateStart
+standing-start = record {
+  reached = fromNew;
+  wide = refl;
+  editions = refl;
+  serials = refl;
+  numbered = λ k h. absurd (omega arith);
+  upto = λ k h. absurd (omega arith);
+  seats = λ k h. absurd (omega arith);
+  strangers = λ s h. nobody-new s;
+  unique = unique-new;
+}
+
+module _ (g : GateWorld) (v : Standing g) where
+  abbrev rooms : List Ticket
+  rooms = g .gate .desk .tickets
+
+  rooms-wide : length (g .gate .desk .tickets) ≡ 16
+  rooms-wide = good (v .reached) .rooms
+
+  -- replacing
+  standing-replace : (bytes lent : List ℕ) → Standing (gateStep g (gateReplace bytes lent))
+  unfolding changeOf
+  standing-replace bytes lent = go _ (replaces (g .gate .desk) bytes (length lent)) (byCall (v .reached) (callReplace bytes lent))
+    where
+      go : (r : Replacing) → Replaces (g .gate .desk) bytes (length lent) r → Reached (r .desk)
+          → Standing (replacedWith g bytes lent (record { desk = r .desk; seen = g .gate .seen }) (r .answer))
+      go r (replace-fault fault p) d = v
+      go r (replace-table machine needs p) d = v
+      go r (replace-edition-end n p f) d = v
+      go r (replace-done n p f) d = record {
+        reached = d;
+        wide = v .wide;
+        editions = omega (arith, v .editions);
+        serials = v .serials;
+        numbered = v .numbered;
+        upto = λ k h. omega (arith, v .upto k h);
+        seats = v .seats;
+        strangers = v .strangers;
+        unique = v .unique;
+      }
+
+  -- a new approval
+  module _ (i : ℕ) (free : i ≡ freeRoom (g .gate .desk .tickets)) (hi : i < 16) where
+    abbrev s : Serial
+    s = serialOf (g .gate .desk .serial .0 + 1)
+
+    abbrev t : Ticket
+    t = newTicket (serialOf (g .gate .desk .serial .0 + 1)) (g .gate .desk .edition)
+
+    abbrev rooms2 : List Ticket
+    rooms2 = set (g .gate .desk .tickets) i t
+
+    abbrev seen2 : List Seen
+    seen2 = set (g .gate .seen) (roomOf rooms2 s) unseen
+
+    abbrev new : Approval
+    new = newApproval g (g .gate .desk .serial .0 + 1)
+
+    number : g .gate .desk .serial .0 + 1 ≡ suc (length (g .approvals))
+    number = omega (arith, v .serials)
+
+    count : length (g .approvals ++ new ∷ []) ≡ suc (length (g .approvals))
+    count = snoc-length (g .approvals) new noApproval
+
+    mine : isFor s t ≡ true
+    mine = held-for s t (new-held (g .gate .desk .serial .0) (g .gate .desk .edition)) refl
+
+    unknown : 16 ≤ roomOf rooms s
+    unknown = v .strangers s (inr (omega (arith, number)))
+
+    was-free : (n : Serial) → isFor n (ticketIn rooms i) ≡ false
+    was-free n =
+        let f : isHeld (ticketIn rooms i) ≡ false = subst (λ (k : ℕ). isHeld (ticketIn rooms k) ≡ false) (sym free)
+        (free-held (ticketIn rooms (freeRoom rooms)) (firstRoom-holds isFree rooms (omega (arith, free, hi, rooms-wide)))) in
+        is-false (isFor n (ticketIn rooms i)) (λ h. not-both (for-held n (ticketIn rooms i) h .0) f)
+
+    not-its : (n : Serial) → (n .0 ≡ s .0 → ⊥) → isFor n t ≡ false
+    not-its n ne = for-other s n t mine (λ q. ne (sym q))
+
+    stays : (n : Serial) → (n .0 ≡ s .0 → ⊥) → roomOf rooms2 n ≡ roomOf rooms n
+    stays n ne = room-kept rooms rooms-wide i t hi n (was-free n) (not-its n ne)
+
+    seated : roomOf rooms2 s ≡ i
+    seated = seat-new rooms rooms-wide i t hi s mine unknown .0
+
+    old : (p : Approval) → (p .serial ≡ s .0 → ⊥) → Sits rooms (g .gate .seen) p → Sits rooms2 seen2 p
+    old p ne (stood c h) = stood c (rw (stays (serialOf (p .serial)) ne) h)
+    old p ne (sits c h k) =
+        let n = serialOf (p .serial) in
+        let r = stays n ne in
+        let h2 : roomOf rooms2 n < 16 = rw r h in
+        sits c h2 (record {
+          edition = ap (λ (x : Ticket). x .edition .0) (ticket-kept rooms rooms-wide i t hi n (was-free n) (not-its n ne) h) ∙ k .edition;
+          read =
+              ap (λ (x : Seen). eqb (x .unread) 0)
+              (getD-set-other (g .gate .seen) (roomOf rooms2 s) (roomOf rooms2 n) unseen nothingSeen
+              (rooms-apart rooms2 (length-set rooms i t ∙ rooms-wide) n s ne h2))
+              ∙ ap (λ (j : ℕ). eqb (seenIn (g .gate .seen) j .unread) 0) r ∙ k .read;
+        })
+
+    its : Sits rooms2 seen2 new
+    its = sits refl (omega (arith, seated, hi)) (record {
+      edition = ap (λ (x : Ticket). x .edition .0) (seat-new rooms rooms-wide i t hi s mine unknown .1) ∙ v .editions;
+      read = ap (λ (x : Seen). eqb (x .unread) 0) (getD-set-same (g .gate .seen) (roomOf rooms2 s) unseen nothingSeen (omega (arith, seated, hi, v .wide)));
+    })
+
+    strange : (n : Serial) → Stranger (length (g .approvals ++ new ∷ [])) (n .0) → n .0 ≡ s .0 → ⊥
+    strange n (inl e) q = omega (arith, e, q)
+    strange n (inr e) q = omega (arith, e, q, count, number)
+
+    begun : Reached (record { tickets = rooms2; records = g .gate .desk .records; edition = g .gate .desk .edition; serial = s; slots = g .gate .desk .slots })
+        → Standing (withApprovals g
+        (record { desk = record { tickets = rooms2; records = g .gate .desk .records; edition = g .gate .desk .edition; serial = s; slots = g .gate .desk .slots }; seen = seen2 })
+        (g .approvals ++ new ∷ []))
+    begun d = record {
+      reached = d;
+      wide = length-set (g .gate .seen) (roomOf rooms2 s) unseen ∙ v .wide;
+      editions = v .editions;
+      serials = omega (arith, count, v .serials);
+      numbered = snoc-each (g .approvals) new noApproval (λ k p. p .serial ≡ suc k) (v .numbered) number;
+      upto = snoc-each (g .approvals) new noApproval (λ k p. p .accepted ≤ g .accepted) (v .upto) (omega arith);
+      seats = snoc-each (g .approvals) new noApproval (λ k p. Sits rooms2 seen2 p)
+          (λ k h. old (approvalAt g k) (λ e. omega (arith, e, v .numbered k h, h, number)) (v .seats k h)) its;
+      strangers = λ n h. le-trans (v .strangers n (stranger-less (length (g .approvals)) (length (g .approvals ++ new ∷ [])) (n .0) (omega (arith, count)) h))
+          (le-of-eq (sym (stays n (strange n h))));
+      unique = unique-set rooms rooms-wide i t hi (v .unique) (λ n j ne a b.
+          let e = for-held n t b .1 in
+          omega (arith, unknown, has-room rooms rooms-wide s j (subst (λ (x : Serial). isFor x (ticketIn rooms j) ≡ true) (λ d. record { 0 = sym e d }) a)));
+    }
+
+  standing-begin : Standing (gateStep g gateBegin)
+  unfolding beginOf
+  standing-begin = go _ (opens (g .gate .desk)) (byCall (v .reached) callOpen)
+    where
+      go : (r : Opening) → Opens (g .gate .desk) r → Reached (r .desk)
+          → Standing (begunWith g (record { desk = r .desk; seen = begunSeen (r .desk) (g .gate .seen) (r .answer) }) (r .answer))
+      go r (open-no-set p) d = v
+      go r (open-serial-end p q) d = v
+      go r (open-no-room p q f) d = v
+      go r (open-done p q i f h) d = begun i f h d
+
+  -- deciding
+  standing-decide : (s : Serial) → Standing (gateStep g (gateDecide s))
+  unfolding decideOf
+  standing-decide s = go _ refl
+    where
+      i : ℕ
+      i = roomOf (g .gate .desk .tickets) s
+
+      closed : (r : Closing) → Closes (g .gate .desk) s r → roomOf (g .gate .desk .tickets) s < 16 → Reached (r .desk)
+          → Standing (withApprovals g (record { desk = r .desk; seen = g .gate .seen }) (onApproval (s .0) settled (g .approvals)))
+      closed r (close-no-ticket f) h d = absurd (omega (arith, f, h))
+      closed r (close-done k f hk) h d = record {
+        reached = d;
+        wide = v .wide;
+        editions = v .editions;
+        serials = on-length (s .0) settled (g .approvals) ∙ v .serials;
+        numbered = on-each (s .0) settled (g .approvals) (λ j p. p .serial ≡ suc j) (λ j z e. v .numbered j z) (λ j z e. v .numbered j z);
+        upto = on-each (s .0) settled (g .approvals) (λ j p. p .accepted ≤ g .accepted) (λ j z e. v .upto j z) (λ j z e. v .upto j z);
+        seats = on-each (s .0) settled (g .approvals) (λ j p. Sits (set rooms k freeTicket) (g .gate .seen) p)
+            (λ j z e. stood refl (subst (λ (n : ℕ). 16 ≤ roomOf (set rooms k freeTicket) (serialOf n)) (sym e) gone))
+            (λ j z e. other (approvalAt g j) e (v .seats j z));
+        strangers = λ n z. (let q = v .strangers n (subst (λ (c : ℕ). Stranger c (n .0)) (on-length (s .0) settled (g .approvals)) z) in le-trans q (le-of-eq (sym (stays n (λ e. apart n e q)))));
+        unique = unique-set rooms rooms-wide k freeTicket hk (v .unique) (λ n j ne a b. not-both b refl);
+      }
+        where
+          its : isFor s (ticketIn rooms k) ≡ true
+          its = subst (λ (y : ℕ). isFor s (ticketIn rooms y) ≡ true) (sym f) (room-for rooms rooms-wide s h)
+
+          gone : 16 ≤ roomOf (set rooms k freeTicket) s
+          gone = seat-gone rooms rooms-wide s k (v .unique) f hk
+
+          apart : (n : Serial) → n .0 ≡ s .0 → 16 ≤ roomOf rooms n → ⊥
+          apart n e q = let z : n ≡ s = λ d. record { 0 = e d } in omega (arith, h, subst (λ (y : Serial). 16 ≤ roomOf rooms y) z q)
+
+          not-its : (n : Serial) → (n .0 ≡ s .0 → ⊥) → isFor n (ticketIn rooms k) ≡ false
+          not-its n ne = for-other s n (ticketIn rooms k) its (λ q. ne (sym q))
+
+          stays : (n : Serial) → (n .0 ≡ s .0 → ⊥) → roomOf (set rooms k freeTicket) n ≡ roomOf rooms n
+          stays n ne = room-kept rooms rooms-wide k freeTicket hk n (not-its n ne) refl
+
+          other : (p : Approval) → (p .serial ≡ s .0 → ⊥) → Sits rooms (g .gate .seen) p → Sits (set rooms k freeTicket) (g .gate .seen) p
+          other p ne (stood c x) = stood c (rw (stays (serialOf (p .serial)) ne) x)
+          other p ne (sits c x y) =
+              let n = serialOf (p .serial) in
+              let r = stays n ne in
+              sits c (rw r x) (record {
+                edition = ap (λ (z : Ticket). z .edition .0) (ticket-kept rooms rooms-wide k freeTicket hk n (not-its n ne) refl x) ∙ y .edition;
+                read = ap (λ (j : ℕ). eqb (seenIn (g .gate .seen) j .unread) 0) r ∙ y .read;
+              })
+
+      go : (x : Bool) → ltb (roomOf (g .gate .desk .tickets) s) 16 ≡ x
+          → Standing (decidedWith g s (decideBy (g .gate) s i x .gate) (decideBy (g .gate) s i x .answer))
+      go false e = v
+      go true e =
+          subst Standing (sym (verdict-settles g s _ (ticketIn rooms i .edition) (seenIn (g .gate .seen) i) (eqb (ticketIn rooms i .edition .0) (g .gate .desk .edition .0))))
+          (closed _ (closes (g .gate .desk) s) (ltb-true i 16 e) (byCall (v .reached) (callClose s)))
+
+  -- a piece
+  module _ (s : Serial) (table : List ℕ) (piece : Word) where
+    abbrev fed : Fed
+    fed = fedOn (length piece) (g .gate) s table piece 0
+
+    a : Alike (g .gate) (fed .gate)
+    a = fed-alike (length piece) (g .gate) s table piece 0
+
+    abbrev i : ℕ
+    i = roomOf (g .gate .desk .tickets) s
+
+    fed-sits : (p : Approval) → Sits rooms (g .gate .seen) p → Sits (fed .gate .desk .tickets) (fed .gate .seen) p
+    fed-sits p (stood c h) = stood c (rw (a .same .rooms (serialOf (p .serial))) h)
+    fed-sits p (sits c h k) =
+        let r = a .same .rooms (serialOf (p .serial)) in
+        sits c (rw r h) (record {
+          edition = ap (λ (j : ℕ). ticketIn (fed .gate .desk .tickets) j .edition .0) r ∙ ap (λ (e : Edition). e .0) (a .same .editions (roomOf rooms (serialOf (p .serial)))) ∙ k .edition;
+          read = ap (λ (j : ℕ). eqb (seenIn (fed .gate .seen) j .unread) 0) r ∙ ap (λ (j : ℕ). eqb j 0) (a .unreads (roomOf rooms (serialOf (p .serial)))) ∙ k .read;
+        })
+
+    whole-sits : (seen : List Seen) (p : Approval) → Sits (fed .gate .desk .tickets) seen p → Sits (fed .gate .desk .tickets) seen (handedWhole piece p)
+    whole-sits seen p (stood c h) = stood c h
+    whole-sits seen p (sits c h k) = sits c h (record { edition = k .edition; read = k .read })
+
+    -- the history after it
+    handed : (seen : List Seen) (f : Approval → Approval) → length seen ≡ 16 → ((p : Approval) → f p .serial ≡ p .serial) → ((p : Approval) → f p .accepted ≡ p .accepted)
+        → ((p : Approval) → p .serial ≡ s .0 → Sits rooms (g .gate .seen) p → Sits (fed .gate .desk .tickets) seen (f p))
+        → ((p : Approval) → (p .serial ≡ s .0 → ⊥) → Sits rooms (g .gate .seen) p → Sits (fed .gate .desk .tickets) seen p)
+        → Standing (withApprovals g (record { desk = fed .gate .desk; seen = seen }) (onApproval (s .0) f (g .approvals)))
+    handed seen f wide serial accepted hit miss = record {
+      reached = a .reached (v .reached);
+      wide = wide;
+      editions = ap (λ (e : Edition). e .0) (a .same .edition) ∙ v .editions;
+      serials = on-length (s .0) f (g .approvals) ∙ v .serials ∙ ap (λ (n : Serial). n .0) (sym (a .same .serial));
+      numbered = on-each (s .0) f (g .approvals) (λ j p. p .serial ≡ suc j) (λ j z e. serial (approvalAt g j) ∙ v .numbered j z) (λ j z e. v .numbered j z);
+      upto = on-each (s .0) f (g .approvals) (λ j p. p .accepted ≤ g .accepted) (λ j z e. rw (accepted (approvalAt g j)) (v .upto j z)) (λ j z e. v .upto j z);
+      seats = on-each (s .0) f (g .approvals) (λ j p. Sits (fed .gate .desk .tickets) seen p) (λ j z e. hit (approvalAt g j) e (v .seats j z)) (λ j z e. miss (approvalAt g j) e (v .seats j z));
+      strangers = λ n z. rw (a .same .rooms n) (v .strangers n (subst (λ (c : ℕ). Stranger c (n .0)) (on-length (s .0) f (g .approvals)) z));
+      unique = same-unique (a .same) (v .unique);
+    }
+
+    fed-wide : length (fed .gate .seen) ≡ 16
+    fed-wide = a .wide ∙ v .wide
+
+    read : Standing (withApprovals g (fed .gate) (onApproval (s .0) (handedWhole piece) (g .approvals)))
+    read = handed (fed .gate .seen) (handedWhole piece) fed-wide (λ p. refl) (λ p. refl) (λ p e x. whole-sits (fed .gate .seen) p (fed-sits p x)) (λ p e x. fed-sits p x)
+
+    cut : i < 16 → Standing (withApprovals g (record { desk = fed .gate .desk; seen = cutIn (fed .gate .seen) i }) (onApproval (s .0) (handedCut piece) (g .approvals)))
+    cut h = handed (cutIn (fed .gate .seen) i) (handedCut piece) (length-set (fed .gate .seen) i _ ∙ fed-wide) (λ p. refl) (λ p. refl) (λ p e x. hit p e (fed-sits p x)) (λ p e x. miss p e (fed-sits p x))
+      where
+        room : roomOf (fed .gate .desk .tickets) s ≡ i
+        room = a .same .rooms s
+
+        hit : (p : Approval) → p .serial ≡ s .0 → Sits (fed .gate .desk .tickets) (fed .gate .seen) p → Sits (fed .gate .desk .tickets) (cutIn (fed .gate .seen) i) (handedCut piece p)
+        hit p e (stood c x) = stood c x
+        hit p e (sits c x k) =
+            let own : roomOf (fed .gate .desk .tickets) (serialOf (p .serial)) ≡ i = ap (λ (n : ℕ). roomOf (fed .gate .desk .tickets) (serialOf n)) e ∙ room in
+            sits c x (record {
+              edition = k .edition;
+              read =
+                  ap (λ (j : ℕ). eqb (seenIn (cutIn (fed .gate .seen) i) j .unread) 0) own
+                  ∙ ap (λ (u : Seen). eqb (u .unread) 0) (getD-set-same (fed .gate .seen) i _ nothingSeen (omega (arith, h, fed-wide)));
+            })
+
+        miss : (p : Approval) → (p .serial ≡ s .0 → ⊥) → Sits (fed .gate .desk .tickets) (fed .gate .seen) p → Sits (fed .gate .desk .tickets) (cutIn (fed .gate .seen) i) p
+        miss p e (stood c x) = stood c x
+        miss p e (sits c x k) =
+            let apart : roomOf (fed .gate .desk .tickets) (serialOf (p .serial)) ≡ i → ⊥ =
+            λ q. rooms-apart (fed .gate .desk .tickets) (good (a .reached (v .reached)) .rooms) (serialOf (p .serial)) s e x (q ∙ sym room) in
+            sits c x (record {
+              edition = k .edition;
+              read = ap (λ (u : Seen). eqb (u .unread) 0) (getD-set-other (fed .gate .seen) i (roomOf (fed .gate .desk .tickets) (serialOf (p .serial))) _ nothingSeen apart) ∙ k .read;
+            })
+
+    standing-piece : Standing (gateStep g (gatePiece s table piece))
+    unfolding pieceOf
+    standing-piece = go (ltb i 16) refl (eqb (ticketIn rooms i .edition .0) (g .gate .desk .edition .0))
+      where
+        ended : (x : Bool) → i < 16
+            → Standing (handedWith g s piece (endedBy (fed .gate) i (fed .taken) x .gate) (endedBy (fed .gate) i (fed .taken) x .answer))
+        ended true h = read
+        ended false h = cut h
+
+        go : (x : Bool) → ltb i 16 ≡ x → (y : Bool)
+            → Standing (handedWith g s piece (pieceBy (g .gate) s i (ticketIn rooms i) table piece x y .gate) (pieceBy (g .gate) s i (ticketIn rooms i) table piece x y .answer))
+        go false e y = v
+        go true e false = v
+        go true e true = ended (eqb (fed .taken) (length piece)) (ltb-true i 16 e)
+
+  standing-step : (act : GateAct) → Standing (gateStep g act)
+  standing-step (gateReplace set lent) = standing-replace set lent
+  standing-step gateBegin = standing-begin
+  standing-step (gatePiece s table piece) = standing-piece s table piece
+  standing-step (gateDecide s) = standing-decide s
+
+pub standing : (acts : List GateAct) (g : GateWorld) → Standing g → Standing (gateRun g acts)
+unfolding gateRun
+standing [] g v = v
+standing (act ∷ acts) g v = standing acts (gateStep g act) (standing-step g v act)
+
+-- an accepted replacement answers the next count
+pub accepts-next : (g : GateWorld) → Standing g → (set run : List ℕ) (e : Edition) (tags : ℕ) → changeOf (g .gate) set (length run) .answer ≡ R.Replaced e tags
+    → e .0 ≡ suc (g .accepted)
+unfolding changeOf
+accepts-next g v set run e tags q = go _ (replaces (g .gate .desk) set (length run)) q
+  where
+    edition : ReplaceAnswer → ℕ
+    edition (R.Replaced x n) = x .0
+    edition (R.Fault fault) = 0
+    edition (R.Table machine needs) = 0
+    edition R.EditionEnd = 0
+
+    go : (r : Replacing) → Replaces (g .gate .desk) set (length run) r → r .answer ≡ R.Replaced e tags → e .0 ≡ suc (g .accepted)
+    go r (replace-fault fault p) z = differ cc
+    go r (replace-table machine needs p) z = differ cc
+    go r (replace-edition-end n p f) z = differ cc
+    go r (replace-done n p f) z = ap edition (sym z) ∙ omega (arith, v .editions)
