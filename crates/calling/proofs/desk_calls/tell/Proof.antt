@@ -15,11 +15,11 @@ told-requires c κs = search needs
 
 returns : tie.Need-returns
 returns c =
-    let c1 = c .before in
-    let c2 = c1 .before in
-    let args = c2 .args in
-    let asked = c2 .pre in
-    ((λ bytes table. did-desk (heldBy (args .s) bytes table) refl (ap (stateLine (args .serial)) (c1 .state .ensures)) (c .told .ensures)), asked)
+    let c2 = c .before .before in
+    let c4 = c2 .before .before in
+    let args = c4 .args in
+    let asked = c4 .pre in
+    ((λ bytes table. did-desk (heldBy (args .s) bytes table) refl (ap (stateLine (args .serial)) (c2 .state .ensures)) (c .told .ensures)), asked)
 
 pub tell-spec : {M : Type 1} → statement M
 tell-spec = tie.close (tie.spec state-requires told-requires returns)
