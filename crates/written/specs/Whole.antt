@@ -3,7 +3,7 @@ use Rattle.desk.specs.declared.FeedAnswer.the-variants as F
 use Rattle.desk.specs.declared.ReplaceAnswer.the-variants as R
 use Prim.Native.Nat.{ℕ, _+_, _<_, _≤_}
 use mathlib.Core.List.{List, [], _∷_, _++_}
-use mathlib.Core.Path.{_≡_, _∙_, refl, ap, subst}
+use mathlib.Core.Path.{_≡_, _∙_, refl, ap}
 use native.Mathlib.Omega.{arith}
 use lib.ListN.{drop, getD, length, length-append, length-drop, take}
 use lib.Seq.{length-take-le, take-all}
@@ -16,7 +16,6 @@ use Rattle.desk.specs.Rooms.{editionOf, roomOf, serialOf}
 use Rattle.desk.specs.Shared.{recordsOf}
 use Rattle.desk.specs.declared.Desk.{Desk}
 use Rattle.desk.specs.declared.Edition.{Edition}
-use Rattle.desk.specs.declared.FeedAnswer.{FeedAnswer}
 use Rattle.desk.specs.declared.Feeding.{Feeding}
 use Rattle.history.specs.History.{Account, Act, AllBytes, World, accountAt, actOpen, actReplace, grown, noAccount, onSerial, run, start}
 use Rattle.history.specs.Laws.Becomes.{run-append}
