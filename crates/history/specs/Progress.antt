@@ -38,12 +38,12 @@ open-has d s e n = go _ (states d s)
     go a (state-open t q h x) z = (h, ap (λ (y : Ticket). y .edition .0) (sym q) ∙ x)
 
 -- no byte has more than 16 matches, and an empty list has room for 256
-pub advances : (acts : List Act) → AllBytes acts → (s : Serial) → roomOf (run start acts .desk .tickets) s < 16
+pub takes-a-byte : (acts : List Act) → AllBytes acts → (s : Serial) → roomOf (run start acts .desk .tickets) s < 16
     → ticketIn (run start acts .desk .tickets) (roomOf (run start acts .desk .tickets) s) .edition .0 ≡ run start acts .desk .edition .0
     → run start acts .desk .records .count ≡ 0
     → (c : ℕ) (piece : Word) → Below 256 (c ∷ piece) → (feedOf (run start acts .desk) s (run start acts .table) (c ∷ piece) .answer ≡ F.Long → ⊥)
     → 0 < takenBy (feedOf (run start acts .desk) s (run start acts .table) (c ∷ piece) .answer)
-advances acts b s room current empty c piece bytes not-long = go _ (feeds d s (w .table) (c ∷ piece)) refl
+takes-a-byte acts b s room current empty c piece bytes not-long = go _ (feeds d s (w .table) (c ∷ piece)) refl
   where
     w : World
     w = run start acts
@@ -70,4 +70,4 @@ advances acts b s room current empty c piece bytes not-long = go _ (feeds d s (w
 pub progress : (acts : List Act) → AllBytes acts → (s : Serial) (e : Edition) (n : ℕ) → stateOf (run start acts .desk) s ≡ A.Open e n → run start acts .desk .records .count ≡ 0
     → (c : ℕ) (piece : Word) → Below 256 (c ∷ piece) → (feedOf (run start acts .desk) s (run start acts .table) (c ∷ piece) .answer ≡ F.Long → ⊥)
     → 0 < takenBy (feedOf (run start acts .desk) s (run start acts .table) (c ∷ piece) .answer)
-progress acts b s e n is-open = let have = open-has (run start acts .desk) s e n is-open in advances acts b s (have .0) (have .1)
+progress acts b s e n is-open = let have = open-has (run start acts .desk) s e n is-open in takes-a-byte acts b s (have .0) (have .1)

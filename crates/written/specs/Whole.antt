@@ -4,7 +4,7 @@ use Rattle.desk.specs.declared.ReplaceAnswer.the-variants as R
 use Rattle.desk.specs.declared.StateAnswer.the-variants as A
 use Prim.Native.Nat.{ℕ, _+_, _<_, _≤_}
 use mathlib.Core.List.{List, [], _∷_, _++_}
-use mathlib.Core.Path.{_≡_, _∙_, refl, ap, subst}
+use mathlib.Core.Path.{_≡_, _∙_, refl, ap}
 use native.Mathlib.Omega.{arith}
 use lib.ListN.{drop, getD, length, length-append, length-drop, take}
 use lib.Seq.{length-take-le, take-all}
@@ -18,7 +18,6 @@ use Rattle.desk.specs.Shared.{recordsOf}
 use Rattle.desk.specs.State.{stateOf}
 use Rattle.desk.specs.declared.Desk.{Desk}
 use Rattle.desk.specs.declared.Edition.{Edition}
-use Rattle.desk.specs.declared.FeedAnswer.{FeedAnswer}
 use Rattle.desk.specs.declared.Feeding.{Feeding}
 use Rattle.history.specs.History.{Account, Act, AllBytes, World, accountAt, actOpen, actReplace, grown, noAccount, onSerial, run, start}
 use Rattle.history.specs.Laws.Becomes.{run-append}

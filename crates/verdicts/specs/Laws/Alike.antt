@@ -16,14 +16,12 @@ use Rattle.desk.specs.Reached.{Reached, byCall, callFeed}
 use Rattle.desk.specs.Rooms.{isFor, roomOf, ticketIn}
 use Rattle.desk.specs.TakeMany.{manyOf, oldest, takeManyOf}
 use Rattle.desk.specs.declared.Desk.{Desk}
-use Rattle.desk.specs.declared.Edition.{Edition}
 use Rattle.desk.specs.declared.Feeding.{Feeding}
 use Rattle.desk.specs.declared.Serial.{Serial}
 use Rattle.desk.specs.declared.Ticket.{Ticket}
 use Rattle.gate.specs.Feeding.{fedOn, restOf}
 use Rattle.gate.specs.Noting.{seenIn}
 use Rattle.gate.specs.declared.Gate.{Gate}
-use Rattle.gate.specs.declared.feeding.Fed.{Fed}
 use Rattle.history.specs.Laws.Seats.{Unique}
 use Rattle.matching.specs.Words.{Word}
 use Rattle.verdicts.specs.Laws.Masks.{noted-length, noted-unread}

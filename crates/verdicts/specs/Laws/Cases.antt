@@ -1,6 +1,6 @@
 -- The cases of a decision shut one another out, since a serial is that of one approval.
 use Rattle.gate.specs.declared.Verdict.the-variants as Q
-use Prim.Native.Nat.{ℕ, suc, _<_, _≤_}
+use Prim.Native.Nat.{ℕ, suc, _<_}
 use mathlib.Core.Bool.{false, true}
 use mathlib.Core.Path.{_≡_, _∙_, ap, refl, subst, sym}
 use native.Mathlib.Omega.{arith}
@@ -11,7 +11,6 @@ use Rattle.desk.specs.declared.Serial.{Serial}
 use Rattle.gate.specs.declared.Verdict.{Verdict}
 use Rattle.history.specs.Laws.Numbers.{differ}
 use Rattle.matching.specs.Laws.Bools.{not-both}
-use Rattle.matching.specs.Tags.{tagCount}
 use Rattle.verdicts.specs.Cases.{Clean, Exactly, IsRead, IsUnread, OverAnyTables}
 use Rattle.verdicts.specs.GateHistory.{GateWorld, NotReplaced, Readable, Replaced, Undecided, approvalAt}
 use Rattle.verdicts.specs.Laws.Deciding.{Decides, decides-hold, decides-none, decides-pass, decides-stale, decides-unread, maskIn}

@@ -3,7 +3,7 @@ use Rattle.gate.specs.declared.Verdict.the-variants as Q
 use Prim.Native.Nat.{ℕ, zero, suc, _<_, _≤_}
 use mathlib.Core.Bool.{Bool, cond, false, true}
 use mathlib.Core.Logic.{inl, inr}
-use mathlib.Core.Path.{_≡_, _∙_, ap, refl, subst, sym}
+use mathlib.Core.Path.{_≡_, _∙_, refl, subst, sym}
 use native.Mathlib.Decide.{decLe}
 use native.Mathlib.Omega.{arith}
 use lib.Dec.{eqb, ltb}
@@ -12,14 +12,13 @@ use borrow.Author.Tests.{eqb-false, eqb-true, ltb-false, ltb-true}
 use Rattle.desk.specs.Rooms.{roomOf, serialOf, ticketIn}
 use Rattle.desk.specs.declared.Edition.{Edition}
 use Rattle.desk.specs.declared.Serial.{Serial}
-use Rattle.desk.specs.declared.Ticket.{Ticket}
 use Rattle.gate.specs.Gate.{decideBy, decideOf, verdictBy}
 use Rattle.gate.specs.Noting.{seenIn}
 use Rattle.gate.specs.declared.Seen.{Seen}
 use Rattle.gate.specs.declared.Verdict.{Verdict}
 use Rattle.history.specs.Laws.Numbers.{lower}
 use Rattle.matching.specs.Laws.Bools.{not-both}
-use Rattle.verdicts.specs.GateHistory.{Approval, GateWorld, NotReplaced, Readable, Replaced, Undecided, approvalAt}
+use Rattle.verdicts.specs.GateHistory.{GateWorld, NotReplaced, Readable, Replaced, Undecided, approvalAt}
 use Rattle.verdicts.specs.Laws.Standing.{Kept, Sits, Standing, sits, stood}
 
 -- the tags kept for a serial

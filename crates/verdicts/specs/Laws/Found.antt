@@ -2,7 +2,7 @@
 -- many.
 use Prim.Native.Nat.{ℕ, zero, suc, _/_, _<_, _≤_, _%_, _^_}
 use mathlib.Core.Bool.{Bool, false, true}
-use mathlib.Core.List.{List, List·Memᴰ, [], _++_, append-nil}
+use mathlib.Core.List.{List, List·Memᴰ, _++_, append-nil}
 use mathlib.Core.Logic.{_↔_, _⊎_, inl, inr}
 use mathlib.Core.Path.{_≡_, _∙_, refl, sym, ap, subst}
 use native.Mathlib.Nat.{div-eq-of-lt, mod-eq-of-lt}

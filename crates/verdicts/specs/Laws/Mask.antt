@@ -10,7 +10,7 @@ use lib.Arith.{digits-div, digits-lt, digits-mod}
 use lib.ListN.{length, take}
 use lib.Pow.{pow-pos, shr-shr, shr-lt, split}
 use Rattle.history.specs.Verdict.{EndsAt}
-use Rattle.matching.specs.Laws.Bools.{is-true, not-both, or-cases, or-l, or-r}
+use Rattle.matching.specs.Laws.Bools.{not-both, or-cases, or-l, or-r}
 use Rattle.matching.specs.Laws.Tags.{ends-among}
 use Rattle.matching.specs.Laws.Vectors.{one-lt}
 use Rattle.matching.specs.Tags.{Tags, tagCount, tagEnds}

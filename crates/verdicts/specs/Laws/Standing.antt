@@ -1,24 +1,22 @@
 -- What holds after every history of the gate's calls, whatever tables the pieces were lent.
 use Rattle.desk.specs.declared.ReplaceAnswer.the-variants as R
-use Prim.Native.Nat.{ℕ, zero, suc, _+_, _<_, _≤_}
+use Prim.Native.Nat.{ℕ, suc, _+_, _<_, _≤_}
 use mathlib.Core.Bool.{Bool, false, true}
 use mathlib.Core.List.{List, [], _++_, _∷_}
-use mathlib.Core.Logic.{_⊎_, inl, inr}
+use mathlib.Core.Logic.{inl, inr}
 use mathlib.Core.Path.{_≡_, _∙_, refl, sym, ap, subst}
-use native.Mathlib.Decide.{ℕ-discrete}
 use native.Mathlib.Nat.{le-of-eq, le-trans}
 use native.Mathlib.Omega.{arith}
 use lib.Dec.{eqb, ltb}
-use lib.ListN.{getD, length, length-set, set}
+use lib.ListN.{length, length-set, set}
 use lib.Seq.{getD-set-other, getD-set-same}
-use borrow.Author.Tests.{eqb-false, eqb-true, ltb-true}
+use borrow.Author.Tests.{ltb-true}
 use Rattle.desk.specs.Laws.Good.{good}
 use Rattle.desk.specs.Laws.Rooms.{firstRoom-holds, for-held, free-held, held-for, new-held}
 use Rattle.desk.specs.Laws.Views.{Closes, Opens, Replaces, close-done, close-no-ticket, closes, open-done, open-no-room, open-no-set, open-serial-end, opens, replace-done, replace-edition-end, replace-fault, replace-table, replaces}
 use Rattle.desk.specs.Reached.{Reached, byCall, callClose, callOpen, callReplace, fromNew}
 use Rattle.desk.specs.Rooms.{freeRoom, freeTicket, isFor, isFree, isHeld, newTicket, roomOf, serialOf, ticketIn}
 use Rattle.desk.specs.declared.Closing.{Closing}
-use Rattle.desk.specs.declared.Desk.{Desk}
 use Rattle.desk.specs.declared.Edition.{Edition}
 use Rattle.desk.specs.declared.Opening.{Opening}
 use Rattle.desk.specs.declared.ReplaceAnswer.{ReplaceAnswer}
@@ -28,7 +26,6 @@ use Rattle.desk.specs.declared.Ticket.{Ticket}
 use Rattle.gate.specs.Feeding.{fedOn}
 use Rattle.gate.specs.Gate.{beginOf, changeOf, cutIn, decideBy, decideOf, endedBy, pieceBy, pieceOf}
 use Rattle.gate.specs.Noting.{begunSeen, seenIn, unseen}
-use Rattle.gate.specs.declared.Gate.{Gate}
 use Rattle.gate.specs.declared.Seen.{Seen}
 use Rattle.gate.specs.declared.feeding.Fed.{Fed}
 use Rattle.history.specs.Laws.Invariant.{Stranger, stranger-less}

@@ -20,17 +20,16 @@ use Rattle.desk.specs.declared.Serial.{Serial}
 use Rattle.gate.specs.Feeding.{fedOn, restOf}
 use Rattle.gate.specs.declared.Gate.{Gate}
 use Rattle.gate.specs.declared.Seen.{Seen}
-use Rattle.gate.specs.declared.feeding.Fed.{Fed}
-use Rattle.history.specs.History.{Account, Act, AllBytes, World, accountAt, grown, noAccount, onSerial, run, start}
+use Rattle.history.specs.History.{Account, Act, AllBytes, World, accountAt, grown, noAccount, run, start}
 use Rattle.history.specs.Laws.Accounts.{onSerial-length}
 use Rattle.history.specs.Laws.Feeding.{agrees}
 use Rattle.history.specs.Laws.Invariant.{Inv, changed-here}
 use Rattle.history.specs.Laws.LedgerSteps.{sound}
 use Rattle.history.specs.Laws.Numbers.{differ}
 use Rattle.history.specs.Laws.Takings.{below-rest}
-use Rattle.history.specs.Progress.{advances}
+use Rattle.history.specs.Progress.{takes-a-byte}
 use Rattle.matching.specs.Words.{Below, Word}
-use Rattle.verdicts.specs.Laws.Alike.{SameRooms, feed-same, rest-alike}
+use Rattle.verdicts.specs.Laws.Alike.{SameRooms, rest-alike}
 use Rattle.verdicts.specs.Laws.Onward.{Joined, Onward, rest-onward-by}
 
 -- a ticket that is open, of account k, with room for so many more bytes
@@ -46,7 +45,7 @@ pub record OpenFor (w : World) (s : Serial) (more : ℕ) : Type 0 where
 some-taken : (acts : List Act) → AllBytes acts → (s : Serial) (rest : Word) → run start acts .desk .records .count ≡ 0 → Below 256 rest → OpenFor (run start acts) s (length rest)
     → 0 < length rest → 0 < takenBy (feedOf (run start acts .desk) s (run start acts .table) rest .answer)
 some-taken acts b s [] empty below o h = absurd (omega (arith, h))
-some-taken acts b s (c ∷ rest) empty below o h = advances acts b s (o .room) (o .current) empty c rest below (λ q. not-long _ (feeds (w .desk) s (w .table) (c ∷ rest)) q)
+some-taken acts b s (c ∷ rest) empty below o h = takes-a-byte acts b s (o .room) (o .current) empty c rest below (λ q. not-long _ (feeds (w .desk) s (w .table) (c ∷ rest)) q)
   where
     w : World
     w = run start acts
