@@ -101,7 +101,8 @@ fn main() -> Result<(), Refusal> {
     receive(&mut gate, &mut south, "batch 8 as K-3007")?;
     receive(&mut gate, &mut north, "41 was repeated")?;
     receive(&mut gate, &mut east, "batch 9, nothing to say")?;
-    receive(&mut gate, &mut west, "batch 10 as K-104")?;
+    receive(&mut gate, &mut west, "batch 10")?;
+    receive(&mut gate, &mut south, ", signed")?;
     finish(&mut gate, &mut north)?;
     finish(&mut gate, &mut west)?;
     if let Err(refusal) = gate.decide(west.serial) {
