@@ -143,9 +143,9 @@ enum {
 /* Names as the documents write them: CUT to NOTHING, ALL to DAMAGED, PASS to UNREAD. */
 static inline const char *sleet_refusal_name(uint64_t refusal)
 {
-    static const char *const names[] = {"accepted", "CUT",   "MANY",   "KIND",      "LENGTH", "EMPTY",
-                                        "REPEAT",   "TABLE", "EDITION", "NO SET",   "SERIAL", "NO ROOM",
-                                        "NO TICKET", "STALE", "LONG",   "PLACE",    "NOTHING"};
+    static const char *const names[] = {
+        "accepted", "CUT",    "MANY",    "KIND",      "LENGTH", "EMPTY", "REPEAT", "TABLE",  "EDITION",
+        "NO SET",   "SERIAL", "NO ROOM", "NO TICKET", "STALE",  "LONG",  "PLACE",  "NOTHING"};
     return refusal <= SLEET_REFUSED_NOTHING ? names[refusal] : "unknown";
 }
 

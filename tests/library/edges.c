@@ -243,6 +243,7 @@ static void entries(void)
     sleet_added said = sleet_set_add(set, 4, 0, NULL, 0);
     need("an entry without bytes", said.added && said.length == 4 && set[2] == 1);
     expect("it is refused", sleet_slots_needed(set, 4), SLEET_REFUSED_LENGTH, 0, 0, 0, 0);
+    need("a tag that nobody can read", not_added(sleet_set_add(set, 40, 4, NULL, 2), 4) && set[4] == 0);
     sleet_tags tags = sleet_tags_none();
     need("no tags are no set", sleet_size(tags.bytes, tags.length).refusal == SLEET_REFUSED_EMPTY);
     need("too long for any room", !sleet_tags_add(&tags, set, SIZE_MAX) && tags.length == 4);
@@ -251,6 +252,10 @@ static void entries(void)
         need("a tag behind it makes no lawful set", sleet_tags_add(&tags, "he", 2) == (i < 96) &&
                                                         sleet_size(tags.bytes, tags.length).refusal == SLEET_REFUSED_LENGTH);
     need("it ends with its room", tags.length == sizeof tags.bytes);
+    tags = sleet_tags_none();
+    need("a tag that nobody can read", sleet_tags_add(&tags, "he", 2) && !sleet_tags_add(&tags, NULL, 2));
+    sleet_needed size = sleet_size(tags.bytes, tags.length);
+    need("makes no lawful set", size.refusal == SLEET_REFUSED_LENGTH && size.entry == 1);
 }
 
 static void names(void)

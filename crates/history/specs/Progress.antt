@@ -6,23 +6,14 @@ use mathlib.Core.List.{List, _∷_}
 use mathlib.Core.Path.{_∙_, _≡_, ap, refl, sym}
 use native.Mathlib.Omega.{arith}
 use lib.ListN.{length}
-<<<<<<< HEAD
-use Rattle.desk.specs.Feed.{feedOf}
-=======
-use borrow.Author.Tests.{eqb-true, ltb-true}
 use Rattle.desk.specs.Feed.{feedOf, takenBy}
->>>>>>> 11406e2730b7d5924556a89088d3d21d908a1a16
 use Rattle.desk.specs.Laws.Good.{good, on-place}
 use Rattle.desk.specs.Laws.Views.{Feeds, feed-long, feed-no-place, feed-no-ticket, feed-other-slots, feed-read, feed-stale, feeds}
 use Rattle.desk.specs.Laws.Views.{States, state-closed, state-never, state-open, state-stale, states}
 use Rattle.desk.specs.Rooms.{roomOf, ticketIn}
 use Rattle.desk.specs.State.{stateOf}
 use Rattle.desk.specs.declared.Desk.{Desk}
-<<<<<<< HEAD
 use Rattle.desk.specs.declared.Edition.{Edition}
-use Rattle.desk.specs.declared.FeedAnswer.{FeedAnswer}
-=======
->>>>>>> 11406e2730b7d5924556a89088d3d21d908a1a16
 use Rattle.desk.specs.declared.Feeding.{Feeding}
 use Rattle.desk.specs.declared.Serial.{Serial}
 use Rattle.desk.specs.declared.StateAnswer.{StateAnswer}
@@ -46,13 +37,6 @@ open-has d s e n = go _ (states d s)
     go a (state-stale t q h x) z = differ cc
     go a (state-open t q h x) z = (h, ap (λ (y : Ticket). y .edition .0) (sym q) ∙ x)
 
-<<<<<<< HEAD
--- PROGRESS: no byte has more than 16 matches, and an empty list has room for 256
-pub progress : (acts : List Act) → AllBytes acts → (s : Serial) (e : Edition) (n : ℕ) → stateOf (run start acts .desk) s ≡ A.Open e n → run start acts .desk .records .count ≡ 0
-    → (c : ℕ) (piece : Word) → Below 256 (c ∷ piece) → (feedOf (run start acts .desk) s (run start acts .table) (c ∷ piece) .answer ≡ F.Long → ⊥)
-    → 0 < bytesTaken (feedOf (run start acts .desk) s (run start acts .table) (c ∷ piece) .answer)
-progress acts b s e n is-open empty c piece bytes not-long = go _ (feeds d s (w .table) (c ∷ piece)) refl
-=======
 -- no byte has more than 16 matches, and an empty list has room for 256
 pub advances : (acts : List Act) → AllBytes acts → (s : Serial) → roomOf (run start acts .desk .tickets) s < 16
     → ticketIn (run start acts .desk .tickets) (roomOf (run start acts .desk .tickets) s) .edition .0 ≡ run start acts .desk .edition .0
@@ -60,7 +44,6 @@ pub advances : (acts : List Act) → AllBytes acts → (s : Serial) → roomOf (
     → (c : ℕ) (piece : Word) → Below 256 (c ∷ piece) → (feedOf (run start acts .desk) s (run start acts .table) (c ∷ piece) .answer ≡ F.Long → ⊥)
     → 0 < takenBy (feedOf (run start acts .desk) s (run start acts .table) (c ∷ piece) .answer)
 advances acts b s room current empty c piece bytes not-long = go _ (feeds d s (w .table) (c ∷ piece)) refl
->>>>>>> 11406e2730b7d5924556a89088d3d21d908a1a16
   where
     w : World
     w = run start acts
@@ -71,18 +54,9 @@ advances acts b s room current empty c piece bytes not-long = go _ (feeds d s (w
     v : Inv w
     v = sound acts b .inv
 
-<<<<<<< HEAD
-    have : (roomOf (d .tickets) s < 16) × (ticketIn (d .tickets) (roomOf (d .tickets) s) .edition .0 ≡ d .edition .0)
-    have = open-has d s e n is-open
-
-    go : (r : Feeding) → Feeds d (roomOf (d .tickets) s) (w .table) (c ∷ piece) r → feedOf d s (w .table) (c ∷ piece) ≡ r → 0 < bytesTaken (r .answer)
-    go r (feed-no-ticket h) q = absurd (omega (arith, h, have .0))
-    go r (feed-stale h e) q = absurd (e (have .1))
-=======
     go : (r : Feeding) → Feeds d (roomOf (d .tickets) s) (w .table) (c ∷ piece) r → feedOf d s (w .table) (c ∷ piece) ≡ r → 0 < takenBy (r .answer)
     go r (feed-no-ticket h) q = absurd (omega (arith, h, room))
     go r (feed-stale h e) q = absurd (e current)
->>>>>>> 11406e2730b7d5924556a89088d3d21d908a1a16
     go r (feed-other-slots h e n) q = let g = given w v s h in absurd (n (force w v s (g .0) (g .1) (g .2) h e .slots-are))
     go r (feed-long h e l m) q = absurd (not-long (ap (λ (x : Feeding). x .answer) q))
     go r (feed-no-place h e l m n) q = absurd (on-place d s (w .table) (good (v .reached)) h e l n)
@@ -93,7 +67,7 @@ advances acts b s room current empty c piece bytes not-long = go _ (feeds d s (w
         (expected-advances 1 8 (a .tags) c piece (a .bytes) (length (a .bytes)) (256 - d .records .count) (omega (arith, v .kept (g .0) (g .1) .lawful .few, empty)))
 
 -- PROGRESS
-pub progress : (acts : List Act) → AllBytes acts → (s : Serial) → stateOf (run start acts .desk) s ≡ isOpen → run start acts .desk .records .count ≡ 0
+pub progress : (acts : List Act) → AllBytes acts → (s : Serial) (e : Edition) (n : ℕ) → stateOf (run start acts .desk) s ≡ A.Open e n → run start acts .desk .records .count ≡ 0
     → (c : ℕ) (piece : Word) → Below 256 (c ∷ piece) → (feedOf (run start acts .desk) s (run start acts .table) (c ∷ piece) .answer ≡ F.Long → ⊥)
     → 0 < takenBy (feedOf (run start acts .desk) s (run start acts .table) (c ∷ piece) .answer)
-progress acts b s is-open = let have = open-has (run start acts .desk) s is-open in advances acts b s (have .0) (have .1)
+progress acts b s e n is-open = let have = open-has (run start acts .desk) s e n is-open in advances acts b s (have .0) (have .1)
