@@ -62,7 +62,7 @@ fn read_again(gate: &mut Gate, one: &mut Approval) -> Result<(), Refusal> {
 }
 
 /// Decides: only a pass lets an approval through.
-fn finish(gate: &mut Gate, one: &mut Approval) -> Result<(), Refusal> {
+fn decide(gate: &mut Gate, one: &mut Approval) -> Result<(), Refusal> {
     loop {
         match gate.decide(one.serial)? {
             Verdict::Pass => println!("{}: passed", one.name),
@@ -101,9 +101,10 @@ fn main() -> Result<(), Refusal> {
     receive(&mut gate, &mut south, "batch 8 as K-3007")?;
     receive(&mut gate, &mut north, "41 was repeated")?;
     receive(&mut gate, &mut east, "batch 9, nothing to say")?;
-    receive(&mut gate, &mut west, "batch 10 as K-104")?;
-    finish(&mut gate, &mut north)?;
-    finish(&mut gate, &mut west)?;
+    receive(&mut gate, &mut west, "batch 10")?;
+    receive(&mut gate, &mut south, ", signed")?;
+    decide(&mut gate, &mut north)?;
+    decide(&mut gate, &mut west)?;
     if let Err(refusal) = gate.decide(west.serial) {
         println!(
             "west: decided again, it is refused with {}",
@@ -115,7 +116,7 @@ fn main() -> Result<(), Refusal> {
         &["K-1041", "K-2200", "a name of more than thirty-two bytes"],
     );
     install(&mut gate, &["K-1041", "K-2200", "K-3007", "K-300"]);
-    finish(&mut gate, &mut south)?;
+    decide(&mut gate, &mut south)?;
     receive(&mut gate, &mut east, ", signed")?;
-    finish(&mut gate, &mut east)
+    decide(&mut gate, &mut east)
 }

@@ -3,9 +3,9 @@
 
 mod rules;
 
-use crate::raw::{Image, Record, Ticket};
+use crate::raw::{GateImage, Image, Record, Seen, Ticket};
 use crate::set::TagSet;
-use rules::{answer, closed, fed, opened, refused, taken, FREE};
+use rules::{answer, begun, closed, decided, fed, opened, pieced, refused, stated, taken, FREE};
 
 /// Random numbers (xorshift), some of them small so that they meet.
 struct Random(u64);
@@ -65,6 +65,17 @@ impl Random {
             edition: self.number(),
             serial: self.number(),
             slots: self.below(6),
+        }
+    }
+
+    fn gate(&mut self) -> GateImage {
+        let mut seen = || Seen {
+            mask: self.below(3) * self.next(),
+            unread: self.below(4) / 2 * self.next(),
+        };
+        GateImage {
+            seen: [(); 16].map(|_| seen()),
+            desk: self.image(),
         }
     }
 
@@ -177,5 +188,80 @@ fn replace_gives_its_answer_over_any_image() {
         };
         assert_eq!(image.replace(set.as_bytes(), &mut table), rule);
         assert!(image == expected && table == rule_table);
+    }
+}
+
+#[test]
+fn state_gives_its_answer_over_any_image() {
+    let mut random = Random(0x5EED_0006);
+    let mut states = [0; 4];
+    for _ in 0..2_000 {
+        let (image, serial) = (random.image(), random.number());
+        let rule = stated(&image, serial);
+        assert_eq!(image.state(serial), rule);
+        states[rule.a as usize] += 1;
+    }
+    assert!(states.iter().all(|seen| *seen > 20), "states: {states:?}");
+}
+
+#[test]
+fn the_gate_gives_its_answers_over_any_image_and_table() {
+    let mut random = Random(0x5EED_0007);
+    let (mut refusals, mut verdicts, mut pieces) = ([0; 17], [0; 5], [0; 2]);
+    for _ in 0..10_000 {
+        let mut gate = random.gate();
+        let slots = random.below(6);
+        let table = random.table(slots);
+        let room = random.below(16) as usize;
+        if random.below(8) > 0 {
+            gate.desk.slots = slots;
+            gate.desk.tickets[room].edition = gate.desk.edition;
+            gate.desk.tickets[room].place = [slots.saturating_sub(1) as u16; 8];
+            gate.desk.count = random.below(300);
+        }
+        if random.below(3) == 0 {
+            gate.seen[room] = Seen { mask: 0, unread: 0 };
+        }
+        let serial = gate.desk.tickets[room].serial;
+        let length = random.below(40) * random.below(2);
+        let piece: Vec<u8> = (0..length).map(|_| random.next() as u8).collect();
+        let mut expected = gate;
+        for call in 0..3 {
+            let (said, rule) = match call {
+                0 => (gate.begin(), begun(&mut expected)),
+                1 => (
+                    gate.piece(serial, &table, &piece),
+                    pieced(&mut expected, serial, &table, &piece),
+                ),
+                _ => (gate.decide(serial), decided(&mut expected, serial)),
+            };
+            assert_eq!(said, rule, "call {call}");
+            assert!(gate == expected, "call {call}");
+            refusals[said.refusal as usize] += 1;
+            match (said.refusal, call) {
+                (0, 1) => pieces[said.a as usize] += 1,
+                (0, 2) => verdicts[said.a as usize] += 1,
+                _ => {}
+            }
+        }
+    }
+    for number in [0, 9, 10, 12, 13] {
+        assert!(refusals[number] > 50, "refusals: {refusals:?}");
+    }
+    assert!(pieces.iter().all(|seen| *seen > 50), "pieces: {pieces:?}");
+    let seen = &verdicts[1..];
+    assert!(seen.iter().all(|seen| *seen > 50), "verdicts: {verdicts:?}");
+}
+
+#[test]
+fn a_gates_replacement_is_its_desks_over_any_image() {
+    let mut random = Random(0x5EED_0008);
+    let set = TagSet::new(["he", "she", "his", "hers"]).expect("a lawful set");
+    for _ in 0..500 {
+        let (mut gate, length) = (random.gate(), 24 * (9 + random.below(3)) as usize);
+        let (mut expected, mut table, mut rule_table) = (gate, vec![7; length], vec![7; length]);
+        let rule = expected.desk.replace(set.as_bytes(), &mut rule_table);
+        assert_eq!(gate.replace(set.as_bytes(), &mut table), rule);
+        assert!(gate == expected && table == rule_table);
     }
 }

@@ -17,7 +17,8 @@ const MOST_SLOTS: usize = 513;
 /// An approval is begun, handed in piece by piece, and decided. However it was cut and whatever came
 /// between, after any history of calls [`Gate::decide`] answers [`Verdict::Pass`] exactly if no
 /// replacement was accepted since the approval began, every byte handed in was taken, and no tag of
-/// the set in force ends anywhere in those bytes. That is proved (`docs/PROMISES.md`).
+/// the set in force ends anywhere in those bytes. That is proved (`exactly` in
+/// `crates/verdicts/specs/Exactly.antt`).
 ///
 /// The gate owns its table, notes each record for its own approval, and frees the approval's ticket
 /// when it decides, so there is no list to empty and no ticket to close. It can't be cloned: a copy

@@ -21,6 +21,6 @@ awk -v said="$folder/said" '
 [[ $(grep -c '^{$' steps) -gt 0 && $(grep -c '^diff ' steps) -gt 0 ]]
 # where a machine can't start what the page compiles, its `cc` is a cross compiler and its programs run by an emulator
 if [[ -n ${RUN-} ]]; then
-  sed -i -e '1i cc() { "$CC" "$@"; }' -e 's|^\./|$RUN ./|' steps
+  sed -i -e '1i cc() { "$CC" "$@"; }' -e 's|^\./|$RUN ./|' -e 's|^"\$SLEETBARLEY/target/library/bin/|$RUN &|' steps
 fi
 bash -euo pipefail steps

@@ -1,6 +1,6 @@
 //! The rules of each call for any image, in the plainest way.
 
-use crate::raw::{Answer, Image, Record, Ticket};
+use crate::raw::{Answer, GateImage, Image, Record, Seen, Ticket};
 
 pub const FREE: Ticket = Ticket {
     serial: 0,
@@ -144,4 +144,77 @@ fn push(image: &mut Image, room: usize, tag: u8) {
         tag,
     };
     image.count += 1;
+}
+
+pub fn stated(image: &Image, serial: u32) -> Answer {
+    let (state, edition, taken) = match room_of(image, serial) {
+        Some(room) => {
+            let ticket = image.tickets[room];
+            let open = ticket.edition == image.edition;
+            (if open { 3 } else { 2 }, ticket.edition, ticket.taken)
+        }
+        None if (1..=image.serial).contains(&serial) => (1, 0, 0),
+        None => (0, 0, 0),
+    };
+    answer(0, [state, edition.into(), taken.into(), 0])
+}
+
+pub fn begun(gate: &mut GateImage) -> Answer {
+    let said = opened(&mut gate.desk);
+    if said.refusal == 0 {
+        let room = room_of(&gate.desk, said.a as u32).expect("it was opened");
+        gate.seen[room] = Seen { mask: 0, unread: 0 };
+    }
+    said
+}
+
+pub fn pieced(gate: &mut GateImage, serial: u32, table: &[u16], piece: &[u8]) -> Answer {
+    let room = match room_of(&gate.desk, serial) {
+        None => return refused(12),
+        Some(room) => room,
+    };
+    let edition = gate.desk.tickets[room].edition;
+    if edition != gate.desk.edition {
+        return answer(13, [edition.into(), 0, 0, 0]);
+    }
+    let mut rest = piece;
+    while !rest.is_empty() {
+        let said = fed(&mut gate.desk, serial, table, rest);
+        (0..256).for_each(|_| note(gate));
+        match (said.refusal, said.a as usize) {
+            (0, 1..) => rest = &rest[said.a as usize..],
+            _ => {
+                gate.seen[room].unread = 1;
+                let taken = piece.len() - rest.len();
+                return answer(0, [0, taken as u64, 0, 0]);
+            }
+        }
+    }
+    answer(0, [1, 0, 0, 0])
+}
+
+/// Takes a record, if there is one, and marks its tag for its own ticket, if that has a room.
+fn note(gate: &mut GateImage) {
+    let record = taken(&mut gate.desk);
+    if record.refusal == 0 {
+        if let Some(room) = room_of(&gate.desk, record.a as u32) {
+            gate.seen[room].mask |= 1 << (record.d % 64);
+        }
+    }
+}
+
+pub fn decided(gate: &mut GateImage, serial: u32) -> Answer {
+    let room = match room_of(&gate.desk, serial) {
+        None => return refused(12),
+        Some(room) => room,
+    };
+    let (edition, seen) = (gate.desk.tickets[room].edition, gate.seen[room]);
+    gate.desk.tickets[room] = FREE;
+    let (verdict, value) = match seen {
+        _ if edition != gate.desk.edition => (3, edition.into()),
+        Seen { mask: 0, unread: 0 } => (1, 0),
+        Seen { mask, unread: 0 } => (2, mask),
+        _ => (4, 0),
+    };
+    answer(0, [verdict, value, 0, 0])
 }
