@@ -1,4 +1,4 @@
-/* sleet.h: Sleetbarley's desk and tables for C11 and C++11 on x86-64 Linux.
+/* sleet.h: Sleetbarley's gate, desk and tables for C11 and C++11 on x86-64 Linux.
 
    Link libsleet.a, which `./library` puts beside this header in target/library:
 
@@ -6,25 +6,43 @@
 
    Every function of the archive is proved to return, and to give the answer that its contract
    says, for every value of its arguments (crates/gateway/src/lib.rt). The archive has no state of
-   its own, takes no memory and calls nothing but memcpy and memset, so desks in different threads
-   have nothing in common. docs/EMBEDDING.md leads through a first program.
+   its own, takes no memory and calls nothing but memcpy, memmove and memset, so gates and desks in
+   different threads have nothing in common. docs/EMBEDDING.md leads through a first program.
+
+   WHICH CALL GIVES WHAT
+   - To decide about approvals use the gate and nothing else: sleet_gateway_start, sleet_change,
+     then for each approval sleet_begin, sleet_piece for each piece, sleet_decide. SLEET_PASS is said
+     only of an approval that was read whole under the set in force and carries none of its tags.
+   - To be told where each tag ends use a desk: sleet_replace, sleet_open, sleet_feed, sleet_take,
+     sleet_close. A desk decides nothing: a ticket whose last piece was taken may be stale a moment
+     later, and its records may still be held.
+   - To read without tickets use a table: sleet_make_split and sleet_scan_split.
+   - To write a set down use sleet_tags, which can't lose a tag.
+   Each call gives a struct of its own with named members. `refusal` is SLEET_ACCEPTED or a number
+   below; a member that the answer doesn't fill is 0. A refused call changes nothing at all.
 
    WHAT A CALLER KEEPS
-   - A run is lent as a pointer and a count of elements. The pointer isn't null, is aligned for its
-     element, and so many elements can be read there (written too, where it isn't const). With a
-     count of 0 nothing is read or written through it.
+   - A run is lent as a pointer and a count of elements. The pointer is aligned for its element, and
+     so many elements can be read there (written too, where it isn't const). Null counts as a run of
+     no elements, whatever its count says (but see sleet_piece). Other pointers (to a gate, a desk, a
+     place) aren't null.
+   - A gateway or a desk is in one call at a time: threads that share one need a lock around each
+     call.
    - Nobody else writes a lent run during the call. A run that the call writes overlaps no other run
      lent to it, and nobody else reads it meanwhile. Runs that are only read may overlap.
-   - Histories: what is promised of a whole history of calls holds for a desk that came from
-     sleet_desk_new and the calls below, and whose feeds are lent the table as the last accepted
+   - A call wants less than 80 KiB of stack, its copies of the gate or desk included (measured, not
+     proved; a desk's calls want less than 56 KiB).
+   - Histories: what is promised of a whole history of calls holds for a gateway that came from
+     sleet_gateway_start and whose members only the calls below write; and for a desk that came from
+     sleet_desk_new and the calls, and whose feeds are lent the table as the last accepted
      replacement left it. On any other image, and over any other table, each call still gives a
      defined answer: an image is numbers alone, and a table is walked as its numbers say.
 
-   TWO FORMS OF EACH CALL OF A DESK
-   The archive's own functions, sleet_desk_*, take a desk by value and give the next one beside the
-   answer. The functions sleet_replace, sleet_open, .. at the end of this header do the same in
-   place, on a desk that a pointer leads to. They also take null for a run: it counts as a run of
-   no elements, whatever its count says. */
+   TWO FORMS OF EACH CALL
+   The archive's own functions (sleet_gate_*, sleet_desk_*, sleet_build_*, sleet_read_*,
+   sleet_slots_needed) take a gate or a desk by value and give the next one beside an answer of plain
+   numbers, for bindings of other languages; for them no pointer may be null. The inline functions
+   are the same calls in place, with named answers. */
 #ifndef SLEET_H
 #define SLEET_H
 
@@ -36,6 +54,14 @@
 #error "libsleet.a is for x86-64 Linux with 64-bit pointers"
 #endif
 
+/* Marks a call whose answer says what nothing else says later: the compiler warns where it is
+   ignored. */
+#if defined(__GNUC__)
+#define SLEET_LOOK __attribute__((warn_unused_result))
+#else
+#define SLEET_LOOK
+#endif
+
 #ifdef __cplusplus
 #define SLEET_LAYOUT(fact) static_assert(fact, "the layout of the archive")
 extern "C" {
@@ -43,14 +69,22 @@ extern "C" {
 #define SLEET_LAYOUT(fact) _Static_assert(fact, "the layout of the archive")
 #endif
 
+/* ---- Version ---- */
+
+/* 10,000 for the major number, 100 for the minor one, and the patch. sleet_version() gives the
+   archive's own: where it isn't SLEET_VERSION, header and archive aren't of one build. */
+#define SLEET_VERSION 10000
+uint64_t sleet_version(void);
+
 /* ---- Sizes ---- */
 
 enum {
     SLEET_MOST_TAGS = 16,       /* tags of a set */
     SLEET_LONGEST_TAG = 32,     /* bytes of a tag */
     SLEET_LONGEST_SET = 576,    /* bytes of the longest set that is accepted */
+    SLEET_TAG_HEAD = 4,         /* bytes of an entry before its tag: length and kind */
     SLEET_TAG_KIND = 1,         /* the kind of an entry: a tag matched byte for byte */
-    SLEET_MOST_TICKETS = 16,    /* tickets of a desk, open or stale */
+    SLEET_MOST_TICKETS = 16,    /* approvals or tickets at once, open or stale */
     SLEET_MOST_RECORDS = 256,   /* records that a desk holds */
     SLEET_SPLIT_SLOT = 24,      /* numbers of a split table for each slot: 8 machines of 3 */
     SLEET_WHOLE_SLOT = 257,     /* numbers of a whole-byte table for each slot */
@@ -59,44 +93,82 @@ enum {
     SLEET_WHOLE_MACHINE = 254   /* the machine that TABLE names for a whole-byte table */
 };
 
-/* ---- Answers ---- */
-
-/* Where refusal is SLEET_ACCEPTED, a to d are what the call gives. Otherwise refusal is one of the
-   numbers below, and a and b are what is returned with it. Values that there aren't are 0. A
-   refused call changes nothing: neither the desk nor a table nor a list. */
-typedef struct sleet_answer {
-    uint64_t refusal;
-    uint64_t a, b, c, d;
-} sleet_answer;
+/* ---- Refusals, stops, states and verdicts ---- */
 
 enum {
     SLEET_ACCEPTED = 0,
-    SLEET_REFUSED_CUT = 1,        /* set: an entry isn't whole; a: the entry, counted from 0 */
-    SLEET_REFUSED_MANY = 2,       /* set: a 17th entry begins; a: 16 */
-    SLEET_REFUSED_KIND = 3,       /* set: the kind isn't 1; a: the entry */
-    SLEET_REFUSED_LENGTH = 4,     /* set: a length of 0 or above 32; a: the entry */
-    SLEET_REFUSED_EMPTY = 5,      /* set: it has no bytes; a: 0 */
-    SLEET_REFUSED_REPEAT = 6,     /* set: a tag equals an earlier one; a: the entry */
-    SLEET_REFUSED_TABLE = 7,      /* the table is too short; a: lowest machine that is, b: the states it needs */
-    SLEET_REFUSED_EDITION = 8,    /* replace: the edition is 4,294,967,295 */
-    SLEET_REFUSED_NO_SET = 9,     /* open: no replacement was accepted yet */
-    SLEET_REFUSED_SERIAL = 10,    /* open: the last serial is 4,294,967,295 */
-    SLEET_REFUSED_NO_ROOM = 11,   /* open: 16 tickets are open or stale */
-    SLEET_REFUSED_NO_TICKET = 12, /* feed, close: the serial was never given, or is closed */
-    SLEET_REFUSED_STALE = 13,     /* feed: the ticket is older than the set; a: the ticket's edition */
-    SLEET_REFUSED_LONG = 14,      /* feed, read: bytes taken and the piece pass 4,294,967,295 */
-    SLEET_REFUSED_PLACE = 15,     /* read outside the desk: a state of the place isn't below the slots */
+    SLEET_REFUSED_CUT = 1,        /* set: an entry isn't whole; entry: which, counted from 0 */
+    SLEET_REFUSED_MANY = 2,       /* set: a 17th entry begins; entry: 16 */
+    SLEET_REFUSED_KIND = 3,       /* set: the kind isn't 1; entry: which */
+    SLEET_REFUSED_LENGTH = 4,     /* set: a length of 0 or above 32; entry: which */
+    SLEET_REFUSED_EMPTY = 5,      /* set: it has no bytes; entry: 0 */
+    SLEET_REFUSED_REPEAT = 6,     /* set: a tag equals an earlier one; entry: which */
+    SLEET_REFUSED_TABLE = 7,      /* the table is too short; machine: lowest that is, needs: its states */
+    SLEET_REFUSED_EDITION = 8,    /* change, replace: the edition is 4,294,967,295 */
+    SLEET_REFUSED_NO_SET = 9,     /* begin, open: no set was accepted yet */
+    SLEET_REFUSED_SERIAL = 10,    /* begin, open: the last serial is 4,294,967,295 */
+    SLEET_REFUSED_NO_ROOM = 11,   /* begin, open: 16 tickets are open or stale */
+    SLEET_REFUSED_NO_TICKET = 12, /* a serial was never given, or its ticket is decided or closed */
+    SLEET_REFUSED_STALE = 13,     /* piece, feed: the ticket is older than the set; edition: its own */
+    SLEET_REFUSED_LONG = 14,      /* feed, scan: bytes taken and the piece pass 4,294,967,295 */
+    SLEET_REFUSED_PLACE = 15,     /* scan: a state of the place isn't below the slots */
     SLEET_REFUSED_NOTHING = 16    /* take: no record is held */
 };
 
-/* Why a reading stopped. None of these is a refusal: the bytes taken before it stay taken. */
+/* Why a reading stopped. The bytes taken before it stay taken. */
 enum {
-    SLEET_STOP_ALL = 0,    /* every byte of the piece was taken */
-    SLEET_STOP_FULL = 1,   /* the next byte's matches don't all fit: take records, feed the rest */
-    SLEET_STOP_DAMAGED = 2 /* the table isn't as the replacement left it */
+    SLEET_STOP_ALL = 0,     /* every byte of the piece was taken */
+    SLEET_STOP_FULL = 1,    /* the next byte's matches don't all fit: take records, feed the rest */
+    SLEET_STOP_DAMAGED = 2, /* the table isn't as the replacement left it */
+    SLEET_STOP_NONE = 3     /* the call was refused: it read nothing */
 };
 
-/* ---- The desk ---- */
+/* What has become of a desk's ticket. */
+enum {
+    SLEET_NEVER_GIVEN = 0, /* no opening gave this serial */
+    SLEET_CLOSED = 1,
+    SLEET_STALE = 2, /* the set was replaced since it was opened: it takes no byte more */
+    SLEET_OPEN = 3
+};
+
+/* What is decided of an approval. Only SLEET_PASS lets it through. */
+enum {
+    SLEET_NO_VERDICT = 0, /* the call was refused: there is no such approval, or it is decided */
+    SLEET_PASS = 1,       /* read whole under the set in force, and none of its tags is in it */
+    SLEET_HOLD = 2,       /* read whole under the set in force; mask: the tags that are in it */
+    SLEET_TOO_OLD = 3,    /* the set was replaced since it began: begin anew, from its first byte */
+    SLEET_UNREAD = 4      /* bytes handed in were not taken: begin anew, from its first byte */
+};
+
+/* Names as the documents write them: CUT to NOTHING, ALL to DAMAGED, PASS to UNREAD. */
+static inline const char *sleet_refusal_name(uint64_t refusal)
+{
+    static const char *const names[] = {
+        "accepted", "CUT",    "MANY",    "KIND",      "LENGTH", "EMPTY", "REPEAT", "TABLE",  "EDITION",
+        "NO SET",   "SERIAL", "NO ROOM", "NO TICKET", "STALE",  "LONG",  "PLACE",  "NOTHING"};
+    return refusal <= SLEET_REFUSED_NOTHING ? names[refusal] : "unknown";
+}
+
+static inline const char *sleet_stop_name(uint64_t stop)
+{
+    static const char *const names[] = {"ALL", "FULL", "DAMAGED", "none"};
+    return stop <= SLEET_STOP_NONE ? names[stop] : "unknown";
+}
+
+static inline const char *sleet_verdict_name(uint64_t verdict)
+{
+    static const char *const names[] = {"no verdict", "PASS", "HOLD", "STALE", "UNREAD"};
+    return verdict <= SLEET_UNREAD ? names[verdict] : "unknown";
+}
+
+/* ---- The archive: images, and answers as plain numbers ---- */
+
+/* Where refusal is SLEET_ACCEPTED, the values are what the call gives; otherwise what is returned
+   with the refusal. Values that there aren't are 0. */
+typedef struct sleet_answer {
+    uint64_t refusal;
+    uint64_t a, b, c, d, e, f, g;
+} sleet_answer;
 
 /* A room for a ticket: free where the serial is 0. A ticket is stale where its edition isn't the
    desk's. */
@@ -107,18 +179,19 @@ typedef struct sleet_ticket {
     uint16_t place[8]; /* the state of each machine */
 } sleet_ticket;
 
-/* The bytes behind the tag hold nothing and may differ between equal records: compare members. */
-typedef struct sleet_record {
+/* A record inside a desk. The bytes behind the tag hold nothing and may differ between equal
+   records: compare members. */
+typedef struct sleet_held {
     uint32_t serial;
-    uint32_t edition; /* that of the ticket */
-    uint32_t end;     /* bytes of the ticket up to and including the occurrence's last */
-    uint8_t tag;      /* the tag's number in the set of that edition */
-} sleet_record;
+    uint32_t edition;
+    uint32_t end;
+    uint8_t tag;
+} sleet_held;
 
 /* A desk: copy it, keep it anywhere, read its members; let only the calls change them. */
 typedef struct sleet_desk {
     sleet_ticket tickets[16];
-    sleet_record ring[256]; /* count records from first on, round the ring */
+    sleet_held ring[256]; /* count records from first on, round the ring */
     uint64_t first;
     uint64_t count;
     uint32_t edition; /* of the set in force; 0: none yet */
@@ -126,43 +199,31 @@ typedef struct sleet_desk {
     uint64_t slots;   /* of the last accepted replacement's table */
 } sleet_desk;
 
+/* What a gate has seen for the ticket in the room of the same index. */
+typedef struct sleet_seen {
+    uint64_t mask;   /* bit i: tag i ended somewhere in it */
+    uint64_t unread; /* 0 as long as every byte handed in was taken */
+} sleet_seen;
+
+typedef struct sleet_gate {
+    sleet_desk desk;
+    sleet_seen seen[16];
+} sleet_gate;
+
 typedef struct sleet_reply {
     sleet_desk desk; /* the desk after the call */
     sleet_answer answer;
 } sleet_reply;
 
+typedef struct sleet_gate_reply {
+    sleet_gate gate; /* the gate after the call */
+    sleet_answer answer;
+} sleet_gate_reply;
+
 typedef struct sleet_taken_many {
     sleet_desk desk;
     uint64_t count; /* records taken */
 } sleet_taken_many;
-
-/* A new desk: edition 0, serial 0, no set. */
-sleet_desk sleet_desk_new(void);
-
-/* Reads a set and builds its split table. Every ticket opened before becomes stale.
-   a: the new edition, b: the number of tags. Refused: CUT to REPEAT, TABLE, EDITION. */
-sleet_reply sleet_desk_replace(sleet_desk desk, const uint8_t *set, size_t set_length, uint16_t *table,
-                               size_t table_length);
-
-/* Opens a ticket. a: its serial. Refused: NO_SET, SERIAL, NO_ROOM. */
-sleet_reply sleet_desk_open(sleet_desk desk);
-
-/* Reads a piece for a ticket, over the table as the last accepted replacement left it.
-   a: bytes taken, b: why it stopped, c: records added. Refused: NO_TICKET, STALE, LONG. */
-sleet_reply sleet_desk_feed(sleet_desk desk, uint32_t serial, const uint16_t *table, size_t table_length,
-                            const uint8_t *piece, size_t piece_length);
-
-/* Closes a ticket, open or stale. Refused: NO_TICKET. */
-sleet_reply sleet_desk_close(sleet_desk desk, uint32_t serial);
-
-/* Takes the oldest record. a: serial, b: edition, c: end, d: tag. Refused: NOTHING. */
-sleet_reply sleet_desk_take(sleet_desk desk);
-
-/* Takes as many of the oldest records as the list has room for, four numbers each: serial,
-   edition, end, tag. The rest of the list stays as it was. Never refused. */
-sleet_taken_many sleet_desk_take_many(sleet_desk desk, uint32_t *list, size_t list_length);
-
-/* ---- Tables outside a desk ---- */
 
 typedef struct sleet_split_reply {
     sleet_answer answer;
@@ -174,18 +235,61 @@ typedef struct sleet_whole_reply {
     uint16_t place;
 } sleet_whole_reply;
 
+/* A new gate: edition 0, serial 0, no set. */
+sleet_gate sleet_gate_new(void);
+
+/* a: the new edition, b: the number of tags. Refused: CUT to REPEAT (a: entry), TABLE (a: machine,
+   b: states), EDITION. */
+sleet_gate_reply sleet_gate_replace(sleet_gate gate, const uint8_t *set, size_t set_length, uint16_t *table,
+                                    size_t table_length);
+
+/* a: the serial. Refused: NO_SET, SERIAL, NO_ROOM. */
+sleet_gate_reply sleet_gate_begin(sleet_gate gate);
+
+/* a: 1 where every byte was taken; else 0, and b: the bytes taken. Refused: NO_TICKET, STALE
+   (a: edition). */
+sleet_gate_reply sleet_gate_piece(sleet_gate gate, uint32_t serial, const uint16_t *table, size_t table_length,
+                                  const uint8_t *piece, size_t piece_length);
+
+/* a: a verdict, 1 to 4; b: the mask of HOLD, the edition of TOO_OLD. Refused: NO_TICKET. */
+sleet_gate_reply sleet_gate_decide(sleet_gate gate, uint32_t serial);
+
+/* A new desk: edition 0, serial 0, no set. */
+sleet_desk sleet_desk_new(void);
+
+/* As the gate's. */
+sleet_reply sleet_desk_replace(sleet_desk desk, const uint8_t *set, size_t set_length, uint16_t *table,
+                               size_t table_length);
+
+/* a: the serial. Refused: NO_SET, SERIAL, NO_ROOM. */
+sleet_reply sleet_desk_open(sleet_desk desk);
+
+/* a: bytes taken, b: why it stopped, c: records added. Refused: NO_TICKET, STALE (a: edition),
+   LONG. */
+sleet_reply sleet_desk_feed(sleet_desk desk, uint32_t serial, const uint16_t *table, size_t table_length,
+                            const uint8_t *piece, size_t piece_length);
+
+/* Refused: NO_TICKET. */
+sleet_reply sleet_desk_close(sleet_desk desk, uint32_t serial);
+
+/* a: serial, b: edition, c: end, d: tag. Refused: NOTHING. */
+sleet_reply sleet_desk_take(sleet_desk desk);
+
+/* Four numbers of the list for each record: serial, edition, end, tag. Never refused. */
+sleet_taken_many sleet_desk_take_many(sleet_desk desk, uint32_t *list, size_t list_length);
+
+/* a: the state, b: its edition, c: bytes taken (0 unless stale or open). Never refused. */
+sleet_answer sleet_desk_state(sleet_desk desk, uint32_t serial);
+
 /* a: slots of a split table for this set, b: slots of a whole-byte table. Refused: CUT to REPEAT. */
 sleet_answer sleet_slots_needed(const uint8_t *set, size_t set_length);
 
-/* Builds a table. a: the number of tags. Unused slots are set to 0, numbers behind the last whole
-   slot stay as they were. Refused: CUT to REPEAT, TABLE. */
+/* a: the number of tags. Refused: CUT to REPEAT, TABLE. */
 sleet_answer sleet_build_split(const uint8_t *set, size_t set_length, uint16_t *table, size_t table_length);
 sleet_answer sleet_build_whole(const uint8_t *set, size_t set_length, uint16_t *table, size_t table_length);
 
-/* Reads a piece from a place, all 0 at the start, with count bytes taken before it, and writes
-   records of two numbers into the list: end, tag. A list of an odd length has one unused number.
-   a: bytes taken, b: why it stopped, c: records written. Refused: PLACE, LONG.
-   place leads to 8 numbers; it isn't null. */
+/* a: bytes taken, b: why it stopped, c: records written, two numbers of the list each: end, tag. A
+   list of an odd length has one unused number. Refused: PLACE, LONG. */
 sleet_split_reply sleet_read_split(const uint16_t *table, size_t table_length, const uint16_t *place,
                                    uint32_t count, const uint8_t *piece, size_t piece_length, uint32_t *list,
                                    size_t list_length);
@@ -193,93 +297,464 @@ sleet_whole_reply sleet_read_whole(const uint16_t *table, size_t table_length, u
                                    const uint8_t *piece, size_t piece_length, uint32_t *list,
                                    size_t list_length);
 
-/* ---- The same calls in place; null counts as a run of no elements ---- */
-
 /* What stands in for a null pointer, for the archive asks for one that isn't; nothing is read there. */
 static const uint64_t sleet_no_elements = 0;
 #define SLEET_AT(type, pointer) ((pointer) ? (pointer) : (type *)(uintptr_t)&sleet_no_elements)
 #define SLEET_COUNT(pointer, count) ((pointer) ? (count) : 0)
 
-static inline sleet_answer sleet_replace(sleet_desk *desk, const uint8_t *set, size_t set_length,
-                                         uint16_t *table, size_t table_length)
+/* ---- Writing a set ---- */
+
+/* A set that is being written. Its room is that of the longest lawful set and of one head more: a
+   tag that finds no room still has its head written, and replace refuses the set (CUT, MANY or
+   LENGTH). So a set that lost a tag is never accepted, whatever its writer looked at. */
+typedef struct sleet_tags {
+    uint8_t bytes[580];
+    size_t length;
+} sleet_tags;
+
+static inline sleet_tags sleet_tags_none(void)
+{
+    sleet_tags none;
+    memset(&none, 0, sizeof none);
+    return none;
+}
+
+/* Writes an entry's head. A length that two bytes can't say is no lawful one: 65,535 stands for it. */
+static inline void sleet_put_head(uint8_t *entry, size_t tag_length)
+{
+    size_t said = tag_length > 65535 ? 65535 : tag_length;
+    entry[0] = (uint8_t)(said & 255);
+    entry[1] = (uint8_t)(said >> 8);
+    entry[2] = SLEET_TAG_KIND;
+    entry[3] = 0;
+}
+
+/* 1 where the tag was written; 0 where it found no room, and then the set is refused. Whether the
+   set is lawful is for replace to say. */
+SLEET_LOOK static inline int sleet_tags_add(sleet_tags *tags, const void *tag, size_t tag_length)
+{
+    size_t room = tags->length > sizeof tags->bytes ? 0 : sizeof tags->bytes - tags->length;
+    if (!tag && tag_length > 0)
+        tag_length = SIZE_MAX; /* a tag that nobody can read is refused as too long */
+    size_t wanted = tag_length > sizeof tags->bytes ? sizeof tags->bytes + 1 : SLEET_TAG_HEAD + tag_length;
+    if (room < SLEET_TAG_HEAD)
+        return 0; /* more than 576 bytes are written, which no lawful set has */
+    uint8_t *entry = tags->bytes + tags->length;
+    sleet_put_head(entry, tag_length);
+    tags->length += SLEET_TAG_HEAD;
+    if (room < wanted)
+        return 0; /* what is left can't hold the tag, so nothing written later completes it */
+    if (tag_length > 0)
+        memcpy(entry + SLEET_TAG_HEAD, tag, tag_length);
+    tags->length += tag_length;
+    return 1;
+}
+
+/* What sleet_set_add gives. Where added is 0 nothing was written, and length is as it was. */
+typedef struct sleet_added {
+    int added;
+    size_t length;
+} sleet_added;
+
+/* The same in a run of the caller's own, of set_room bytes: puts an entry behind the first
+   set_length. It can't mark the set where it finds no room, so added must be looked at. */
+SLEET_LOOK static inline sleet_added sleet_set_add(uint8_t *set, size_t set_room, size_t set_length,
+                                                   const void *tag, size_t tag_length)
+{
+    sleet_added said = {0, set_length};
+    size_t room = set_room < set_length ? 0 : set_room - set_length;
+    if (tag_length > 65535 || room < SLEET_TAG_HEAD || room - SLEET_TAG_HEAD < tag_length || (!tag && tag_length > 0))
+        return said;
+    sleet_put_head(set + set_length, tag_length);
+    if (tag_length > 0)
+        memcpy(set + set_length + SLEET_TAG_HEAD, tag, tag_length);
+    said.added = 1;
+    said.length += SLEET_TAG_HEAD + tag_length;
+    return said;
+}
+
+/* ---- Answers with names ---- */
+
+typedef struct sleet_replaced {
+    uint64_t refusal; /* CUT to REPEAT, TABLE, EDITION */
+    uint32_t edition; /* of the set now in force */
+    size_t tags;      /* their number */
+    size_t entry;     /* CUT to REPEAT: the entry at fault */
+    size_t machine;   /* TABLE: the lowest machine whose slots are too few */
+    size_t needs;     /* TABLE: the states that it needs */
+} sleet_replaced;
+
+static inline sleet_replaced sleet_as_replaced(sleet_answer said)
+{
+    sleet_replaced r = {said.refusal, 0, 0, 0, 0, 0};
+    if (said.refusal == SLEET_ACCEPTED) {
+        r.edition = (uint32_t)said.a;
+        r.tags = said.b;
+    } else if (said.refusal == SLEET_REFUSED_TABLE) {
+        r.machine = said.a;
+        r.needs = said.b;
+    } else {
+        r.entry = said.a;
+    }
+    return r;
+}
+
+/* The edition that STALE is refused with. */
+static inline uint32_t sleet_stale_edition(sleet_answer said)
+{
+    return said.refusal == SLEET_REFUSED_STALE ? (uint32_t)said.a : 0;
+}
+
+/* ---- The gate ---- */
+
+/* A gate and its table. They stay together, so that no piece is read over another table. */
+typedef struct sleet_gateway {
+    sleet_gate gate;
+    uint16_t table[SLEET_SPLIT_TABLE];
+} sleet_gateway;
+
+typedef struct sleet_begun {
+    uint64_t refusal; /* NO_SET, SERIAL, NO_ROOM */
+    uint32_t serial;  /* the approval's, from 1; 0 where refused, which is nobody's */
+} sleet_begun;
+
+typedef struct sleet_pieced {
+    uint64_t refusal; /* NO_TICKET, STALE */
+    int whole;        /* 1: every byte of the piece was taken; else the approval can't pass */
+    size_t taken;     /* bytes of the piece that were taken */
+    uint32_t edition; /* STALE: that under which it began */
+} sleet_pieced;
+
+typedef struct sleet_decided {
+    uint64_t refusal; /* NO_TICKET */
+    uint64_t verdict; /* SLEET_PASS, SLEET_HOLD, SLEET_TOO_OLD, SLEET_UNREAD; 0 where refused */
+    uint64_t mask;    /* HOLD: bit i for tag i of the set in force */
+    uint32_t edition; /* TOO_OLD: that under which it began */
+} sleet_decided;
+
+/* Makes it a new one: edition 0, no set, no approval. One of zeros, as a static one is, is new too. */
+static inline void sleet_gateway_start(sleet_gateway *gateway)
+{
+    gateway->gate = sleet_gate_new();
+    memset(gateway->table, 0, sizeof gateway->table);
+}
+
+/* Puts a set in force. Every approval begun before is TOO_OLD from now on. Refused: CUT to REPEAT,
+   EDITION; then the set before stays in force. */
+SLEET_LOOK static inline sleet_replaced sleet_change(sleet_gateway *gateway, const uint8_t *set, size_t set_length)
+{
+    sleet_gate_reply r = sleet_gate_replace(gateway->gate, SLEET_AT(const uint8_t, set), SLEET_COUNT(set, set_length),
+                                            gateway->table, SLEET_SPLIT_TABLE);
+    gateway->gate = r.gate;
+    return sleet_as_replaced(r.answer);
+}
+
+/* A new approval. Refused: NO_SET, SERIAL, and NO_ROOM where 16 are begun and not decided. */
+SLEET_LOOK static inline sleet_begun sleet_begin(sleet_gateway *gateway)
+{
+    sleet_gate_reply r = sleet_gate_begin(gateway->gate);
+    sleet_begun said = {r.answer.refusal, 0};
+    gateway->gate = r.gate;
+    if (said.refusal == SLEET_ACCEPTED)
+        said.serial = (uint32_t)r.answer.a;
+    return said;
+}
+
+/* The next piece of an approval, of any length; a tag may lie across pieces. Refused: NO_TICKET,
+   STALE. What it answers need not be looked at: the decision knows it too. Null with a length above
+   0 is a piece that nobody can read: none of it is taken, so the approval can't pass. */
+static inline sleet_pieced sleet_piece(sleet_gateway *gateway, uint32_t serial, const uint8_t *piece,
+                                       size_t piece_length)
+{
+    /* over a table of no numbers, which is never that of the replacement, no byte is taken */
+    size_t lent = piece || piece_length == 0 ? SLEET_SPLIT_TABLE : 0;
+    size_t length = piece || piece_length == 0 ? piece_length : 1;
+    sleet_gate_reply r = sleet_gate_piece(gateway->gate, serial, gateway->table, lent,
+                                          SLEET_AT(const uint8_t, piece), length);
+    sleet_pieced said = {r.answer.refusal, 0, 0, sleet_stale_edition(r.answer)};
+    gateway->gate = r.gate;
+    if (said.refusal == SLEET_ACCEPTED) {
+        said.whole = r.answer.a == 1;
+        said.taken = said.whole ? length : r.answer.b;
+    }
+    return said;
+}
+
+/* Decides about an approval after its last piece, and forgets it: its room is free, its serial is
+   NO_TICKET for ever. Refused: NO_TICKET. */
+SLEET_LOOK static inline sleet_decided sleet_decide(sleet_gateway *gateway, uint32_t serial)
+{
+    sleet_gate_reply r = sleet_gate_decide(gateway->gate, serial);
+    sleet_decided said = {r.answer.refusal, SLEET_NO_VERDICT, 0, 0};
+    gateway->gate = r.gate;
+    if (said.refusal != SLEET_ACCEPTED)
+        return said;
+    said.verdict = r.answer.a;
+    if (said.verdict == SLEET_HOLD)
+        said.mask = r.answer.b;
+    if (said.verdict == SLEET_TOO_OLD)
+        said.edition = (uint32_t)r.answer.b;
+    return said;
+}
+
+/* Whether a mask has a tag. */
+static inline int sleet_mask_has(uint64_t mask, size_t tag)
+{
+    return tag < 64 && (mask >> tag & 1) != 0;
+}
+
+/* ---- The desk, in place ---- */
+
+/* A record: four numbers, as sleet_take_many writes them. */
+typedef struct sleet_record {
+    uint32_t serial;
+    uint32_t edition; /* that of the ticket */
+    uint32_t end;     /* bytes of the ticket up to and including the occurrence's last */
+    uint32_t tag;     /* the tag's number in the set of that edition */
+} sleet_record;
+
+typedef struct sleet_opened {
+    uint64_t refusal; /* NO_SET, SERIAL, NO_ROOM */
+    uint32_t serial;  /* from 1; 0 where refused, which is nobody's */
+} sleet_opened;
+
+typedef struct sleet_fed {
+    uint64_t refusal; /* NO_TICKET, STALE, LONG */
+    size_t taken;     /* bytes of the piece that were taken */
+    uint64_t stop;    /* SLEET_STOP_ALL, _FULL, _DAMAGED; SLEET_STOP_NONE where refused */
+    size_t records;   /* added */
+    uint32_t edition; /* STALE: that of the ticket */
+} sleet_fed;
+
+typedef struct sleet_closed {
+    uint64_t refusal; /* NO_TICKET */
+} sleet_closed;
+
+typedef struct sleet_taken {
+    uint64_t refusal;    /* NOTHING */
+    sleet_record record; /* zeros where refused: serial 0 is nobody's */
+} sleet_taken;
+
+typedef struct sleet_stated {
+    uint64_t state;   /* SLEET_NEVER_GIVEN, SLEET_CLOSED, SLEET_STALE, SLEET_OPEN */
+    uint32_t edition; /* stale or open: under which it was opened */
+    size_t taken;     /* stale or open: bytes taken */
+} sleet_stated;
+
+/* Reads a set and builds its split table. Every ticket opened before becomes stale. Refused: CUT to
+   REPEAT, TABLE, EDITION. */
+SLEET_LOOK static inline sleet_replaced sleet_replace(sleet_desk *desk, const uint8_t *set, size_t set_length,
+                                                      uint16_t *table, size_t table_length)
 {
     sleet_reply r = sleet_desk_replace(*desk, SLEET_AT(const uint8_t, set), SLEET_COUNT(set, set_length),
                                        SLEET_AT(uint16_t, table), SLEET_COUNT(table, table_length));
     *desk = r.desk;
-    return r.answer;
+    return sleet_as_replaced(r.answer);
 }
 
-static inline sleet_answer sleet_open(sleet_desk *desk)
+/* Opens a ticket. Refused: NO_SET, SERIAL, NO_ROOM. */
+SLEET_LOOK static inline sleet_opened sleet_open(sleet_desk *desk)
 {
     sleet_reply r = sleet_desk_open(*desk);
+    sleet_opened said = {r.answer.refusal, 0};
     *desk = r.desk;
-    return r.answer;
+    if (said.refusal == SLEET_ACCEPTED)
+        said.serial = (uint32_t)r.answer.a;
+    return said;
 }
 
-static inline sleet_answer sleet_feed(sleet_desk *desk, uint32_t serial, const uint16_t *table,
-                                      size_t table_length, const uint8_t *piece, size_t piece_length)
+/* Reads a piece for a ticket, over the table as the last accepted replacement left it. Refused:
+   NO_TICKET, STALE, LONG. */
+SLEET_LOOK static inline sleet_fed sleet_feed(sleet_desk *desk, uint32_t serial, const uint16_t *table,
+                                              size_t table_length, const uint8_t *piece, size_t piece_length)
 {
     sleet_reply r = sleet_desk_feed(*desk, serial, SLEET_AT(const uint16_t, table),
                                     SLEET_COUNT(table, table_length), SLEET_AT(const uint8_t, piece),
                                     SLEET_COUNT(piece, piece_length));
+    sleet_fed said = {r.answer.refusal, 0, SLEET_STOP_NONE, 0, sleet_stale_edition(r.answer)};
     *desk = r.desk;
-    return r.answer;
+    if (said.refusal == SLEET_ACCEPTED) {
+        said.taken = r.answer.a;
+        said.stop = r.answer.b;
+        said.records = r.answer.c;
+    }
+    return said;
 }
 
-static inline sleet_answer sleet_close(sleet_desk *desk, uint32_t serial)
+/* Closes a ticket, open or stale. Refused: NO_TICKET. */
+static inline sleet_closed sleet_close(sleet_desk *desk, uint32_t serial)
 {
     sleet_reply r = sleet_desk_close(*desk, serial);
+    sleet_closed said = {r.answer.refusal};
     *desk = r.desk;
-    return r.answer;
+    return said;
 }
 
-static inline sleet_answer sleet_take(sleet_desk *desk)
+/* Takes the oldest record. Refused: NOTHING. */
+SLEET_LOOK static inline sleet_taken sleet_take(sleet_desk *desk)
 {
     sleet_reply r = sleet_desk_take(*desk);
+    sleet_taken said = {r.answer.refusal, {0, 0, 0, 0}};
     *desk = r.desk;
-    return r.answer;
+    if (said.refusal == SLEET_ACCEPTED) {
+        said.record.serial = (uint32_t)r.answer.a;
+        said.record.edition = (uint32_t)r.answer.b;
+        said.record.end = (uint32_t)r.answer.c;
+        said.record.tag = (uint32_t)r.answer.d;
+    }
+    return said;
 }
 
-/* Gives the number of records taken. */
-static inline uint64_t sleet_take_many(sleet_desk *desk, uint32_t *list, size_t list_length)
+/* Takes as many of the oldest records as there is room for, and gives their number. What lies
+   behind them stays as it was. Never refused. */
+SLEET_LOOK static inline size_t sleet_take_many(sleet_desk *desk, sleet_record *records, size_t room)
 {
+    uint32_t *list = (uint32_t *)(void *)records;
     sleet_taken_many r =
-        sleet_desk_take_many(*desk, SLEET_AT(uint32_t, list), SLEET_COUNT(list, list_length));
+        sleet_desk_take_many(*desk, SLEET_AT(uint32_t, list), SLEET_COUNT(list, 4 * room));
     *desk = r.desk;
     return r.count;
 }
 
-/* Puts an entry behind the set_length bytes of a set that has room for set_room, and gives the new
-   length; where it doesn't fit, or the tag is too long for an entry to say so, it gives 0 and
-   writes nothing. Whether the set is lawful is for replace and the builders to say. */
-static inline size_t sleet_set_add(uint8_t *set, size_t set_room, size_t set_length, const void *tag,
-                                   size_t tag_length)
+/* What has become of a ticket. Never refused. */
+static inline sleet_stated sleet_state(const sleet_desk *desk, uint32_t serial)
 {
-    size_t room = set_room < set_length ? 0 : set_room - set_length;
-    if (tag_length > 65535 || room < 4 || room - 4 < tag_length)
-        return 0;
-    uint8_t *entry = set + set_length;
-    entry[0] = (uint8_t)(tag_length & 255);
-    entry[1] = (uint8_t)(tag_length >> 8);
-    entry[2] = SLEET_TAG_KIND;
-    entry[3] = 0;
-    if (tag_length > 0)
-        memcpy(entry + 4, tag, tag_length);
-    return set_length + 4 + tag_length;
+    sleet_answer said = sleet_desk_state(*desk, serial);
+    sleet_stated r = {said.a, (uint32_t)said.b, said.c};
+    return r;
+}
+
+/* ---- Tables outside a desk ---- */
+
+typedef struct sleet_needed {
+    uint64_t refusal;   /* CUT to REPEAT */
+    size_t entry;       /* where refused: the entry at fault */
+    size_t split_slots; /* of SLEET_SPLIT_SLOT numbers each */
+    size_t whole_slots; /* of SLEET_WHOLE_SLOT numbers each */
+} sleet_needed;
+
+typedef struct sleet_built {
+    uint64_t refusal; /* CUT to REPEAT, TABLE */
+    size_t entry;     /* CUT to REPEAT: the entry at fault */
+    size_t machine;   /* TABLE: the lowest machine whose slots are too few */
+    size_t needs;     /* TABLE: the states that it needs */
+    size_t tags;      /* their number */
+} sleet_built;
+
+/* What a scan writes for an occurrence. */
+typedef struct sleet_found {
+    uint32_t end; /* bytes taken up to and including its last */
+    uint32_t tag;
+} sleet_found;
+
+typedef struct sleet_was_read {
+    uint64_t refusal; /* PLACE, LONG */
+    size_t taken;     /* bytes of the piece that were taken */
+    uint64_t stop;    /* SLEET_STOP_ALL, _FULL, _DAMAGED; SLEET_STOP_NONE where refused */
+    size_t records;   /* written */
+} sleet_was_read;
+
+/* The slots that a set needs, in both layouts. Refused: CUT to REPEAT. */
+SLEET_LOOK static inline sleet_needed sleet_size(const uint8_t *set, size_t set_length)
+{
+    sleet_answer said = sleet_slots_needed(SLEET_AT(const uint8_t, set), SLEET_COUNT(set, set_length));
+    sleet_needed r = {said.refusal, 0, 0, 0};
+    if (said.refusal == SLEET_ACCEPTED) {
+        r.split_slots = said.a;
+        r.whole_slots = said.b;
+    } else {
+        r.entry = said.a;
+    }
+    return r;
+}
+
+static inline sleet_built sleet_as_built(sleet_answer said)
+{
+    sleet_built r = {said.refusal, 0, 0, 0, 0};
+    if (said.refusal == SLEET_ACCEPTED) {
+        r.tags = said.a;
+    } else if (said.refusal == SLEET_REFUSED_TABLE) {
+        r.machine = said.a;
+        r.needs = said.b;
+    } else {
+        r.entry = said.a;
+    }
+    return r;
+}
+
+/* Builds a table. Unused slots are set to 0, numbers behind the last whole slot stay as they were.
+   Refused: CUT to REPEAT, TABLE. */
+SLEET_LOOK static inline sleet_built sleet_make_split(const uint8_t *set, size_t set_length, uint16_t *table,
+                                                      size_t table_length)
+{
+    return sleet_as_built(sleet_build_split(SLEET_AT(const uint8_t, set), SLEET_COUNT(set, set_length),
+                                            SLEET_AT(uint16_t, table), SLEET_COUNT(table, table_length)));
+}
+
+SLEET_LOOK static inline sleet_built sleet_make_whole(const uint8_t *set, size_t set_length, uint16_t *table,
+                                                      size_t table_length)
+{
+    return sleet_as_built(sleet_build_whole(SLEET_AT(const uint8_t, set), SLEET_COUNT(set, set_length),
+                                            SLEET_AT(uint16_t, table), SLEET_COUNT(table, table_length)));
+}
+
+static inline sleet_was_read sleet_as_read(sleet_answer said)
+{
+    sleet_was_read r = {said.refusal, 0, SLEET_STOP_NONE, 0};
+    if (said.refusal == SLEET_ACCEPTED) {
+        r.taken = said.a;
+        r.stop = said.b;
+        r.records = said.c;
+    }
+    return r;
+}
+
+/* Reads a piece from a place, all 0 at the start, with count bytes taken before it; writes what it
+   finds, and leaves the place after it in place, which is 8 numbers for a split table and 1 for a
+   whole-byte table. Refused: PLACE, LONG. */
+SLEET_LOOK static inline sleet_was_read sleet_scan_split(const uint16_t *table, size_t table_length, uint16_t *place,
+                                                         uint32_t count, const uint8_t *piece, size_t piece_length,
+                                                         sleet_found *found, size_t room)
+{
+    uint32_t *list = (uint32_t *)(void *)found;
+    sleet_split_reply r =
+        sleet_read_split(SLEET_AT(const uint16_t, table), SLEET_COUNT(table, table_length), place, count,
+                         SLEET_AT(const uint8_t, piece), SLEET_COUNT(piece, piece_length),
+                         SLEET_AT(uint32_t, list), SLEET_COUNT(list, 2 * room));
+    memcpy(place, r.place, sizeof r.place);
+    return sleet_as_read(r.answer);
+}
+
+SLEET_LOOK static inline sleet_was_read sleet_scan_whole(const uint16_t *table, size_t table_length, uint16_t *place,
+                                                         uint32_t count, const uint8_t *piece, size_t piece_length,
+                                                         sleet_found *found, size_t room)
+{
+    uint32_t *list = (uint32_t *)(void *)found;
+    sleet_whole_reply r =
+        sleet_read_whole(SLEET_AT(const uint16_t, table), SLEET_COUNT(table, table_length), *place, count,
+                         SLEET_AT(const uint8_t, piece), SLEET_COUNT(piece, piece_length),
+                         SLEET_AT(uint32_t, list), SLEET_COUNT(list, 2 * room));
+    *place = r.place;
+    return sleet_as_read(r.answer);
 }
 
 /* ---- The layout, held against the archive by tests/library.sh ---- */
 
-SLEET_LAYOUT(sizeof(sleet_answer) == 40 && offsetof(sleet_answer, d) == 32);
+SLEET_LAYOUT(sizeof(sleet_answer) == 64 && offsetof(sleet_answer, g) == 56);
 SLEET_LAYOUT(sizeof(sleet_ticket) == 28 && offsetof(sleet_ticket, place) == 12);
-SLEET_LAYOUT(sizeof(sleet_record) == 16 && offsetof(sleet_record, tag) == 12);
+SLEET_LAYOUT(sizeof(sleet_held) == 16 && offsetof(sleet_held, tag) == 12);
 SLEET_LAYOUT(offsetof(sleet_desk, ring) == 448 && offsetof(sleet_desk, first) == 4544);
 SLEET_LAYOUT(offsetof(sleet_desk, edition) == 4560 && offsetof(sleet_desk, serial) == 4564);
 SLEET_LAYOUT(offsetof(sleet_desk, slots) == 4568 && sizeof(sleet_desk) == 4576);
-SLEET_LAYOUT(sizeof(sleet_reply) == 4616 && offsetof(sleet_reply, answer) == 4576);
+SLEET_LAYOUT(sizeof(sleet_seen) == 16 && offsetof(sleet_seen, unread) == 8);
+SLEET_LAYOUT(sizeof(sleet_gate) == 4832 && offsetof(sleet_gate, seen) == 4576);
+SLEET_LAYOUT(sizeof(sleet_reply) == 4640 && offsetof(sleet_reply, answer) == 4576);
+SLEET_LAYOUT(sizeof(sleet_gate_reply) == 4896 && offsetof(sleet_gate_reply, answer) == 4832);
 SLEET_LAYOUT(sizeof(sleet_taken_many) == 4584 && offsetof(sleet_taken_many, count) == 4576);
-SLEET_LAYOUT(sizeof(sleet_split_reply) == 56 && offsetof(sleet_split_reply, place) == 40);
-SLEET_LAYOUT(sizeof(sleet_whole_reply) == 48 && offsetof(sleet_whole_reply, place) == 40);
+SLEET_LAYOUT(sizeof(sleet_split_reply) == 80 && offsetof(sleet_split_reply, place) == 64);
+SLEET_LAYOUT(sizeof(sleet_whole_reply) == 72 && offsetof(sleet_whole_reply, place) == 64);
+SLEET_LAYOUT(sizeof(sleet_record) == 16 && offsetof(sleet_record, tag) == 12);
+SLEET_LAYOUT(sizeof(sleet_found) == 8 && offsetof(sleet_found, tag) == 4);
 
 #ifdef __cplusplus
 }

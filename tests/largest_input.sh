@@ -3,7 +3,8 @@
 # is not begun. The inputs are sparse files with a tag at their end. Some 45 seconds, so not part of `test`; target/bin/bench is built.
 set -euo pipefail
 cd "$(dirname "$0")/.."
-bench=$PWD/target/bin/bench
+source tests/platform.sh
+bench=$(rt_program bench)
 work=$(mktemp -d)
 trap 'rm -rf "$work"' EXIT
 source tests/making.sh

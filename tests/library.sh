@@ -3,41 +3,72 @@
 # answers as the second program on generated scripts.
 set -euo pipefail
 cd "$(dirname "$0")/.."
+source tests/platform.sh
+for_the_archive
 
 out=$PWD/target/library
 export CARGO_TARGET_DIR="$PWD/target/rust"
-built=$CARGO_TARGET_DIR/release
+built=$CARGO_TARGET_DIR/$RELEASE
+compare=$CARGO_TARGET_DIR/release/compare
 scripts=${SCRIPTS:-100}
+histories=${HISTORIES:-10000}
 note() { printf -- '-- %s\n' "$1"; }
 same() { diff "$1" - >&2 || { echo "library.sh: $2 wrote something else than $1" >&2; exit 1; }; }
 
 ./library
 
 note 'the examples write what is stored, in C, in Rust, and built by pkg-config with sanitizers'
-"$out/examples/approvals" | same examples/c/approvals.out 'the C example'
-"$out/examples/approvals-rust" | same examples/c/approvals.out 'the Rust example'
+$RUN "$out/examples/approvals" | same examples/c/approvals.out 'the C example'
+$RUN "$out/examples/approvals-rust" | same examples/c/approvals.out 'the Rust example'
+[[ $SANITIZE == *address* ]] || note "not run on $(uname -m): the address sanitizer, which the emulator can't hold; it runs on x86-64"
 flags=$(PKG_CONFIG_PATH=$out/lib/pkgconfig pkg-config --cflags --libs sleet)
 for example in approvals replay; do
   # the flags are words on purpose
-  cc -std=c11 -g -fsanitize=address,undefined -fno-sanitize-recover examples/c/$example.c $flags -o "$out/$example-checked"
+  "$CC" -std=c11 -g -fsanitize=$SANITIZE -fno-sanitize-recover examples/c/$example.c $flags -o "$out/$example-checked"
 done
-"$out/approvals-checked" | same examples/c/approvals.out 'the checked C example'
+$RUN "$out/approvals-checked" | same examples/c/approvals.out 'the checked C example'
 
 note 'the header in C++'
+warnings='-Wall -Wextra -Wpedantic -Wconversion -Werror'
 echo '#include <sleet.h>
-int main() { sleet_desk desk = sleet_desk_new(); return sleet_open(&desk).refusal != SLEET_REFUSED_NO_SET; }' |
-  c++ -x c++ -std=c++11 -Wall -Wextra -Wpedantic -Wconversion -Werror - -x none $flags -o "$out/in-cpp"
-"$out/in-cpp"
+int main() {
+    static sleet_gateway gateway;
+    sleet_gateway_start(&gateway);
+    sleet_tags tags = sleet_tags_none();
+    if (!sleet_tags_add(&tags, "he", 2) || sleet_change(&gateway, tags.bytes, tags.length).tags != 1) return 1;
+    uint32_t serial = sleet_begin(&gateway).serial;
+    sleet_piece(&gateway, serial, reinterpret_cast<const uint8_t *>("she"), 3);
+    return sleet_decide(&gateway, serial).verdict != SLEET_HOLD;
+}' >"$out/in-cpp.cpp"
+"$CXX" -std=c++11 $warnings "$out/in-cpp.cpp" $flags -o "$out/in-cpp"
+$RUN "$out/in-cpp"
 
-note 'one version in the pkg-config file and the crate'
+note 'an answer that says what nothing else says cannot be ignored without a warning'
+for ignored in 'sleet_decide(&g, 1)' 'sleet_change(&g, 0, 0)' 'sleet_tags_add(&t, "he", 2)' 'sleet_set_add(t.bytes, 580, 0, "he", 2)'; do
+  echo "#include <sleet.h>
+void ignore(void); sleet_gateway g; sleet_tags t; void ignore(void) { $ignored; }" >"$out/ignored.c"
+  if "$CC" -std=c11 $warnings -I "$out/include" -c "$out/ignored.c" -o "$out/ignored.o" 2>"$out/ignored.txt"; then
+    echo "library.sh: $ignored can be ignored" >&2
+    exit 1
+  fi
+  grep -q 'warn_unused_result\|unused-result' "$out/ignored.txt"
+done
+
+note 'one version in the pkg-config file, the header and the crate'
 version=$(PKG_CONFIG_PATH=$out/lib/pkgconfig pkg-config --modversion sleet)
 grep -qx "version = \"$version\"" rust/Cargo.toml
+IFS=. read -r major minor patch <<<"$version"
+grep -qx "#define SLEET_VERSION $((10000 * major + 100 * minor + patch))" include/sleet.h
 
-note 'null and empty runs, guarded pages, a small stack'
+note 'the gate: each way in which a tag slips through; null and empty runs, guarded pages, a small stack'
 for level in -O0 -O3; do
-  cc -std=c11 $level -Wall -Wextra -Wpedantic -Werror -pthread -I "$out/include" tests/library/edges.c "$out/lib/libsleet.a" -o "$out/edges"
-  "$out/edges"
+  for program in gate edges; do
+    "$CC" -std=c11 $level $warnings -pthread -I "$out/include" tests/library/$program.c "$out/lib/libsleet.a" -o "$out/$program"
+    $RUN "$out/$program"
+  done
 done
+"$CC" -std=c11 -g -fsanitize=$SANITIZE -fno-sanitize-recover tests/library/gate.c $flags -o "$out/gate-checked"
+$RUN "$out/gate-checked"
 
 note "the crate's own tests and its documentation's examples"
 cargo test --quiet --release --manifest-path rust/Cargo.toml
@@ -53,11 +84,20 @@ grep -q 'Run ./library' <<<"$said"
 note 'docs/EMBEDDING.md, followed as a new user would'
 env -u CARGO_TARGET_DIR SLEETBARLEY="$PWD" tests/library/follow.sh docs/EMBEDDING.md
 
+note "generated histories of a gate: the library's answers in C and in Rust, and those of plain search"
+native cargo build --quiet --release --manifest-path second/Cargo.toml
+"$CC" -std=c11 -O2 $warnings -I "$out/include" tests/library/histories.c "$out/lib/libsleet.a" -o "$out/histories"
+"$CARGO_TARGET_DIR/release/histories" 1 "$histories" >"$out/histories.txt"
+"$CARGO_TARGET_DIR/release/histories" 1 "$histories" --answers >"$out/histories.answers"
+for program in "$out/histories" "$built/examples/histories"; do
+  $RUN "$program" <"$out/histories.txt" | same "$out/histories.answers" "$program"
+done
+echo "$histories histories, $(wc -l <"$out/histories.answers") calls: no difference"
+
 note "generated scripts: the library's answers and the second program's"
-cargo build --quiet --release --manifest-path second/Cargo.toml
 cargo test --quiet --release --manifest-path tests/library/replay/Cargo.toml
 cargo build --quiet --release --manifest-path tests/library/replay/Cargo.toml
 cd "$out"
-"$built/compare" "$out/examples/replay" --scripts "$scripts" --calls 400
-"$built/compare" "$built/library-replay" --scripts "$scripts" --calls 400
-"$built/compare" "$out/replay-checked" --seed 5000 --scripts 20 --calls 400
+"$compare" "$(archive_program "$out/examples/replay")" --scripts "$scripts" --calls 400
+"$compare" "$(archive_program "$built/library-replay")" --scripts "$scripts" --calls 400
+"$compare" "$(archive_program "$out/replay-checked")" --seed 5000 --scripts 20 --calls 400

@@ -14,9 +14,12 @@ for program in "$root/target/bin/bench" "$root/target/bin/replay" "$second" "$co
 done
 
 source tests/making.sh
+source tests/platform.sh
+bench=$(rt_program bench)
+replay=$(rt_program replay)
 
 # runs bench in the current folder; what it wrote is in 'wrote'
-run_bench() { timeout 60 "$root/target/bin/bench" >wrote || fail "$1: bench ended with status $?"; }
+run_bench() { timeout 60 "$bench" >wrote || fail "$1: bench ended with status $?"; }
 fail() { echo "FAILED: $1" >&2; exit 1; }
 same() { cmp -s "$2" "$3" || { diff "$2" "$3" | head -n 10 >&2; fail "$1"; }; }
 
@@ -47,14 +50,14 @@ echo 'bench: 20 random cases beside the second program'
 
 # output that cannot be written: the run ends all the same
 cd "$work/million_records"
-timeout 60 "$root/target/bin/bench" >/dev/full || fail "bench with a full device ended with status $?"
+timeout 60 "$bench" >/dev/full || fail "bench with a full device ended with status $?"
 
 # each script of tests/replay and examples with what it must answer, by name and on standard input
 cd "$root"
 answer() { timeout 60 "$@" >"$work/answers" || fail "$*: ended with status $?"; }
 scripts=0
 for script in tests/replay/*.replay examples/*.replay; do
-  for program in target/bin/replay "$second"; do
+  for program in "$replay" "$second"; do
     answer "$program" "$script"
     same "$program $script" "${script%.replay}.expected" "$work/answers"
     answer "$program" <"$script"
@@ -68,12 +71,12 @@ echo "replay: $scripts samples"
 
 # a script that cannot be read: one line on standard error, no answer; and output that cannot be written
 for name in "$work/absent" "$work"; do
-  timeout 60 target/bin/replay "$name" >"$work/answers" 2>"$work/said" || true
+  timeout 60 "$replay" "$name" >"$work/answers" 2>"$work/said" || true
   [[ ! -s $work/answers && $(wc -l <"$work/said") == 1 ]] || fail "replay $name: $(cat "$work/answers" "$work/said")"
 done
-timeout 60 target/bin/replay examples/incident.replay >/dev/full || fail "replay with a full device ended with status $?"
+timeout 60 "$replay" examples/incident.replay >/dev/full || fail "replay with a full device ended with status $?"
 echo 'replay: scripts that cannot be read'
 
 # the comparison: equal lines, byte for byte. A difference leaves its script in target/
 cd "$root/target"
-"$compare" "$root/target/bin/replay" --seed 1 --scripts 250 --calls 400
+"$compare" "$replay" --seed 1 --scripts 250 --calls 400

@@ -1,6 +1,7 @@
-/* approvals.c: a small gateway. Approvals arrive in pieces, several at once, and one that names a
-   withdrawn case is held. In the middle the list of withdrawn cases is replaced: approvals begun
-   under the old list are refused as stale, and are read again from their first byte.
+/* approvals.c: a small gateway. Approvals arrive in pieces, several at once; one that names a
+   withdrawn case is held, the others pass. In the middle the list of withdrawn cases is replaced:
+   what began under the old list can't pass any more, not even where its last piece was read before,
+   and is read again from its first byte.
 
    cc -std=c11 -I target/library/include examples/c/approvals.c target/library/lib/libsleet.a */
 #include <inttypes.h>
@@ -8,13 +9,12 @@
 #include <stdio.h>
 #include <stdlib.h>
 
-#define COUNT(array) (sizeof(array) / sizeof(array)[0])
-
-/* The desk and its table stay together, so that no feed is lent another table. */
-typedef struct gateway {
-    sleet_desk desk;
-    uint16_t table[SLEET_SPLIT_TABLE];
-} gateway;
+/* The gate, and the cases of the list in force, to say which one holds an approval. */
+typedef struct office {
+    sleet_gateway gateway;
+    const char *const *cases;
+    size_t count;
+} office;
 
 /* An approval keeps what it has sent, to be read again under a new list. */
 typedef struct approval {
@@ -22,7 +22,6 @@ typedef struct approval {
     uint32_t serial;
     char sent[256];
     size_t length;
-    int held;
 } approval;
 
 static void need(int fact, const char *what)
@@ -34,106 +33,100 @@ static void need(int fact, const char *what)
 }
 
 /* Puts a new list of withdrawn cases in force, if it is lawful. */
-static void install(gateway *g, const char *const *cases, size_t count)
+static void install(office *o, const char *const *cases, size_t count)
 {
-    uint8_t set[4096];
-    size_t length = 0;
-    for (size_t i = 0; i < count; i++) {
-        length = sleet_set_add(set, sizeof set, length, cases[i], strlen(cases[i]));
-        need(length > 0, "the list of cases is too long");
+    sleet_tags tags = sleet_tags_none();
+    for (size_t i = 0; i < count; i++)
+        need(sleet_tags_add(&tags, cases[i], strlen(cases[i])), "the list of cases is too long");
+    sleet_replaced said = sleet_change(&o->gateway, tags.bytes, tags.length);
+    if (said.refusal != SLEET_ACCEPTED) {
+        printf("list refused with %" PRIu64 " at entry %zu; the old one stays\n", said.refusal, said.entry);
+        return;
     }
-    sleet_answer said = sleet_replace(&g->desk, set, length, g->table, COUNT(g->table));
-    if (said.refusal == SLEET_ACCEPTED)
-        printf("edition %" PRIu64 ": %" PRIu64 " withdrawn cases\n", said.a, said.b);
-    else
-        printf("list refused with %" PRIu64 " at entry %" PRIu64 "; the old one stays\n", said.refusal, said.a);
+    o->cases = cases;
+    o->count = count;
+    printf("edition %" PRIu32 ": %zu withdrawn cases\n", said.edition, said.tags);
 }
 
-/* Takes out every record, and holds the approvals that they name. */
-static void take_records(gateway *g, approval *all, size_t count)
+static void begin(office *o, approval *one)
 {
-    sleet_answer said;
-    while ((said = sleet_take(&g->desk)).refusal == SLEET_ACCEPTED) {
-        for (size_t i = 0; i < count; i++) {
-            if (all[i].serial != said.a)
-                continue;
-            all[i].held = 1;
-            printf("%s: case %" PRIu64 " of edition %" PRIu64 " ends at byte %" PRIu64 "\n", all[i].name,
-                   said.d, said.b, said.c);
-        }
-    }
+    sleet_begun said = sleet_begin(&o->gateway);
+    need(said.refusal == SLEET_ACCEPTED, sleet_refusal_name(said.refusal));
+    one->serial = said.serial;
 }
 
-/* Feeds a piece to its end: where the list of records is full it is emptied, and the rest is fed. */
-static sleet_answer feed_all(gateway *g, approval *all, size_t count, const approval *one, const char *piece,
-                             size_t length)
+/* Reads an approval anew from its front, under the list in force. Its old serial is decided. */
+static void begin_again(office *o, approval *one, const char *when, uint32_t edition)
 {
-    size_t done = 0;
-    for (;;) {
-        sleet_answer said = sleet_feed(&g->desk, one->serial, g->table, COUNT(g->table),
-                                       (const uint8_t *)piece + done, length - done);
-        if (said.refusal != SLEET_ACCEPTED || said.b != SLEET_STOP_FULL)
-            return said;
-        done += said.a;
-        take_records(g, all, count);
-    }
+    printf("%s: stale at %s, begun under edition %" PRIu32 "; read again\n", one->name, when, edition);
+    begin(o, one);
+    sleet_pieced said = sleet_piece(&o->gateway, one->serial, (const uint8_t *)one->sent, one->length);
+    need(said.whole, "what was sent wasn't read");
 }
 
-static void begin(gateway *g, approval *one)
-{
-    sleet_answer said = sleet_open(&g->desk);
-    need(said.refusal == SLEET_ACCEPTED, "no ticket");
-    one->serial = (uint32_t)said.a;
-    one->held = 0;
-}
-
-/* A piece of an approval; a stale ticket is closed, and all that was sent is read under a new one. */
-static void receive(gateway *g, approval *all, size_t count, approval *one, const char *piece)
+/* A piece of an approval. Where its serial is stale it is decided, which frees it. */
+static void receive(office *o, approval *one, const char *piece)
 {
     size_t length = strlen(piece);
     need(length <= sizeof one->sent - one->length, "the approval is too long");
     memcpy(one->sent + one->length, piece, length);
     one->length += length;
-    sleet_answer said = feed_all(g, all, count, one, piece, length);
+    sleet_pieced said = sleet_piece(&o->gateway, one->serial, (const uint8_t *)piece, length);
     if (said.refusal == SLEET_REFUSED_STALE) {
-        printf("%s: stale, opened under edition %" PRIu64 "; read again\n", one->name, said.a);
-        need(sleet_close(&g->desk, one->serial).refusal == SLEET_ACCEPTED, "a stale ticket closes");
-        begin(g, one);
-        said = feed_all(g, all, count, one, one->sent, one->length);
+        need(sleet_decide(&o->gateway, one->serial).verdict == SLEET_TOO_OLD, "a stale serial is decided so");
+        begin_again(o, one, "a piece", said.edition);
+        return;
     }
-    need(said.refusal == SLEET_ACCEPTED && said.b == SLEET_STOP_ALL, "the piece wasn't read");
+    need(said.whole, "the piece wasn't read");
 }
 
-static void finish(gateway *g, approval *all, size_t count, approval *one)
+/* Decides about an approval; where the list was replaced meanwhile, it is read again first. */
+static void decide(office *o, approval *one)
 {
-    take_records(g, all, count);
-    printf("%s: %s\n", one->name, one->held ? "held" : "approved");
-    sleet_answer said = sleet_close(&g->desk, one->serial);
-    need(said.refusal == SLEET_ACCEPTED, "the ticket closes");
-    said = sleet_feed(&g->desk, one->serial, g->table, COUNT(g->table), (const uint8_t *)"x", 1);
-    printf("%s: after closing, a feed is refused with %" PRIu64 "\n", one->name, said.refusal);
+    sleet_decided said = sleet_decide(&o->gateway, one->serial);
+    while (said.verdict == SLEET_TOO_OLD) {
+        begin_again(o, one, "its decision", said.edition);
+        said = sleet_decide(&o->gateway, one->serial);
+    }
+    if (said.verdict == SLEET_PASS) {
+        printf("%s: passed\n", one->name);
+        return;
+    }
+    need(said.verdict == SLEET_HOLD, sleet_verdict_name(said.verdict));
+    printf("%s: held for", one->name);
+    for (size_t i = 0; i < o->count; i++)
+        if (sleet_mask_has(said.mask, i))
+            printf(" %s", o->cases[i]);
+    printf("\n");
 }
 
 int main(void)
 {
-    static gateway g;
-    static approval all[] = {{.name = "north"}, {.name = "south"}, {.name = "east"}};
-    approval *north = &all[0], *south = &all[1], *east = &all[2];
-    g.desk = sleet_desk_new();
-    printf("without a list, an opening is refused with %" PRIu64 "\n", sleet_open(&g.desk).refusal);
-    install(&g, (const char *[]){"K-1041", "K-2200"}, 2);
-    for (size_t i = 0; i < COUNT(all); i++)
-        begin(&g, &all[i]);
-    receive(&g, all, COUNT(all), north, "batch 7 after K-10");
-    receive(&g, all, COUNT(all), south, "batch 8 as K-3007");
-    receive(&g, all, COUNT(all), north, "41 was repeated");
-    receive(&g, all, COUNT(all), east, "batch 9, nothing to say");
-    finish(&g, all, COUNT(all), north);
-    install(&g, (const char *[]){"K-1041", "K-2200", "a name of more than thirty-two bytes"}, 3);
-    install(&g, (const char *[]){"K-1041", "K-2200", "K-3007", "K-300"}, 4);
-    receive(&g, all, COUNT(all), south, ", signed");
-    receive(&g, all, COUNT(all), east, ", signed");
-    finish(&g, all, COUNT(all), south);
-    finish(&g, all, COUNT(all), east);
+    static const char *const first[] = {"K-1041", "K-2200"};
+    static const char *const faulty[] = {"K-1041", "K-2200", "a name of more than thirty-two bytes"};
+    static const char *const second[] = {"K-1041", "K-2200", "K-3007", "K-300"};
+    static office o;
+    static approval all[] = {{.name = "north"}, {.name = "south"}, {.name = "east"}, {.name = "west"}};
+    approval *north = &all[0], *south = &all[1], *east = &all[2], *west = &all[3];
+    need(sleet_version() == SLEET_VERSION, "the archive is of another version than its header");
+    sleet_gateway_start(&o.gateway);
+    printf("without a list, an approval is refused with %" PRIu64 "\n", sleet_begin(&o.gateway).refusal);
+    install(&o, first, 2);
+    for (size_t i = 0; i < 4; i++)
+        begin(&o, &all[i]);
+    receive(&o, north, "batch 7 after K-10");
+    receive(&o, south, "batch 8 as K-3007");
+    receive(&o, north, "41 was repeated");
+    receive(&o, east, "batch 9, nothing to say");
+    receive(&o, west, "batch 10");
+    receive(&o, south, ", signed");
+    decide(&o, north);
+    decide(&o, west);
+    printf("west: decided again, it is refused with %" PRIu64 "\n", sleet_decide(&o.gateway, west->serial).refusal);
+    install(&o, faulty, 3);
+    install(&o, second, 4);
+    decide(&o, south);
+    receive(&o, east, ", signed");
+    decide(&o, east);
     return 0;
 }

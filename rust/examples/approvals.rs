@@ -1,142 +1,121 @@
-//! A small gateway. Approvals arrive in pieces, several at once, and one that names a withdrawn
-//! case is held. In the middle the list of withdrawn cases is replaced: approvals begun under the
-//! old list are refused as stale, and are read again from their first byte.
+//! A small gateway that decides by the gate. Approvals arrive in pieces, several at once, and one
+//! that carries a withdrawn case is held. In the middle the list of withdrawn cases is replaced:
+//! approvals begun under the old list are stale, at their next piece or at their decision, and are
+//! read again from their first byte.
 //!
 //! It writes what `examples/c/approvals.c` writes.
 
-use sleetbarley::{Desk, Refusal, Serial, TagSet};
+use sleetbarley::text::escaped;
+use sleetbarley::{Gate, Piece, Refusal, Serial, TagSet, Verdict};
 
 /// An approval keeps what it has sent, to be read again under a new list.
 struct Approval {
     name: &'static str,
     serial: Serial,
     sent: Vec<u8>,
-    held: bool,
 }
 
-struct Gateway {
-    desk: Desk,
-    approvals: Vec<Approval>,
+/// Puts a new list of withdrawn cases in force, if it is lawful.
+fn install(gate: &mut Gate, cases: &[&str]) {
+    match TagSet::new(cases).and_then(|set| gate.replace(&set)) {
+        Ok(now) => println!("edition {}: {} withdrawn cases", now.edition, now.tags),
+        Err(refusal) => println!(
+            "list refused with {} at entry {}; the old one stays",
+            refusal.number(),
+            refusal.values()[0]
+        ),
+    }
 }
 
-impl Gateway {
-    /// Puts a new list of withdrawn cases in force, if it is lawful.
-    fn install(&mut self, cases: &[&str]) {
-        match TagSet::new(cases).and_then(|set| self.desk.replace(set)) {
-            Ok(now) => println!("edition {}: {} withdrawn cases", now.edition, now.tags),
-            Err(refusal) => println!(
-                "list refused with {} at entry {}; the old one stays",
-                refusal.number(),
-                refusal.values()[0]
-            ),
+fn begin(gate: &mut Gate, name: &'static str) -> Result<Approval, Refusal> {
+    let (serial, sent) = (gate.begin()?, Vec::new());
+    Ok(Approval { name, serial, sent })
+}
+
+/// A piece of an approval. One that is stale is given up, and all that was sent is read again.
+fn receive(gate: &mut Gate, one: &mut Approval, piece: &str) -> Result<(), Refusal> {
+    one.sent.extend_from_slice(piece.as_bytes());
+    match gate.piece(one.serial, piece.as_bytes()) {
+        Ok(Piece::Read) => Ok(()),
+        Ok(Piece::Cut { taken }) => {
+            println!("{}: cut after {taken} bytes", one.name);
+            Ok(())
         }
-    }
-
-    /// Opens a ticket for a new approval; gives its index.
-    fn begin(&mut self, name: &'static str) -> Result<usize, Refusal> {
-        self.approvals.push(Approval {
-            name,
-            serial: self.desk.open()?,
-            sent: Vec::new(),
-            held: false,
-        });
-        Ok(self.approvals.len() - 1)
-    }
-
-    /// A piece of an approval; a stale ticket is closed, and all that was sent is read under a new
-    /// one.
-    fn receive(&mut self, index: usize, piece: &str) -> Result<(), Refusal> {
-        self.approvals[index]
-            .sent
-            .extend_from_slice(piece.as_bytes());
-        match self.feed_all(index, piece.as_bytes()) {
-            Err(Refusal::Stale { edition }) => {
-                let one = &mut self.approvals[index];
-                println!(
-                    "{}: stale, opened under edition {edition}; read again",
-                    one.name
-                );
-                self.desk.close(one.serial)?;
-                one.serial = self.desk.open()?;
-                let sent = one.sent.clone();
-                self.feed_all(index, &sent)
-            }
-            said => said,
-        }
-    }
-
-    /// Feeds a piece to its end: where the list of records is full it is emptied, and the rest is
-    /// fed. (`Desk::feed_all` does the same, and empties the list at the end too.)
-    fn feed_all(&mut self, index: usize, piece: &[u8]) -> Result<(), Refusal> {
-        let mut rest = piece;
-        while !rest.is_empty() {
-            let fed = self.desk.feed(self.approvals[index].serial, rest)?;
-            rest = &rest[fed.taken..];
-            if !rest.is_empty() {
-                self.take_records();
-            }
-        }
-        Ok(())
-    }
-
-    /// Takes out every record, and holds the approvals that they name.
-    fn take_records(&mut self) {
-        for record in self.desk.drain() {
-            let named = |one: &&mut Approval| one.serial == record.serial;
-            if let Some(one) = self.approvals.iter_mut().find(named) {
-                one.held = true;
-                println!(
-                    "{}: case {} of edition {} ends at byte {}",
-                    one.name, record.tag, record.edition, record.end
-                );
-            }
-        }
-    }
-
-    fn finish(&mut self, index: usize) -> Result<(), Refusal> {
-        self.take_records();
-        let one = &self.approvals[index];
-        println!(
-            "{}: {}",
-            one.name,
-            if one.held { "held" } else { "approved" }
-        );
-        self.desk.close(one.serial)?;
-        if let Err(refusal) = self.desk.feed(one.serial, b"x") {
+        Err(Refusal::Stale { edition }) => {
             println!(
-                "{}: after closing, a feed is refused with {}",
-                one.name,
-                refusal.number()
+                "{}: stale at a piece, begun under edition {edition}; read again",
+                one.name
             );
+            let verdict = gate.decide(one.serial)?;
+            assert!(!verdict.passes());
+            read_again(gate, one)
         }
-        Ok(())
+        Err(refusal) => Err(refusal),
+    }
+}
+
+/// Begins an approval anew, and hands in all that it has sent.
+fn read_again(gate: &mut Gate, one: &mut Approval) -> Result<(), Refusal> {
+    one.serial = gate.begin()?;
+    // Were it cut, the decision would say so.
+    gate.piece(one.serial, &one.sent).map(|_| ())
+}
+
+/// Decides: only a pass lets an approval through.
+fn finish(gate: &mut Gate, one: &mut Approval) -> Result<(), Refusal> {
+    loop {
+        match gate.decide(one.serial)? {
+            Verdict::Pass => println!("{}: passed", one.name),
+            Verdict::Hold(held) => {
+                let cases = held.tags().map(|(_, case)| format!(" {}", escaped(case)));
+                println!("{}: held for{}", one.name, cases.collect::<String>());
+            }
+            Verdict::Unread => println!("{}: held, for it was not read whole", one.name),
+            Verdict::Stale { edition } => {
+                let name = one.name;
+                println!(
+                    "{name}: stale at its decision, begun under edition {edition}; read again"
+                );
+                read_again(gate, one)?;
+                continue;
+            }
+        }
+        return Ok(());
     }
 }
 
 fn main() -> Result<(), Refusal> {
-    let mut gateway = Gateway {
-        desk: Desk::new(),
-        approvals: Vec::new(),
-    };
-    if let Err(refusal) = gateway.desk.open() {
+    let mut gate = Gate::new();
+    if let Err(refusal) = gate.begin() {
         println!(
-            "without a list, an opening is refused with {}",
+            "without a list, an approval is refused with {}",
             refusal.number()
         );
     }
-    gateway.install(&["K-1041", "K-2200"]);
-    let north = gateway.begin("north")?;
-    let south = gateway.begin("south")?;
-    let east = gateway.begin("east")?;
-    gateway.receive(north, "batch 7 after K-10")?;
-    gateway.receive(south, "batch 8 as K-3007")?;
-    gateway.receive(north, "41 was repeated")?;
-    gateway.receive(east, "batch 9, nothing to say")?;
-    gateway.finish(north)?;
-    gateway.install(&["K-1041", "K-2200", "a name of more than thirty-two bytes"]);
-    gateway.install(&["K-1041", "K-2200", "K-3007", "K-300"]);
-    gateway.receive(south, ", signed")?;
-    gateway.receive(east, ", signed")?;
-    gateway.finish(south)?;
-    gateway.finish(east)
+    install(&mut gate, &["K-1041", "K-2200"]);
+    let mut north = begin(&mut gate, "north")?;
+    let mut south = begin(&mut gate, "south")?;
+    let mut east = begin(&mut gate, "east")?;
+    let mut west = begin(&mut gate, "west")?;
+    receive(&mut gate, &mut north, "batch 7 after K-10")?;
+    receive(&mut gate, &mut south, "batch 8 as K-3007")?;
+    receive(&mut gate, &mut north, "41 was repeated")?;
+    receive(&mut gate, &mut east, "batch 9, nothing to say")?;
+    receive(&mut gate, &mut west, "batch 10 as K-104")?;
+    finish(&mut gate, &mut north)?;
+    finish(&mut gate, &mut west)?;
+    if let Err(refusal) = gate.decide(west.serial) {
+        println!(
+            "west: decided again, it is refused with {}",
+            refusal.number()
+        );
+    }
+    install(
+        &mut gate,
+        &["K-1041", "K-2200", "a name of more than thirty-two bytes"],
+    );
+    install(&mut gate, &["K-1041", "K-2200", "K-3007", "K-300"]);
+    finish(&mut gate, &mut south)?;
+    receive(&mut gate, &mut east, ", signed")?;
+    finish(&mut gate, &mut east)
 }

@@ -1,8 +1,10 @@
 //! The desk that owns its table.
 
+use crate::kept::Kept;
 use crate::lent::{LentDesk, SPLIT_SLOT, SPLIT_TABLE};
-use crate::numbers::{Edition, Fed, Record, Replaced, Serial, Stop, Tag, Ticket};
+use crate::numbers::{Edition, Fed, Record, Replaced, Serial, Stop, Tag, Ticket, TicketState};
 use crate::refusal::Refusal;
+use crate::set::TagSet;
 use std::fmt::{self, Debug, Formatter};
 
 /// Records that a desk holds at most.
@@ -21,11 +23,17 @@ const MOST_SLOTS: usize = 513;
 /// - after a replacement an older ticket takes no byte more;
 /// - with the list empty, a piece that isn't empty and isn't refused advances by a byte at least.
 ///
+/// A desk reads, and decides nothing: to pass an approval or hold it use a [`Gate`](crate::Gate).
+/// Who takes a desk to know where tags end, and decides too, must ask all of this at the decision:
+/// [`Desk::state`] says [`TicketState::Open`], for the set may have been replaced after the last
+/// piece; no feed was refused or left a byte over; and every record was taken out, for one of this
+/// ticket may be handed out while another is fed.
+///
 /// ```
-/// use sleetbarley::{Desk, Edition, Record, Refusal, Stop, Tag, TagSet};
+/// use sleetbarley::{Desk, Edition, Record, Refusal, Stop, Tag, TagSet, TicketState};
 ///
 /// let mut desk = Desk::new();
-/// let replaced = desk.replace(TagSet::new(["he", "she", "his", "hers"])?)?;
+/// let replaced = desk.replace(&TagSet::new(["he", "she", "his", "hers"])?)?;
 /// assert_eq!((replaced.edition, replaced.tags), (Edition(1), 4));
 ///
 /// let serial = desk.open()?;
@@ -34,10 +42,14 @@ const MOST_SLOTS: usize = 513;
 /// let ends: Vec<(u32, Tag)> = desk.drain().map(|r: Record| (r.end, r.tag)).collect();
 /// assert_eq!(ends, [(4, Tag(0)), (4, Tag(1)), (6, Tag(3))]);
 ///
-/// desk.replace(TagSet::new(["hers"])?)?;
+/// desk.replace(&TagSet::new(["hers"])?)?;
+/// let stale = TicketState::Stale { edition: Edition(1), taken: 6 };
+/// assert_eq!(desk.state(serial), stale);
 /// let refused = desk.feed(serial, b"hers").unwrap_err();
 /// assert_eq!(refused, Refusal::Stale { edition: Edition(1) });
 /// assert_eq!(refused.number(), 13);
+/// // The ticket isn't closed, so the desk still has the set of its records.
+/// assert_eq!(desk.tag_bytes(Edition(1), Tag(3)), Some(&b"hers"[..]));
 /// desk.close(serial)?;
 /// # Ok::<(), Refusal>(())
 /// ```
@@ -45,6 +57,7 @@ const MOST_SLOTS: usize = 513;
 pub struct Desk {
     desk: LentDesk,
     table: Box<[u16]>,
+    kept: Kept,
 }
 
 impl Default for Desk {
@@ -65,12 +78,37 @@ impl Desk {
         Desk {
             desk: LentDesk::new(),
             table: vec![0; slots.min(MOST_SLOTS) * SPLIT_SLOT].into(),
+            kept: Kept::default(),
         }
     }
 
     /// Puts a set in force. Every ticket opened before becomes stale; held records stay.
-    pub fn replace(&mut self, set: impl AsRef<[u8]>) -> Result<Replaced, Refusal> {
-        self.desk.replace(set.as_ref(), &mut self.table)
+    ///
+    /// A string is no set, so this doesn't compile:
+    ///
+    /// ```compile_fail,E0308
+    /// let mut desk = sleetbarley::Desk::new();
+    /// desk.replace("preview-17");
+    /// ```
+    pub fn replace(&mut self, set: &TagSet) -> Result<Replaced, Refusal> {
+        let replaced = self.desk.replace(set.as_bytes(), &mut self.table)?;
+        self.keep(replaced, set.clone());
+        Ok(replaced)
+    }
+
+    /// Puts in force the set that stands in these bytes, as [`TagSet::from_bytes`] reads them.
+    pub fn replace_bytes(&mut self, set: &[u8]) -> Result<Replaced, Refusal> {
+        let replaced = self.desk.replace(set, &mut self.table)?;
+        self.keep(replaced, TagSet::accepted(set));
+        Ok(replaced)
+    }
+
+    /// Lets go the sets that no ticket in use and no held record is of.
+    fn keep(&mut self, replaced: Replaced, set: TagSet) {
+        let tickets = self.desk.tickets();
+        let of_ticket = |edition| tickets.iter().any(|ticket| ticket.edition == edition);
+        let wanted = |edition| of_ticket(edition) || self.desk.holds_of(edition);
+        self.kept.put(replaced, set, wanted);
     }
 
     /// Opens a ticket.
@@ -90,7 +128,7 @@ impl Desk {
     /// use sleetbarley::{Desk, Refusal, TagSet};
     ///
     /// let mut desk = Desk::new();
-    /// desk.replace(TagSet::new(["aa"])?)?;
+    /// desk.replace(&TagSet::new(["aa"])?)?;
     /// let serial = desk.open()?;
     /// let mut last = 0;
     /// desk.feed_all(serial, &[b'a'; 1000], |record| last = record.end)?;
@@ -115,7 +153,13 @@ impl Desk {
         }
     }
 
-    /// Closes a ticket, open or stale. Its serial is never given again.
+    /// What a serial stands for. Never refused.
+    pub fn state(&self, serial: Serial) -> TicketState {
+        self.desk.state(serial)
+    }
+
+    /// Closes a ticket, open or stale. Its serial is never given again. Closing asks nothing: whether
+    /// the ticket was stale, [`Desk::state`] says before it.
     pub fn close(&mut self, serial: Serial) -> Result<(), Refusal> {
         self.desk.close(serial)
     }
@@ -150,6 +194,21 @@ impl Desk {
     /// The edition of the set in force; 0 where there is none yet.
     pub fn edition(&self) -> Edition {
         self.desk.edition()
+    }
+
+    /// The set of an edition, where the desk still has it.
+    ///
+    /// It has the set in force, and lets an older one go at an accepted replacement, where no ticket
+    /// that isn't closed and no held record is of its edition. So the set of a record that was handed
+    /// out is there as long as its ticket isn't closed, and then until the next replacement.
+    pub fn set(&self, edition: Edition) -> Option<&TagSet> {
+        self.kept.set(edition)
+    }
+
+    /// The bytes of a tag, by its edition and its number, as records have them; see [`Desk::set`]
+    /// for which editions.
+    pub fn tag_bytes(&self, edition: Edition, tag: Tag) -> Option<&[u8]> {
+        self.kept.tag_bytes(edition, tag)
     }
 
     /// The last serial given; 0 where none was.

@@ -3,9 +3,12 @@
 //! A [`Desk`](crate::Desk), a [`SplitTable`](crate::SplitTable) or a
 //! [`WholeTable`](crate::WholeTable) owns its numbers and so can't be lent wrong ones; prefer these.
 //! What stands here is safe too: a table that isn't as building left it is walked exactly as its
-//! numbers say, and stops as [`Stop::Damaged`] where they lead outside it.
+//! numbers say, and stops as [`Stop::Damaged`] where they lead outside it. To decide about approvals
+//! use a [`Gate`](crate::Gate).
 
-use crate::numbers::{Edition, Fed, Found, Record, Replaced, Serial, Stop, Tag, Ticket};
+use crate::numbers::{
+    Edition, Fed, Found, Record, Replaced, Serial, Stop, Tag, Ticket, TicketState,
+};
 use crate::raw::{self, Image};
 use crate::refusal::Refusal;
 use std::fmt::{self, Debug, Formatter};
@@ -60,11 +63,7 @@ impl LentDesk {
 
     /// Reads a set and builds its split table in the numbers lent. Every ticket becomes stale.
     pub fn replace(&mut self, set: &[u8], table: &mut [u16]) -> Result<Replaced, Refusal> {
-        let said = Refusal::or(self.image.replace(set, table))?;
-        Ok(Replaced {
-            edition: Edition(said.a as u32),
-            tags: said.b as usize,
-        })
+        Refusal::or(self.image.replace(set, table)).map(Replaced::of)
     }
 
     /// Opens a ticket.
@@ -100,6 +99,11 @@ impl LentDesk {
         self.image.take_many(list) as usize
     }
 
+    /// What a serial stands for. Never refused.
+    pub fn state(&self, serial: Serial) -> TicketState {
+        TicketState::of(self.image.state(serial.0))
+    }
+
     /// The edition of the set in force; 0 where there is none yet.
     pub fn edition(&self) -> Edition {
         Edition(self.image.edition)
@@ -117,20 +121,30 @@ impl LentDesk {
 
     /// The tickets that aren't closed, by serial.
     pub fn tickets(&self) -> Vec<Ticket> {
-        let in_use = self.image.tickets.iter().filter(|room| room.serial != 0);
-        let mut tickets: Vec<Ticket> = in_use.map(|room| self.ticket_in(room)).collect();
-        tickets.sort_by_key(|ticket| ticket.serial);
-        tickets
+        tickets_of(&self.image)
     }
 
-    fn ticket_in(&self, room: &raw::Ticket) -> Ticket {
-        Ticket {
-            serial: Serial(room.serial),
-            edition: Edition(room.edition),
-            taken: room.taken,
-            stale: room.edition != self.image.edition,
-        }
+    /// Whether a held record is of this edition.
+    pub(crate) fn holds_of(&self, edition: Edition) -> bool {
+        let image = &self.image;
+        let held =
+            (0..image.count.min(256)).map(|k| image.ring[((image.first + k) % 256) as usize]);
+        held.into_iter().any(|record| record.edition == edition.0)
     }
+}
+
+/// The tickets of an image that aren't closed, by serial.
+pub(crate) fn tickets_of(image: &Image) -> Vec<Ticket> {
+    let ticket = |room: &raw::Ticket| Ticket {
+        serial: Serial(room.serial),
+        edition: Edition(room.edition),
+        taken: room.taken,
+        stale: room.edition != image.edition,
+    };
+    let in_use = image.tickets.iter().filter(|room| room.serial != 0);
+    let mut tickets: Vec<Ticket> = in_use.map(ticket).collect();
+    tickets.sort_by_key(|ticket| ticket.serial);
+    tickets
 }
 
 impl Debug for LentDesk {
@@ -160,6 +174,7 @@ pub fn build_whole(set: &[u8], table: &mut [u16]) -> Result<usize, Refusal> {
 pub struct Reading<Place> {
     /// How many bytes of the piece were taken.
     pub taken: usize,
+    /// Why it stopped.
     pub stop: Stop,
     /// How many records were written.
     pub records: usize,

@@ -3,11 +3,12 @@
 use crate::raw;
 use std::fmt::{self, Display, Formatter};
 
-/// A ticket's number on its desk, given by open: 1, 2, 3, ..
+/// A ticket's number on its desk or gate, given when it is opened: 1, 2, 3, .. It means nothing on
+/// another desk or gate.
 #[derive(Clone, Copy, Debug, PartialEq, Eq, PartialOrd, Ord, Hash)]
 pub struct Serial(pub u32);
 
-/// The number of an accepted replacement on its desk: 1, 2, 3, .. Before the first it is 0.
+/// The number of an accepted replacement on its desk or gate: 1, 2, 3, .. Before the first it is 0.
 #[derive(Clone, Copy, Debug, PartialEq, Eq, PartialOrd, Ord, Hash)]
 pub struct Edition(pub u32);
 
@@ -40,6 +41,15 @@ pub struct Replaced {
     pub edition: Edition,
     /// How many tags it has.
     pub tags: usize,
+}
+
+impl Replaced {
+    pub(crate) fn of(answer: raw::Answer) -> Replaced {
+        Replaced {
+            edition: Edition(answer.a as u32),
+            tags: answer.b as usize,
+        }
+    }
 }
 
 /// Why a reading stopped. None of these is a refusal: bytes taken before it stay taken.
@@ -86,6 +96,7 @@ impl Display for Stop {
 pub struct Fed {
     /// How many bytes of the piece were taken.
     pub taken: usize,
+    /// Why it stopped.
     pub stop: Stop,
     /// How many records were added to those that the desk holds.
     pub records: usize,
@@ -104,17 +115,21 @@ impl Fed {
 /// One occurrence of a tag in a ticket's bytes, as take hands it out.
 #[derive(Clone, Copy, Debug, PartialEq, Eq, Hash)]
 pub struct Record {
+    /// The ticket in whose bytes it stands.
     pub serial: Serial,
     /// The edition under which the ticket was opened; `tag` is a number of that set.
     pub edition: Edition,
     /// The ticket's bytes up to and including the occurrence's last.
     pub end: u32,
+    /// The tag's number in the set of that edition; [`Desk::tag_bytes`](crate::Desk::tag_bytes) has
+    /// its bytes.
     pub tag: Tag,
 }
 
 /// A ticket that isn't closed.
 #[derive(Clone, Copy, Debug, PartialEq, Eq, Hash)]
 pub struct Ticket {
+    /// Its number.
     pub serial: Serial,
     /// The edition under which it was opened.
     pub edition: Edition,
@@ -124,10 +139,49 @@ pub struct Ticket {
     pub stale: bool,
 }
 
+/// What a serial stands for; see [`Desk::state`](crate::Desk::state).
+#[derive(Clone, Copy, Debug, PartialEq, Eq, Hash)]
+#[must_use = "a stale ticket's bytes were not read under the set in force"]
+pub enum TicketState {
+    /// No ticket was ever given this serial.
+    Never,
+    /// Its ticket is closed; the serial is never given again.
+    Closed,
+    /// A replacement was accepted after it was opened: nothing is known of it under the set in
+    /// force, and it takes no byte more.
+    Stale {
+        /// The edition under which it was opened.
+        edition: Edition,
+        /// How many bytes were taken for it.
+        taken: u32,
+    },
+    /// It is of the set in force.
+    Open {
+        /// The edition under which it was opened: the one in force.
+        edition: Edition,
+        /// How many bytes were taken for it.
+        taken: u32,
+    },
+}
+
+impl TicketState {
+    pub(crate) fn of(answer: raw::Answer) -> TicketState {
+        let (edition, taken) = (Edition(answer.b as u32), answer.c as u32);
+        match answer.a {
+            0 => TicketState::Never,
+            1 => TicketState::Closed,
+            2 => TicketState::Stale { edition, taken },
+            3 => TicketState::Open { edition, taken },
+            other => panic!("the archive isn't the one this crate is for: a state of {other}"),
+        }
+    }
+}
+
 /// One occurrence found by a read outside the desk.
 #[derive(Clone, Copy, Debug, PartialEq, Eq, Hash)]
 pub struct Found {
     /// The count of bytes up to and including the occurrence's last.
     pub end: u32,
+    /// The tag's number in the set of the table.
     pub tag: Tag,
 }

@@ -5,7 +5,7 @@
 //! aligned, readable for its length, and, where it is `&mut`, writable and overlapped by no other.
 #![allow(unsafe_code)]
 
-/// A number, 0 or a refusal's, and up to four values.
+/// A number, 0 or a refusal's, and up to seven values; those that there aren't are 0.
 #[repr(C)]
 #[derive(Clone, Copy, Debug, PartialEq, Eq)]
 pub struct Answer {
@@ -14,6 +14,9 @@ pub struct Answer {
     pub b: u64,
     pub c: u64,
     pub d: u64,
+    pub e: u64,
+    pub f: u64,
+    pub g: u64,
 }
 
 #[repr(C)]
@@ -47,9 +50,32 @@ pub struct Image {
     pub slots: u64,
 }
 
+/// What a gate saw for the ticket in a room: bit i of the mask for tag i, and 0 as long as every
+/// byte handed in was taken.
+#[repr(C)]
+#[derive(Clone, Copy, Debug, PartialEq, Eq)]
+pub struct Seen {
+    pub mask: u64,
+    pub unread: u64,
+}
+
+/// A gate's image: numbers alone too.
+#[repr(C)]
+#[derive(Clone, Copy, PartialEq, Eq)]
+pub struct GateImage {
+    pub desk: Image,
+    pub seen: [Seen; 16],
+}
+
 #[repr(C)]
 struct Reply {
     desk: Image,
+    answer: Answer,
+}
+
+#[repr(C)]
+struct GateReply {
+    gate: GateImage,
     answer: Answer,
 }
 
@@ -72,9 +98,10 @@ struct WholeReply {
 }
 
 mod archive {
-    use super::{Answer, Image, Reply, SplitReply, TakenMany, WholeReply};
+    use super::{Answer, GateImage, GateReply, Image, Reply, SplitReply, TakenMany, WholeReply};
 
     extern "C" {
+        pub fn sleet_version() -> u64;
         pub fn sleet_desk_new() -> Image;
         pub fn sleet_desk_replace(
             desk: Image,
@@ -95,6 +122,25 @@ mod archive {
         pub fn sleet_desk_close(desk: Image, serial: u32) -> Reply;
         pub fn sleet_desk_take(desk: Image) -> Reply;
         pub fn sleet_desk_take_many(desk: Image, list: *mut u32, list_length: usize) -> TakenMany;
+        pub fn sleet_desk_state(desk: Image, serial: u32) -> Answer;
+        pub fn sleet_gate_new() -> GateImage;
+        pub fn sleet_gate_replace(
+            gate: GateImage,
+            set: *const u8,
+            set_length: usize,
+            table: *mut u16,
+            table_length: usize,
+        ) -> GateReply;
+        pub fn sleet_gate_begin(gate: GateImage) -> GateReply;
+        pub fn sleet_gate_piece(
+            gate: GateImage,
+            serial: u32,
+            table: *const u16,
+            table_length: usize,
+            piece: *const u8,
+            piece_length: usize,
+        ) -> GateReply;
+        pub fn sleet_gate_decide(gate: GateImage, serial: u32) -> GateReply;
         pub fn sleet_slots_needed(set: *const u8, set_length: usize) -> Answer;
         pub fn sleet_build_split(
             set: *const u8,
@@ -172,6 +218,47 @@ impl Image {
         *self = taken.desk;
         taken.count
     }
+
+    pub fn state(&self, serial: u32) -> Answer {
+        unsafe { archive::sleet_desk_state(*self, serial) }
+    }
+}
+
+impl GateImage {
+    pub fn new() -> GateImage {
+        unsafe { archive::sleet_gate_new() }
+    }
+
+    fn keep(&mut self, reply: GateReply) -> Answer {
+        *self = reply.gate;
+        reply.answer
+    }
+
+    pub fn replace(&mut self, set: &[u8], table: &mut [u16]) -> Answer {
+        let (at, length) = (table.as_mut_ptr(), table.len());
+        self.keep(unsafe {
+            archive::sleet_gate_replace(*self, set.as_ptr(), set.len(), at, length)
+        })
+    }
+
+    pub fn begin(&mut self) -> Answer {
+        self.keep(unsafe { archive::sleet_gate_begin(*self) })
+    }
+
+    pub fn piece(&mut self, serial: u32, table: &[u16], piece: &[u8]) -> Answer {
+        let (at, length) = (table.as_ptr(), table.len());
+        self.keep(unsafe {
+            archive::sleet_gate_piece(*self, serial, at, length, piece.as_ptr(), piece.len())
+        })
+    }
+
+    pub fn decide(&mut self, serial: u32) -> Answer {
+        self.keep(unsafe { archive::sleet_gate_decide(*self, serial) })
+    }
+}
+
+pub fn version() -> u64 {
+    unsafe { archive::sleet_version() }
 }
 
 pub fn slots_needed(set: &[u8]) -> Answer {
@@ -234,11 +321,14 @@ pub fn read_whole(
     reply.answer
 }
 
-// The layout of the archive, as include/sleet.h states it.
+// The layout of the archive, as include/sleet.h states it. (That the answer stands behind the desk,
+// or the place behind the answer, follows from the sizes: no member but the last has bytes behind it.)
 const _: () = {
     use std::mem::size_of;
-    assert!(size_of::<Answer>() == 40 && size_of::<Ticket>() == 28 && size_of::<Record>() == 16);
-    assert!(size_of::<Image>() == 4576 && size_of::<Reply>() == 4616);
+    assert!(size_of::<Answer>() == 64 && size_of::<Ticket>() == 28 && size_of::<Record>() == 16);
+    assert!(size_of::<Image>() == 4576 && size_of::<Reply>() == 4640);
     assert!(size_of::<TakenMany>() == 4584);
-    assert!(size_of::<SplitReply>() == 56 && size_of::<WholeReply>() == 48);
+    assert!(size_of::<SplitReply>() == 80 && size_of::<WholeReply>() == 72);
+    assert!(size_of::<Seen>() == 16 && size_of::<GateImage>() == 4832);
+    assert!(size_of::<GateReply>() == 4896);
 };

@@ -4,37 +4,63 @@ use crate::numbers::Edition;
 use crate::raw::Answer;
 use std::fmt::{self, Display, Formatter};
 
-/// Why a call was refused. A refused call changes nothing.
+/// Why a call was refused. A refused call changes nothing. It displays itself in words that say what
+/// to do.
 #[derive(Clone, Copy, Debug, PartialEq, Eq, Hash)]
 #[non_exhaustive]
 pub enum Refusal {
     /// 1: an entry of the set isn't whole.
-    Cut { entry: usize },
+    Cut {
+        /// The entry, counted from 0.
+        entry: usize,
+    },
     /// 2: a 17th entry begins.
-    Many { entry: usize },
+    Many {
+        /// The entry, counted from 0.
+        entry: usize,
+    },
     /// 3: an entry's kind isn't 1.
-    Kind { entry: usize },
+    Kind {
+        /// The entry, counted from 0.
+        entry: usize,
+    },
     /// 4: a length of 0 or above 32.
-    Length { entry: usize },
+    Length {
+        /// The entry, counted from 0.
+        entry: usize,
+    },
     /// 5: the set has no bytes; the entry is 0.
-    Empty { entry: usize },
+    Empty {
+        /// The entry, counted from 0.
+        entry: usize,
+    },
     /// 6: a tag equals an earlier one.
-    Repeat { entry: usize },
-    /// 7: the table is too short. The lowest machine that lacks slots (254 for a whole-byte table),
-    /// and the states it needs.
-    Table { machine: usize, states: usize },
+    Repeat {
+        /// The entry, counted from 0.
+        entry: usize,
+    },
+    /// 7: the table is too short for the set.
+    Table {
+        /// The lowest machine that lacks slots; 254 for a whole-byte table.
+        machine: usize,
+        /// The states that it needs.
+        states: usize,
+    },
     /// 8: the edition is the largest there is.
     Edition,
     /// 9: no replacement was accepted yet.
     NoSet,
     /// 10: the last serial is the largest there is.
     Serial,
-    /// 11: 16 tickets are open or stale.
+    /// 11: 16 tickets are open or stale; on a gate, 16 approvals are not yet decided.
     NoRoom,
-    /// 12: the serial was never given, or its ticket is closed.
+    /// 12: the serial was never given, or its ticket is closed; on a gate, its approval is decided.
     NoTicket,
-    /// 13: the ticket is older than the set; its edition.
-    Stale { edition: Edition },
+    /// 13: the ticket is older than the set.
+    Stale {
+        /// The edition under which it was opened.
+        edition: Edition,
+    },
     /// 14: bytes taken and the piece pass 4,294,967,295.
     Long,
     /// 15: a read outside the desk begins at a state that isn't below the slot count.
@@ -155,15 +181,26 @@ impl Display for Refusal {
                     "machine {machine} needs {states} states, more than the table has slots"
                 )
             }
-            Refusal::Edition => write!(f, "no edition is left on this desk"),
-            Refusal::NoSet => write!(f, "the desk has no set yet"),
-            Refusal::Serial => write!(f, "no serial is left on this desk"),
-            Refusal::NoRoom => write!(f, "16 tickets are open or stale"),
-            Refusal::NoTicket => write!(f, "no ticket has this serial, or it is closed"),
+            Refusal::Edition => write!(f, "no edition is left here: go on with a new one"),
+            Refusal::NoSet => write!(f, "no set is in force yet: replace one first"),
+            Refusal::Serial => write!(f, "no serial is left here: go on with a new one"),
+            Refusal::NoRoom => {
+                write!(
+                    f,
+                    "16 tickets are in use: close or decide one, open or stale, first"
+                )
+            }
+            Refusal::NoTicket => {
+                write!(
+                    f,
+                    "the serial was never given, or its ticket is closed or decided"
+                )
+            }
             Refusal::Stale { edition } => {
                 write!(
                     f,
-                    "the ticket was opened under edition {edition}, which was replaced"
+                    "the ticket was opened under edition {edition}, which was replaced: \
+                     open another and read from the first byte"
                 )
             }
             Refusal::Long => write!(f, "the bytes taken and the piece pass 4294967295"),

@@ -9,7 +9,9 @@ const KIND: [u8; 2] = [1, 0];
 
 /// A lawful set: 1 to 16 tags of 1 to 32 bytes, no two equal.
 ///
-/// It is the archive's proved reading of sets that accepts it, the one that a replacement uses.
+/// It is the archive's proved reading of sets that accepts it, the one that a replacement uses. The
+/// program `sleet-set` makes the bytes of a set from a text, and lists them; [`text`](crate::text)
+/// has the same for programs.
 ///
 /// ```
 /// use sleetbarley::{Refusal, Tag, TagSet};
@@ -57,6 +59,16 @@ impl TagSet {
         })
     }
 
+    /// The set of bytes that a replacement has accepted.
+    pub(crate) fn accepted(bytes: &[u8]) -> TagSet {
+        match TagSet::from_bytes(bytes) {
+            Ok(set) => set,
+            Err(refusal) => {
+                panic!("the archive isn't the one this crate is for: a set in force is {refusal}")
+            }
+        }
+    }
+
     /// The bytes of the set, as [`TagSet::from_bytes`] reads them.
     pub fn as_bytes(&self) -> &[u8] {
         &self.bytes
@@ -98,6 +110,7 @@ impl AsRef<[u8]> for TagSet {
 
 /// A set in the making; see [`TagSet`].
 #[derive(Clone, Debug)]
+#[must_use = "a tag is added to the builder that is given back, and only build makes a set"]
 pub struct TagSetBuilder {
     bytes: Vec<u8>,
 }

@@ -1,6 +1,8 @@
 //! Desks side by side, in several threads, and emptied in several ways.
 
-use sleetbarley::{Desk, Record, Serial, SplitTable, Stop, Tag, TagSet, WholeTable};
+use sleetbarley::{
+    Desk, Edition, Record, Serial, SplitTable, Stop, Tag, TagSet, TicketState, WholeTable,
+};
 use std::sync::mpsc::channel;
 use std::thread;
 
@@ -156,7 +158,7 @@ fn records_keep_the_edition_of_their_ticket_through_a_replacement() {
     let mut desk = desk_with(&tags());
     let serial = desk.open().expect("a ticket");
     assert_eq!(desk.feed(serial, b"hers").expect("read").records, 2);
-    desk.replace(TagSet::new(["ers"]).expect("lawful"))
+    desk.replace(&TagSet::new(["ers"]).expect("lawful"))
         .expect("accepted");
     let later = desk.open().expect("a ticket");
     assert_eq!(desk.feed(later, b"hers").expect("read").records, 1);
@@ -165,4 +167,61 @@ fn records_keep_the_edition_of_their_ticket_through_a_replacement() {
         .map(|r| (r.serial.0, r.edition.0, r.end, r.tag.0))
         .collect();
     assert_eq!(said, [(1, 1, 2, 0), (1, 1, 4, 3), (2, 2, 4, 0)]);
+}
+
+#[test]
+fn a_serial_has_a_state() {
+    let mut desk = desk_with(&tags());
+    let (first, second) = (
+        desk.open().expect("a ticket"),
+        desk.open().expect("a ticket"),
+    );
+    assert_eq!(desk.feed(first, b"ush").expect("read").taken, 3);
+    let edition = Edition(1);
+    assert_eq!(desk.state(first), TicketState::Open { edition, taken: 3 });
+    assert_eq!(desk.state(second), TicketState::Open { edition, taken: 0 });
+    for serial in [0, 3, u32::MAX] {
+        assert_eq!(desk.state(Serial(serial)), TicketState::Never);
+    }
+    desk.replace(&tags()).expect("accepted");
+    assert_eq!(desk.state(first), TicketState::Stale { edition, taken: 3 });
+    desk.close(first).expect("a stale ticket closes");
+    assert_eq!(desk.state(first), TicketState::Closed);
+    assert_eq!(desk.state(second), TicketState::Stale { edition, taken: 0 });
+}
+
+#[test]
+fn the_sets_of_tickets_in_use_and_of_held_records_are_kept() {
+    let mut desk = desk_with(&TagSet::new(["one"]).expect("lawful"));
+    let next = |desk: &mut Desk, tag: &str| {
+        let set = TagSet::new([tag]).expect("lawful");
+        desk.replace(&set).expect("accepted");
+    };
+    let bytes = |desk: &Desk, edition| desk.tag_bytes(Edition(edition), Tag(0)).map(<[u8]>::to_vec);
+    let ticket = desk.open().expect("a ticket");
+    next(&mut desk, "two");
+    let other = desk.open().expect("a ticket");
+    assert_eq!(desk.feed(other, b"two").expect("read").records, 1);
+    desk.close(other).expect("open");
+    next(&mut desk, "three");
+    next(&mut desk, "four");
+    // A ticket of the first, a record of the second, nothing of the third.
+    assert_eq!(bytes(&desk, 1), Some(b"one".to_vec()));
+    assert_eq!(bytes(&desk, 2), Some(b"two".to_vec()));
+    assert_eq!(bytes(&desk, 3), None);
+    assert_eq!(bytes(&desk, 4), Some(b"four".to_vec()));
+    let record = desk.take().expect("held");
+    assert_eq!(
+        desk.tag_bytes(record.edition, record.tag),
+        Some(&b"two"[..])
+    );
+    desk.close(ticket).expect("stale");
+    desk.replace_bytes(TagSet::new(["five"]).expect("lawful").as_bytes())
+        .expect("accepted");
+    assert_eq!(
+        (bytes(&desk, 1), bytes(&desk, 2), bytes(&desk, 4)),
+        (None, None, None)
+    );
+    assert_eq!(bytes(&desk, 5), Some(b"five".to_vec()));
+    assert_eq!(desk.set(Edition(5)).map(|set| set.tags().count()), Some(1));
 }

@@ -3,7 +3,7 @@
 
 use sleetbarley::lent::{self, LentDesk, SPLIT_TABLE};
 use sleetbarley::{
-    Desk, Edition, Found, Refusal, Serial, SplitTable, Stop, Tag, TagSet, WholeTable,
+    Desk, Edition, Found, Gate, Refusal, Serial, SplitTable, Stop, Tag, TagSet, WholeTable,
 };
 
 fn assert_refused<T: std::fmt::Debug>(said: Result<T, Refusal>, number: u32, values: &[u64]) {
@@ -20,7 +20,7 @@ fn assert_refused<T: std::fmt::Debug>(said: Result<T, Refusal>, number: u32, val
 
 fn open_desk(tags: &[&str]) -> (Desk, Serial) {
     let mut desk = Desk::new();
-    desk.replace(TagSet::new(tags).expect("a lawful set"))
+    desk.replace(&TagSet::new(tags).expect("a lawful set"))
         .expect("accepted");
     let serial = desk.open().expect("a ticket");
     (desk, serial)
@@ -47,7 +47,8 @@ fn sets_are_refused_by_the_builder_and_by_replace_alike() {
     for (bytes, number, value) in cases {
         assert_refused(TagSet::from_bytes(bytes.clone()), number, &[value]);
         let mut desk = Desk::new();
-        assert_refused(desk.replace(&bytes), number, &[value]);
+        assert_refused(desk.replace_bytes(&bytes), number, &[value]);
+        assert_refused(Gate::new().replace_bytes(&bytes), number, &[value]);
         assert_eq!(
             (desk.edition(), desk.table().iter().max()),
             (Edition(0), Some(&0))
@@ -101,7 +102,7 @@ fn the_desks_other_refusals() {
         desk.open().expect("16 rooms");
     }
     assert_refused(desk.open(), 11, &[]);
-    desk.replace(TagSet::new(["he"]).expect("lawful"))
+    desk.replace(&TagSet::new(["he"]).expect("lawful"))
         .expect("accepted");
     assert_refused(desk.open(), 11, &[]);
     assert_refused(desk.feed(first, b"he"), 13, &[1]);

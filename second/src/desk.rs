@@ -43,6 +43,15 @@ pub struct Fed {
     pub stop: Stop,
 }
 
+/// What the desk says of a serial.
+#[derive(Clone, Copy, Debug, PartialEq, Eq)]
+pub enum State {
+    Never,
+    Closed,
+    Stale { edition: Edition, taken: u32 },
+    Open { edition: Edition, taken: u32 },
+}
+
 #[derive(Clone, Debug, PartialEq, Eq)]
 pub struct Desk {
     edition: Edition,
@@ -155,6 +164,22 @@ impl Desk {
     /// Hands out the oldest record.
     pub fn take(&mut self) -> Result<Record, Refusal> {
         self.held.pop_front().ok_or(Refusal::Nothing)
+    }
+
+    /// The state of a ticket: never given, closed, stale or open.
+    pub fn state(&self, serial: Serial) -> State {
+        if let Some(ticket) = self.tickets.iter().find(|t| t.serial == serial) {
+            let (edition, taken) = (ticket.edition, ticket.taken);
+            return match self.is_stale(ticket) {
+                true => State::Stale { edition, taken },
+                false => State::Open { edition, taken },
+            };
+        }
+        // The serials given are 1, 2, .. up to the last.
+        match (1..=self.serial.0).contains(&serial.0) {
+            true => State::Closed,
+            false => State::Never,
+        }
     }
 
     pub fn edition(&self) -> Edition {

@@ -8,8 +8,8 @@
 mod desk_calls;
 mod odd;
 mod outside_calls;
-mod pieces;
-mod sets;
+pub(crate) mod pieces;
+pub(crate) mod sets;
 
 use crate::machine::Machine;
 use crate::replay::Replay;
@@ -65,6 +65,7 @@ const ACTIONS: &[(usize, Action)] = &[
     (4, Generator::take),
     (3, Generator::open),
     (2, Generator::close),
+    (3, Generator::state),
     (4, Generator::show),
     (3, Generator::replace),
     (1, Generator::fill_list),
@@ -86,7 +87,7 @@ impl Generator {
         let mut menu: Vec<Action> = vec![Generator::feed];
         for (share, action) in ACTIONS {
             let times = share * self.rng.below(3);
-            menu.extend(std::iter::repeat_n(*action, times));
+            menu.extend(std::iter::repeat(*action).take(times));
         }
         menu
     }
@@ -95,7 +96,7 @@ impl Generator {
     fn begin(&mut self) {
         if self.rng.once_in(2) {
             let calls = [
-                "open", "open", "feed 1 -", "close 1", "take", "show", "replace",
+                "open", "open", "feed 1 -", "close 1", "state 1", "take", "show", "replace",
             ];
             for _ in 0..self.rng.between(1, 4) {
                 let call = self.rng.pick(&calls).unwrap_or("open");

@@ -1,7 +1,8 @@
 //! The independent second program, written from document 01 and REPLAY.md alone.
 //!
 //! The first group of modules is the rules of document 01, the second the
-//! replay script, the third the comparison with another replay program.
+//! replay script, the third the comparison with another replay program, the
+//! fourth histories of a gate.
 
 pub mod desk;
 pub mod machine;
@@ -21,3 +22,6 @@ pub mod report;
 pub mod rng;
 pub mod shrink;
 pub mod tally;
+
+pub mod gate;
+pub mod histories;

@@ -72,7 +72,7 @@ fn doubled(rng: &mut Rng, lines: &mut Vec<Vec<u8>>) {
     let line = lines[at].clone();
     let times = rng.one_of(&[1, 1, 2, 17, 260]);
     let times = times.min(LONGEST / (line.len() + 1));
-    lines.splice(at..at, std::iter::repeat_n(line, times));
+    lines.splice(at..at, std::iter::repeat(line).take(times));
 }
 
 fn swapped(rng: &mut Rng, lines: &mut [Vec<u8>]) {

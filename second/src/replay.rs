@@ -1,6 +1,6 @@
 //! Running a replay script and writing its answers: REPLAY.md.
 
-use crate::desk::{Desk, Serial};
+use crate::desk::{Desk, Serial, State};
 use crate::reading::read_outside;
 use crate::refusal::Refusal;
 use crate::script::{parse, Call, TABLE_BUFFER};
@@ -93,6 +93,7 @@ impl Replay {
             Call::Open => format!("serial {}", self.desk.open()?.0),
             Call::Feed(serial, piece) => self.feed(Serial(serial), &piece)?,
             Call::Close(serial) => format!("closed {}", self.desk.close(Serial(serial))?.0),
+            Call::State(serial) => self.state(Serial(serial)),
             Call::Take => self.take()?,
             Call::Show => return Ok(self.show()),
             Call::Build(layout) => {
@@ -119,6 +120,16 @@ impl Replay {
         let lent = &self.table[..self.lent];
         let fed = self.desk.feed(serial, piece, lent)?;
         Ok(format!("taken {} stop {}", fed.taken, fed.stop.name()))
+    }
+
+    fn state(&self, serial: Serial) -> String {
+        let state = match self.desk.state(serial) {
+            State::Never => "never".to_string(),
+            State::Closed => "closed".to_string(),
+            State::Stale { edition, taken } => format!("stale {} {taken}", edition.0),
+            State::Open { edition, taken } => format!("open {} {taken}", edition.0),
+        };
+        format!("state {} {state}", serial.0)
     }
 
     fn take(&mut self) -> Result<String, Refusal> {

@@ -72,10 +72,10 @@ fn without_opening(lines: &[Vec<u8>], at: usize) -> Vec<Vec<u8>> {
     lines[..at].iter().cloned().chain(lowered).collect()
 }
 
-/// A feed or close of a serial above this one, with its serial lowered by 1;
-/// any other line as it is.
+/// A feed, a close or a state of a serial above this one, with its serial lowered
+/// by 1; any other line as it is.
 fn lowered(line: &[u8], serial: usize) -> Vec<u8> {
-    let front = [&b"feed "[..], b"close "]
+    let front = [&b"feed "[..], b"close ", b"state "]
         .into_iter()
         .find(|f| line.starts_with(f));
     let from = front.map_or(0, <[u8]>::len);

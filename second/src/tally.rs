@@ -36,12 +36,14 @@ impl Tally {
     }
 }
 
-/// The refusal's number, the reason for stopping, or the first word.
+/// The refusal's number, the reason for stopping, a ticket's state, or the first
+/// word.
 pub fn kind_of(answer: &str) -> String {
     let words: Vec<&str> = answer.split(' ').take(4).collect();
     match words[..] {
         ["refused", number, ..] => format!("refused {number}"),
         ["taken", _, "stop", why] => format!("stop {why}"),
+        ["state", _, state, ..] => format!("state {state}"),
         ["line", ..] => "not a call".to_string(),
         [word, ..] => word.to_string(),
         [] => String::new(),

@@ -56,6 +56,9 @@ fn count(seen: &mut Seen, call: &str, before: &Replay, after: &Replay, answer: &
             let slots = Layout::Split.slots(before.lent());
             see(seen, format!("replace with 513 slots: {}", slots == 513));
         }
+        "state" if first.starts_with("state") => {
+            see(seen, format!("state {}", told[2]));
+        }
         "feed" | "close" if first == "refused 12" => {
             let serial: u32 = words[1].parse().unwrap_or(0);
             let given = (1..=before.desk().serial().0).contains(&serial);
@@ -125,6 +128,9 @@ fn the_scripts_of_the_gate_come_past_every_edge() {
     for call in ["feed", "close"] {
         wanted.push(format!("{call} of a serial closed"));
         wanted.push(format!("{call} of a serial never given"));
+    }
+    for state in ["never", "closed", "stale", "open"] {
+        wanted.push(format!("state {state}"));
     }
     wanted.push("feed FULL at 0 taken".to_string());
     wanted.push("feed beside 2 tickets".to_string());

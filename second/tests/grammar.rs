@@ -78,6 +78,8 @@ fn numbers() {
             Some(Call::Close(number))
         );
     }
+    assert_eq!(parse(b"state 007"), Some(Call::State(7)));
+    assert_eq!(parse(b"state 4294967296"), None);
     let zeros = format!("close {}4294967295", "0".repeat(500));
     assert_eq!(parse(zeros.as_bytes()), Some(Call::Close(u32::MAX)));
     for word in [
@@ -189,7 +191,7 @@ fn a_set_has_at_most_4096_bytes() {
 #[test]
 fn calls_with_words_too_few_or_too_many() {
     let whole = [
-        "replace", "open", "take", "show", "close 1", "lend 1", "poke 1 2",
+        "replace", "open", "take", "show", "close 1", "state 1", "lend 1", "poke 1 2",
     ];
     for line in whole
         .iter()
@@ -213,7 +215,14 @@ fn calls_with_words_too_few_or_too_many() {
     ] {
         assert_eq!(parse(line.as_bytes()), None, "{line}");
     }
-    for line in ["close  1", "poke 1  2", "build  split", "feed 1  -"] {
+    for line in [
+        "close  1",
+        "state  1",
+        "states 1",
+        "poke 1  2",
+        "build  split",
+        "feed 1  -",
+    ] {
         assert_eq!(parse(line.as_bytes()), None, "{line}");
     }
 }

@@ -1,5 +1,5 @@
 /* edges.c: what C can hand over and Rust can't. Null runs and empty ones; runs that end, or begin,
-   just where a page begins that nobody may touch; a stack of 64 KiB. Each answer is checked. */
+   just where a page begins that nobody may touch; a stack of 96 KiB. Each answer is checked. */
 #define _GNU_SOURCE
 #include <inttypes.h>
 #include <pthread.h>
@@ -8,10 +8,12 @@
 #include <stdlib.h>
 #include <sys/mman.h>
 
+/* An answer of the archive's own functions. */
 static void expect(const char *what, sleet_answer said, uint64_t refusal, uint64_t a, uint64_t b, uint64_t c,
                    uint64_t d)
 {
-    if (said.refusal == refusal && said.a == a && said.b == b && said.c == c && said.d == d)
+    if (said.refusal == refusal && said.a == a && said.b == b && said.c == c && said.d == d &&
+        (said.e | said.f | said.g) == 0)
         return;
     fprintf(stderr,
             "edges: %s: %" PRIu64 " %" PRIu64 " %" PRIu64 " %" PRIu64 " %" PRIu64 ", not %" PRIu64 " %" PRIu64
@@ -42,31 +44,90 @@ static void *guarded(size_t bytes, int side)
 static size_t sample_set(uint8_t *set, size_t room)
 {
     static const char *const tags[] = {"he", "she", "his", "hers"};
-    size_t length = 0;
-    for (size_t i = 0; i < 4; i++)
-        need("an entry fits", (length = sleet_set_add(set, room, length, tags[i], strlen(tags[i]))) > 0);
-    return length;
+    sleet_added at = {1, 0};
+    for (size_t i = 0; i < 4; i++) {
+        at = sleet_set_add(set, room, at.length, tags[i], strlen(tags[i]));
+        need("an entry fits", at.added);
+    }
+    return at.length;
+}
+
+/* The desk's calls, each with its answer's members. */
+static void replaced(const char *what, sleet_replaced said, uint64_t refusal, uint32_t edition, size_t tags)
+{
+    need(what, said.refusal == refusal && said.edition == edition && said.tags == tags && said.entry == 0);
+}
+
+static void fed(const char *what, sleet_fed said, uint64_t refusal, size_t taken, uint64_t stop, size_t records)
+{
+    need(what, said.refusal == refusal && said.taken == taken && said.stop == stop && said.records == records);
+}
+
+static void was_read(const char *what, sleet_was_read said, uint64_t refusal, size_t taken, uint64_t stop,
+                     size_t records)
+{
+    need(what, said.refusal == refusal && said.taken == taken && said.stop == stop && said.records == records);
 }
 
 static void null_runs(void)
 {
     static uint16_t table[SLEET_SPLIT_TABLE];
     uint8_t set[28];
+    uint16_t place[8] = {0};
     size_t length = sample_set(set, sizeof set);
     sleet_desk desk = sleet_desk_new();
-    expect("a null set", sleet_replace(&desk, NULL, 28, table, SLEET_SPLIT_TABLE), SLEET_REFUSED_EMPTY, 0, 0, 0,
-           0);
-    expect("a null table", sleet_replace(&desk, set, length, NULL, SLEET_SPLIT_TABLE), SLEET_REFUSED_TABLE, 0, 9,
-           0, 0);
-    expect("a set", sleet_replace(&desk, set, length, table, SLEET_SPLIT_TABLE), 0, 1, 4, 0, 0);
-    expect("open", sleet_open(&desk), 0, 1, 0, 0, 0);
-    expect("a null piece", sleet_feed(&desk, 1, table, SLEET_SPLIT_TABLE, NULL, 6), 0, 0, SLEET_STOP_ALL, 0, 0);
-    expect("a null table fed", sleet_feed(&desk, 1, NULL, SLEET_SPLIT_TABLE, (const uint8_t *)"he", 2), 0, 0,
-           SLEET_STOP_DAMAGED, 0, 0);
-    expect("a piece", sleet_feed(&desk, 1, table, SLEET_SPLIT_TABLE, (const uint8_t *)"ushers", 6), 0, 6,
-           SLEET_STOP_ALL, 3, 0);
-    need("a null list takes nothing", sleet_take_many(&desk, NULL, 2048) == 0 && desk.count == 3);
-    expect("take", sleet_take(&desk), 0, 1, 1, 4, 0);
+    replaced("a null set", sleet_replace(&desk, NULL, 28, table, SLEET_SPLIT_TABLE), SLEET_REFUSED_EMPTY, 0, 0);
+    sleet_replaced no_table = sleet_replace(&desk, set, length, NULL, SLEET_SPLIT_TABLE);
+    replaced("a null table", no_table, SLEET_REFUSED_TABLE, 0, 0);
+    need("what it needs", no_table.machine == 0 && no_table.needs == 9);
+    replaced("a set", sleet_replace(&desk, set, length, table, SLEET_SPLIT_TABLE), 0, 1, 4);
+    need("open", sleet_open(&desk).serial == 1);
+    fed("a null piece", sleet_feed(&desk, 1, table, SLEET_SPLIT_TABLE, NULL, 6), 0, 0, SLEET_STOP_ALL, 0);
+    fed("a null table fed", sleet_feed(&desk, 1, NULL, SLEET_SPLIT_TABLE, (const uint8_t *)"he", 2), 0, 0,
+        SLEET_STOP_DAMAGED, 0);
+    fed("a piece", sleet_feed(&desk, 1, table, SLEET_SPLIT_TABLE, (const uint8_t *)"ushers", 6), 0, 6,
+        SLEET_STOP_ALL, 3);
+    need("a null list takes nothing", sleet_take_many(&desk, NULL, 512) == 0 && desk.count == 3);
+    sleet_taken first = sleet_take(&desk);
+    need("take", first.refusal == 0 && first.record.serial == 1 && first.record.edition == 1 &&
+                     first.record.end == 4 && first.record.tag == 0);
+    need("a null set has no size", sleet_size(NULL, 28).refusal == SLEET_REFUSED_EMPTY);
+    need("nor a table", sleet_make_split(NULL, 28, table, 9).refusal == SLEET_REFUSED_EMPTY &&
+                            sleet_make_whole(set, length, NULL, 9).refusal == SLEET_REFUSED_TABLE);
+    was_read("a null list", sleet_scan_split(table, SLEET_SPLIT_TABLE, place, 0, (const uint8_t *)"ushers", 6, NULL, 9),
+             0, 3, SLEET_STOP_FULL, 0);
+    was_read("a null table scanned", sleet_scan_whole(NULL, 9, place, 0, NULL, 9, NULL, 9), SLEET_REFUSED_PLACE, 0,
+             SLEET_STOP_NONE, 0);
+}
+
+/* What becomes of a ticket; and what is refused says nothing that could be taken for an answer. */
+static void states(void)
+{
+    static uint16_t table[SLEET_SPLIT_TABLE];
+    uint8_t set[28];
+    size_t length = sample_set(set, sizeof set);
+    sleet_desk desk = sleet_desk_new();
+    need("no ticket without a set", sleet_open(&desk).refusal == SLEET_REFUSED_NO_SET);
+    replaced("a set", sleet_replace(&desk, set, length, table, SLEET_SPLIT_TABLE), 0, 1, 4);
+    need("never given", sleet_state(&desk, 1).state == SLEET_NEVER_GIVEN);
+    need("three tickets", sleet_open(&desk).serial + sleet_open(&desk).serial + sleet_open(&desk).serial == 6);
+    fed("a piece", sleet_feed(&desk, 2, table, SLEET_SPLIT_TABLE, (const uint8_t *)"xyz", 3), 0, 3, SLEET_STOP_ALL, 0);
+    sleet_stated now = sleet_state(&desk, 2);
+    need("open", now.state == SLEET_OPEN && now.edition == 1 && now.taken == 3);
+    need("closed", sleet_close(&desk, 1).refusal == 0 && sleet_state(&desk, 1).state == SLEET_CLOSED);
+    replaced("a set", sleet_replace(&desk, set, length, table, SLEET_SPLIT_TABLE), 0, 2, 4);
+    now = sleet_state(&desk, 2);
+    need("stale", now.state == SLEET_STALE && now.edition == 1 && now.taken == 3);
+    now = sleet_state(&desk, 1);
+    need("still closed", now.state == SLEET_CLOSED && now.edition == 0 && now.taken == 0);
+    need("never given", sleet_state(&desk, 4).state == SLEET_NEVER_GIVEN && sleet_state(&desk, 0).state < SLEET_STALE);
+    sleet_fed late = sleet_feed(&desk, 2, table, SLEET_SPLIT_TABLE, (const uint8_t *)"he", 2);
+    fed("a stale ticket", late, SLEET_REFUSED_STALE, 0, SLEET_STOP_NONE, 0);
+    need("its edition", late.edition == 1);
+    fed("a closed one", sleet_feed(&desk, 1, table, SLEET_SPLIT_TABLE, (const uint8_t *)"he", 2),
+        SLEET_REFUSED_NO_TICKET, 0, SLEET_STOP_NONE, 0);
+    need("closed twice", sleet_close(&desk, 1).refusal == SLEET_REFUSED_NO_TICKET);
+    need("nothing to take", sleet_take(&desk).refusal == SLEET_REFUSED_NOTHING);
 }
 
 /* Runs of no elements, at addresses where nothing can be read. */
@@ -97,70 +158,130 @@ static void empty_runs(int side)
 
 static void guarded_desk(int side)
 {
-    size_t numbers = SLEET_SPLIT_TABLE + 23, room = 256 * 4 + 3;
+    size_t numbers = SLEET_SPLIT_TABLE + 23, room = 257;
     uint8_t *set = guarded(28, side), *piece = guarded(1500, side);
     uint16_t *table = guarded(2 * numbers, side);
-    uint32_t *list = guarded(4 * room, side);
+    sleet_record *list = guarded(room * sizeof *list, side);
     sleet_desk *desk = guarded(sizeof *desk, side);
     size_t length = sample_set(set, 28);
     for (size_t i = 0; i < 1500; i++)
         piece[i] = (uint8_t) "ushers"[i % 6];
     *desk = sleet_desk_new();
-    expect("replace", sleet_replace(desk, set, length, table, numbers), 0, 1, 4, 0, 0);
-    expect("open", sleet_open(desk), 0, 1, 0, 0, 0);
+    replaced("replace", sleet_replace(desk, set, length, table, numbers), 0, 1, 4);
+    need("open", sleet_open(desk).serial == 1);
     /* 3 records in 6 bytes: 255 after 510, then 3 bytes without a match, then one with two */
-    expect("feed", sleet_feed(desk, 1, table, numbers, piece, 1500), 0, 513, SLEET_STOP_FULL, 255, 0);
+    fed("feed", sleet_feed(desk, 1, table, numbers, piece, 1500), 0, 513, SLEET_STOP_FULL, 255);
     need("take_many", sleet_take_many(desk, list, room) == 255 && desk->count == 0);
-    need("its first record", list[0] == 1 && list[1] == 1 && list[2] == 4 && list[3] == 0);
-    need("its last record", list[1016] == 1 && list[1017] == 1 && list[1018] == 510 && list[1019] == 3);
-    need("what lies behind", list[1020] == 0 && list[room - 1] == 0);
+    static const sleet_record first = {1, 1, 4, 0}, last = {1, 1, 510, 3}, none = {0, 0, 0, 0};
+    need("its first record", memcmp(&list[0], &first, sizeof first) == 0);
+    need("its last record", memcmp(&list[254], &last, sizeof last) == 0);
+    need("what lies behind", memcmp(&list[255], &none, sizeof none) == 0 && list[room - 1].tag == 0);
     /* it goes on with that byte: 255 after 510 once more, and again one with two */
-    expect("feed on", sleet_feed(desk, 1, table, numbers, piece + 513, 987), 0, 510, SLEET_STOP_FULL, 255, 0);
-    expect("close", sleet_close(desk, 1), 0, 0, 0, 0, 0);
+    fed("feed on", sleet_feed(desk, 1, table, numbers, piece + 513, 987), 0, 510, SLEET_STOP_FULL, 255);
+    need("room for two", sleet_take_many(desk, list + room - 2, 2) == 2 && desk->count == 253);
+    need("close", sleet_close(desk, 1).refusal == 0);
+}
+
+/* A gate whose own image ends, or begins, where nobody may touch. */
+static void guarded_gate(int side)
+{
+    sleet_gateway *g = guarded(sizeof *g, side);
+    uint8_t *set = guarded(28, side), *piece = guarded(5000, side);
+    size_t length = sample_set(set, 28);
+    for (size_t i = 0; i < 5000; i++)
+        piece[i] = (uint8_t) "ushers"[i % 6];
+    sleet_gateway_start(g);
+    replaced("change", sleet_change(g, set, length), 0, 1, 4);
+    uint32_t one = sleet_begin(g).serial, other = sleet_begin(g).serial;
+    sleet_pieced said = sleet_piece(g, one, piece, 5000);
+    need("the list is emptied as often as it fills", said.whole && said.taken == 5000 && g->gate.desk.count == 0);
+    sleet_decided held = sleet_decide(g, one);
+    need("he, she, hers", held.verdict == SLEET_HOLD && held.mask == 11);
+    need("a mask's tags", sleet_mask_has(held.mask, 0) && !sleet_mask_has(held.mask, 2) && sleet_mask_has(held.mask, 3) &&
+                              !sleet_mask_has(UINT64_MAX, 64));
+    need("no bytes are clean", sleet_decide(g, other).verdict == SLEET_PASS);
 }
 
 static void guarded_tables(int side)
 {
     uint8_t *set = guarded(28, side), *piece = guarded(6, side);
     uint16_t *split = guarded(2 * 240, side), *whole = guarded(2 * 2570, side);
-    uint16_t *place = guarded(16, side);
-    uint32_t *list = guarded(4 * 6, side);
+    uint16_t *place = guarded(16, side), *state = guarded(2, side);
+    sleet_found *list = guarded(3 * sizeof *list, side);
     size_t length = sample_set(set, 28);
     memcpy(piece, "ushers", 6);
-    expect("slots", sleet_slots_needed(set, length), 0, 10, 10, 0, 0);
-    expect("split", sleet_build_split(set, length, split, 240), 0, 4, 0, 0, 0);
-    expect("whole", sleet_build_whole(set, length, whole, 2570), 0, 4, 0, 0, 0);
-    sleet_split_reply r = sleet_read_split(split, 240, place, 0, piece, 6, list, 6);
-    expect("read split", r.answer, 0, 6, SLEET_STOP_ALL, 3, 0);
-    static const uint32_t records[6] = {4, 0, 4, 1, 6, 3};
+    sleet_needed size = sleet_size(set, length);
+    need("slots", size.refusal == 0 && size.split_slots == 10 && size.whole_slots == 10);
+    need("split", sleet_make_split(set, length, split, 240).tags == 4);
+    need("whole", sleet_make_whole(set, length, whole, 2570).tags == 4);
+    was_read("scan split", sleet_scan_split(split, 240, place, 0, piece, 6, list, 3), 0, 6, SLEET_STOP_ALL, 3);
+    static const sleet_found records[3] = {{4, 0}, {4, 1}, {6, 3}};
     need("its records", memcmp(list, records, sizeof records) == 0);
     memset(list, 0, sizeof records);
-    sleet_whole_reply w = sleet_read_whole(whole, 2570, 0, 0, piece, 6, list, 6);
-    expect("read whole", w.answer, 0, 6, SLEET_STOP_ALL, 3, 0);
+    was_read("scan whole", sleet_scan_whole(whole, 2570, state, 0, piece, 6, list, 3), 0, 6, SLEET_STOP_ALL, 3);
     need("its records", memcmp(list, records, sizeof records) == 0);
-    r = sleet_read_split(split, 240, (const uint16_t[8]){0, 0, 0, 0, 0, 0, 0, 10}, 0, piece, 6, list, 6);
-    expect("a place outside", r.answer, SLEET_REFUSED_PLACE, 0, 0, 0, 0);
-    need("the place given", r.place[7] == 10 && r.place[0] == 0);
+    need("its place", *state != 0);
+    memset(place, 0, 16);
+    place[7] = 10;
+    was_read("a place outside", sleet_scan_split(split, 240, place, 0, piece, 6, list, 3), SLEET_REFUSED_PLACE, 0,
+             SLEET_STOP_NONE, 0);
+    need("the place given", place[7] == 10 && place[0] == 0);
+    was_read("too long", sleet_scan_whole(whole, 2570, state, UINT32_MAX, piece, 6, list, 3), SLEET_REFUSED_LONG, 0,
+             SLEET_STOP_NONE, 0);
 }
+
+/* Nothing is added, and the length stays as it was. */
+static int not_added(sleet_added said, size_t length) { return !said.added && said.length == length; }
 
 static void entries(void)
 {
     uint8_t set[40] = {0};
-    need("no room for its head", sleet_set_add(set, 3, 0, "", 0) == 0);
-    need("no room for its tag", sleet_set_add(set, 40, 35, "he", 2) == 0 && set[35] == 0);
-    need("a length beyond the room", sleet_set_add(set, 40, 41, "he", 2) == 0);
-    need("too long to be said", sleet_set_add(set, SIZE_MAX, 0, set, 65536) == 0 && set[0] == 0);
-    need("an entry without bytes", sleet_set_add(set, 4, 0, NULL, 0) == 4 && set[2] == 1);
+    need("no room for its head", not_added(sleet_set_add(set, 3, 0, "", 0), 0));
+    need("no room for its tag", not_added(sleet_set_add(set, 40, 35, "he", 2), 35) && set[35] == 0);
+    need("a length beyond the room", not_added(sleet_set_add(set, 40, 41, "he", 2), 41));
+    need("too long to be said", not_added(sleet_set_add(set, SIZE_MAX, 0, set, 65536), 0) && set[0] == 0);
+    sleet_added said = sleet_set_add(set, 4, 0, NULL, 0);
+    need("an entry without bytes", said.added && said.length == 4 && set[2] == 1);
     expect("it is refused", sleet_slots_needed(set, 4), SLEET_REFUSED_LENGTH, 0, 0, 0, 0);
+    need("a tag that nobody can read", not_added(sleet_set_add(set, 40, 4, NULL, 2), 4) && set[4] == 0);
+    sleet_tags tags = sleet_tags_none();
+    need("no tags are no set", sleet_size(tags.bytes, tags.length).refusal == SLEET_REFUSED_EMPTY);
+    need("too long for any room", !sleet_tags_add(&tags, set, SIZE_MAX) && tags.length == 4);
+    need("it is said", sleet_size(tags.bytes, tags.length).refusal == SLEET_REFUSED_LENGTH);
+    for (int i = 0; i < 200; i++)
+        need("a tag behind it makes no lawful set", sleet_tags_add(&tags, "he", 2) == (i < 96) &&
+                                                        sleet_size(tags.bytes, tags.length).refusal == SLEET_REFUSED_LENGTH);
+    need("it ends with its room", tags.length == sizeof tags.bytes);
+    tags = sleet_tags_none();
+    need("a tag that nobody can read", sleet_tags_add(&tags, "he", 2) && !sleet_tags_add(&tags, NULL, 2));
+    sleet_needed size = sleet_size(tags.bytes, tags.length);
+    need("makes no lawful set", size.refusal == SLEET_REFUSED_LENGTH && size.entry == 1);
+}
+
+static void names(void)
+{
+    need("refusals", strcmp(sleet_refusal_name(0), "accepted") == 0 && strcmp(sleet_refusal_name(1), "CUT") == 0 &&
+                         strcmp(sleet_refusal_name(SLEET_REFUSED_EDITION), "EDITION") == 0 &&
+                         strcmp(sleet_refusal_name(SLEET_REFUSED_NO_TICKET), "NO TICKET") == 0 &&
+                         strcmp(sleet_refusal_name(16), "NOTHING") == 0);
+    need("stops", strcmp(sleet_stop_name(SLEET_STOP_DAMAGED), "DAMAGED") == 0);
+    need("verdicts", strcmp(sleet_verdict_name(SLEET_PASS), "PASS") == 0 &&
+                         strcmp(sleet_verdict_name(SLEET_UNREAD), "UNREAD") == 0);
+    need("unknown", strcmp(sleet_refusal_name(17), "unknown") == 0 && strcmp(sleet_stop_name(UINT64_MAX), "unknown") == 0 &&
+                        strcmp(sleet_verdict_name(5), "unknown") == 0);
 }
 
 static void *all(void *unused)
 {
+    need("one version", sleet_version() == SLEET_VERSION);
     null_runs();
+    states();
     entries();
+    names();
     for (int side = 0; side < 2; side++) {
         empty_runs(side);
         guarded_desk(side);
+        guarded_gate(side);
         guarded_tables(side);
     }
     return unused;
@@ -170,7 +291,7 @@ int main(void)
 {
     pthread_attr_t small;
     pthread_t thread;
-    need("a small stack", pthread_attr_init(&small) == 0 && pthread_attr_setstacksize(&small, 65536) == 0);
+    need("a small stack", pthread_attr_init(&small) == 0 && pthread_attr_setstacksize(&small, 98304) == 0);
     need("a thread", pthread_create(&thread, &small, all, NULL) == 0 && pthread_join(thread, NULL) == 0);
     puts("edges: every answer as expected");
     return 0;

@@ -19,4 +19,8 @@ awk -v said="$folder/said" '
 ' "$page" >steps
 # a page whose blocks were not found would pass unread
 [[ $(grep -c '^{$' steps) -gt 0 && $(grep -c '^diff ' steps) -gt 0 ]]
+# where a machine can't start what the page compiles, its `cc` is a cross compiler and its programs run by an emulator
+if [[ -n ${RUN-} ]]; then
+  sed -i -e '1i cc() { "$CC" "$@"; }' -e 's|^\./|$RUN ./|' steps
+fi
 bash -euo pipefail steps

@@ -4,15 +4,18 @@ use Rattle.desk.specs.declared.OpenAnswer.the-variants as O
 use Rattle.desk.specs.declared.FeedAnswer.the-variants as F
 use Rattle.desk.specs.declared.CloseAnswer.the-variants as C
 use Rattle.desk.specs.declared.TakeAnswer.the-variants as K
+use Rattle.desk.specs.declared.StateAnswer.the-variants as A
 use Rattle.tables.specs.declared.Built.the-variants as B
 use Rattle.reading.specs.declared.Ending.the-variants as E
 use Rattle.matching.specs.declared.Stop.the-variants as S
 use Prim.Native.Nat.{ℕ}
 use mathlib.Core.List.{List, [], _∷_, _++_}
 use Rattle.desk.specs.declared.CloseAnswer.{CloseAnswer}
+use Rattle.desk.specs.declared.Edition.{Edition}
 use Rattle.desk.specs.declared.FeedAnswer.{FeedAnswer}
 use Rattle.desk.specs.declared.OpenAnswer.{OpenAnswer}
 use Rattle.desk.specs.declared.ReplaceAnswer.{ReplaceAnswer}
+use Rattle.desk.specs.declared.StateAnswer.{StateAnswer}
 use Rattle.desk.specs.declared.TakeAnswer.{TakeAnswer}
 use Rattle.desk.specs.declared.Record.{Record}
 use Rattle.matching.specs.declared.Stop.{Stop}
@@ -78,6 +81,20 @@ feedLine F.Long = refusedLine 14 []
 abbrev pub closeLine : ℕ → CloseAnswer → List ℕ
 closeLine serial C.Closed = wordLine (99 ∷ 108 ∷ 111 ∷ 115 ∷ 101 ∷ 100 ∷ 32 ∷ []) serial
 closeLine serial C.NoTicket = refusedLine 12 []
+
+-- `stale` or `open`, and the ticket's edition and bytes taken
+abbrev pub heldPart : List ℕ → Edition → ℕ → List ℕ
+heldPart words edition count = ended (numbered words (edition .0) ++ numbered (32 ∷ []) count)
+
+-- the state of a ticket behind its serial: `never`, `closed`, `stale E N` or `open E N`
+abbrev pub statePart : StateAnswer → List ℕ
+statePart A.Never = 32 ∷ 110 ∷ 101 ∷ 118 ∷ 101 ∷ 114 ∷ 10 ∷ []
+statePart A.Closed = 32 ∷ 99 ∷ 108 ∷ 111 ∷ 115 ∷ 101 ∷ 100 ∷ 10 ∷ []
+statePart (A.Stale edition count) = heldPart (32 ∷ 115 ∷ 116 ∷ 97 ∷ 108 ∷ 101 ∷ 32 ∷ []) edition count
+statePart (A.Open edition count) = heldPart (32 ∷ 111 ∷ 112 ∷ 101 ∷ 110 ∷ 32 ∷ []) edition count
+
+abbrev pub stateLine : ℕ → StateAnswer → List ℕ
+stateLine serial answer = numbered (115 ∷ 116 ∷ 97 ∷ 116 ∷ 101 ∷ 32 ∷ []) serial ++ statePart answer
 
 abbrev pub recordLine : Record → List ℕ
 recordLine r = ended (numbered (114 ∷ 101 ∷ 99 ∷ 111 ∷ 114 ∷ 100 ∷ 32 ∷ []) (r .serial .0) ++ numbered (32 ∷ []) (r .edition .0) ++ numbered (32 ∷ []) (r .end) ++ numbered (32 ∷ []) (r .tag .0))

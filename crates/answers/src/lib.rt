@@ -3,10 +3,12 @@ mod show;
 mod texts;
 
 use desk::CloseAnswer;
+use desk::Edition;
 use desk::FeedAnswer;
 use desk::OpenAnswer;
 use desk::Record;
 use desk::ReplaceAnswer;
+use desk::StateAnswer;
 use desk::TakeAnswer;
 use matching::Stop;
 use reading::Ending;
@@ -27,7 +29,7 @@ use writing::put_words;
 ghost use mathlib.Core.List.{_∷_, [], _++_};
 ghost use Rattle.writing.specs.Buffer.{buffer, Puts};
 ghost use Rattle.reading.specs.Outside.{readNumber};
-ghost use Rattle.answers.specs.Answers.{numbered, listed, ended, refusedLine, faultLine, replaceLine, openLine, stopWord, feedLine, closeLine, recordLine, takeLine, builtLine, numbersLine, stoppedLines, readLines};
+ghost use Rattle.answers.specs.Answers.{numbered, listed, ended, refusedLine, faultLine, replaceLine, openLine, stopWord, feedLine, closeLine, heldPart, statePart, stateLine, recordLine, takeLine, builtLine, numbersLine, stoppedLines, readLines};
 
 fn fault(out: &mut [u8; 65536], used: usize, fault: SetFault) -> usize
     ensures { λ r. ⌜ Puts (buffer (now (out .entry)) used) (faultLine fault) (buffer (now (out .exit)) r) ⌝ }
@@ -110,6 +112,32 @@ pub fn closed(out: &mut [u8; 65536], used: usize, serial: u32, answer: CloseAnsw
         CloseAnswer::Closed => word_line(out, used, b"closed ", serial as u64),
         CloseAnswer::NoTicket => refused(out, used, 12),
     }
+}
+
+fn put_held(out: &mut [u8; 65536], used: usize, words: &[u8], edition: Edition, count: u32) -> usize
+    ensures { λ r. ⌜ Puts (buffer (now (out .entry)) used) (heldPart (now (words .entry)) edition count) (buffer (now (out .exit)) r) ⌝ }
+{
+    let n = put_numbered(out, used, words, edition.0 as u64);
+    let n = put_blank_number(out, n, count as u64);
+    put_line_end(out, n)
+}
+
+fn put_state(out: &mut [u8; 65536], used: usize, answer: StateAnswer) -> usize
+    ensures { λ r. ⌜ Puts (buffer (now (out .entry)) used) (statePart answer) (buffer (now (out .exit)) r) ⌝ }
+{
+    match answer {
+        StateAnswer::Never => put_words(out, used, b" never\n"),
+        StateAnswer::Closed => put_words(out, used, b" closed\n"),
+        StateAnswer::Stale(edition, count) => put_held(out, used, b" stale ", edition, count),
+        StateAnswer::Open(edition, count) => put_held(out, used, b" open ", edition, count),
+    }
+}
+
+pub fn told(out: &mut [u8; 65536], used: usize, serial: u32, answer: StateAnswer) -> usize
+    ensures { λ r. ⌜ Puts (buffer (now (out .entry)) used) (stateLine serial answer) (buffer (now (out .exit)) r) ⌝ }
+{
+    let n = put_numbered(out, used, b"state ", serial as u64);
+    put_state(out, n, answer)
 }
 
 fn record_line(out: &mut [u8; 65536], used: usize, oldest: Record) -> usize

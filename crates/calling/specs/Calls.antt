@@ -3,17 +3,18 @@ use Prim.Native.Nat.{ℕ, _≤_}
 use mathlib.Core.Path.{_≡_}
 use mathlib.Core.List.{List, [], _∷_, _++_}
 use lib.ListN.{length, take, drop, set, getD, replicate}
-use Rattle.answers.specs.Answers.{wordLine, notACallLine, replaceLine, openLine, feedLine, closeLine, takeLine, builtLine, numbersLine, readLines}
+use Rattle.answers.specs.Answers.{wordLine, notACallLine, replaceLine, openLine, feedLine, closeLine, stateLine, takeLine, builtLine, numbersLine, readLines}
 use Rattle.answers.specs.Show.{showLines}
 use Rattle.desk.specs.Calls.{newDesk, openOf, closeOf, takeOf}
 use Rattle.desk.specs.Feed.{feedOf}
 use Rattle.desk.specs.Replace.{replaceOf, replacedRun}
 use Rattle.desk.specs.Rooms.{serialOf}
+use Rattle.desk.specs.State.{stateOf}
 use Rattle.desk.specs.declared.Desk.{Desk}
 use Rattle.reading.specs.Outside.{readOf, splitBy, wholeBy, listBy}
 use Rattle.reading.specs.declared.SplitAnswer.{SplitAnswer}
 use Rattle.reading.specs.declared.WholeAnswer.{WholeAnswer}
-use Rattle.script.specs.Calls.{CallOf, passedOver, notACall, callSet, callLend, callReplace, callOpen, callFeed, callClose, callTake, callShow, callBuild, callRead, callPoke, callPeek}
+use Rattle.script.specs.Calls.{CallOf, passedOver, notACall, callSet, callLend, callReplace, callOpen, callFeed, callClose, callState, callTake, callShow, callBuild, callRead, callPoke, callPeek}
 use Rattle.script.specs.declared.Layout.{Layout}
 use Rattle.script.specs.declared.Layout.the-variants.{Split, Whole}
 use Rattle.calling.specs.declared.State.{State}
@@ -72,6 +73,9 @@ feedOn h serial piece =
 abbrev pub closeOn : Held → ℕ → Answered
 closeOn h serial = answered (withDesk h (closeOf (h .desk) (serialOf serial) .desk)) (closeLine serial (closeOf (h .desk) (serialOf serial) .answer))
 
+abbrev pub stateOn : Held → ℕ → Answered
+stateOn h serial = answered h (stateLine serial (stateOf (h .desk) (serialOf serial)))
+
 abbrev pub takeOn : Held → Answered
 takeOn h = answered (withDesk h (takeOf (h .desk) .desk)) (takeLine (takeOf (h .desk) .answer))
 
@@ -117,6 +121,7 @@ callOn h n callReplace = replaceOn h
 callOn h n callOpen = openOn h
 callOn h n (callFeed serial piece) = feedOn h serial piece
 callOn h n (callClose serial) = closeOn h serial
+callOn h n (callState serial) = stateOn h serial
 callOn h n callTake = takeOn h
 callOn h n callShow = answered h (showLines (h .desk))
 callOn h n (callBuild layout) = buildOn h layout

@@ -6,7 +6,7 @@ ghost use Prim.Native.Nat.{ℕ, _≤_};
 ghost use lib.ListN.{length};
 ghost use Rattle.writing.specs.Buffer.{buffer};
 ghost use Rattle.answers.specs.Show.{showLines};
-ghost use Rattle.calling.specs.Calls.{answered, heldBy, Within, Did, replaceOn, openOn, feedOn, closeOn, takeOn};
+ghost use Rattle.calling.specs.Calls.{answered, heldBy, Within, Did, replaceOn, openOn, feedOn, closeOn, stateOn, takeOn};
 
 pub fn replace(s: State, set: &[u8], table: &mut [u16], out: &mut [u8; 65536]) -> State
     requires { ⌜ (Within s) × (4096 ≤ length (now set)) × (131841 ≤ length (now table)) ⌝ }
@@ -75,6 +75,22 @@ pub fn close(s: State, serial: u32, out: &mut [u8; 65536]) -> State
     let desk = r.desk;
     let answer = r.answer;
     let used = answers::closed(out, s.used, serial, answer);
+    State {
+        desk,
+        held: s.held,
+        lent: s.lent,
+        used,
+    }
+}
+
+pub fn tell(s: State, serial: u32, out: &mut [u8; 65536]) -> State
+    requires { ⌜ Within s ⌝ }
+    ensures { λ r. ⌜ ((bytes table : List ℕ) → Did (stateOn (heldBy s bytes table) serial) (buffer (now (out .entry)) (s .used)) (heldBy r bytes table) (buffer (now (out .exit)) (r .used))) ⌝ }
+    ensures { λ r. ⌜ Within r ⌝ }
+{
+    let desk = s.desk;
+    let answer = desk.state(Serial(serial));
+    let used = answers::told(out, s.used, serial, answer);
     State {
         desk,
         held: s.held,

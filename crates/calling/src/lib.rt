@@ -15,6 +15,7 @@ use desk_calls::open;
 use desk_calls::replace;
 use desk_calls::show;
 use desk_calls::take;
+use desk_calls::tell;
 use outside::build;
 use outside::read;
 use script::Call;
@@ -71,6 +72,7 @@ fn make(
         Call::Open => open(s, out),
         Call::Feed(serial, k) => feed(s, serial, &bytes[0..k], table, out),
         Call::Close(serial) => close(s, serial, out),
+        Call::State(serial) => tell(s, serial, out),
         Call::Take => take(s, out),
         Call::Show => show(s, out),
         Call::Build(layout) => build(s, layout, set, table, out),

@@ -6,6 +6,7 @@ pub mod Calls
 pub mod TakeMany
 pub mod Replace
 pub mod Feed
+pub mod State
 pub mod Scanned
 pub mod Reached
 pub mod Numbers

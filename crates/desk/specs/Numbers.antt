@@ -15,6 +15,8 @@ use Rattle.desk.specs.declared.CloseAnswer.{CloseAnswer}
 use Rattle.desk.specs.declared.CloseAnswer.the-variants as C
 use Rattle.desk.specs.declared.TakeAnswer.{TakeAnswer}
 use Rattle.desk.specs.declared.TakeAnswer.the-variants as K
+use Rattle.desk.specs.declared.StateAnswer.{StateAnswer}
+use Rattle.desk.specs.declared.StateAnswer.the-variants as A
 
 -- why a reading stopped: ALL, FULL, DAMAGED
 abbrev pub stopNumber : Stop → ℕ
@@ -77,3 +79,10 @@ takeNumber K.Nothing = 16
 abbrev pub takeValues : TakeAnswer → List ℕ
 takeValues (K.Taken record′) = record′ .serial .0 ∷ record′ .edition .0 ∷ record′ .end ∷ record′ .tag .0 ∷ []
 takeValues K.Nothing = []
+
+-- never given, closed, stale or open; and of the last two the ticket's edition and the bytes taken. It is never a refusal
+abbrev pub stateValues : StateAnswer → List ℕ
+stateValues A.Never = 0 ∷ []
+stateValues A.Closed = 1 ∷ []
+stateValues (A.Stale edition taken) = 2 ∷ edition .0 ∷ taken ∷ []
+stateValues (A.Open edition taken) = 3 ∷ edition .0 ∷ taken ∷ []

@@ -1,10 +1,9 @@
-// The static library for C and Rust: each call of the desk, building and reading outside it, and the size query.
-// A desk goes in by value and comes back beside its answer; its image is numbers alone, so any bytes of its size are a desk.
-mod answers;
-
-use answers::Answer;
+// The static library for C and Rust: each call of the gate and of the desk, building and reading outside it, and the size query.
+// A gate or a desk goes in by value and comes back beside its answer; its image is numbers alone, so any bytes of its size are one.
 use desk::Desk;
 use desk::Serial;
+use gate::Gate;
+use numbers::Answer;
 ghost use mathlib.Core.Path.{_≡_};
 ghost use mathlib.Core.List.{[], _∷_};
 ghost use lib.ListN.{length};
@@ -13,14 +12,23 @@ ghost use Rattle.desk.specs.Calls.{newDesk, openOf, closeOf, takeOf};
 ghost use Rattle.desk.specs.Replace.{replaceOf, replacedRun};
 ghost use Rattle.desk.specs.Feed.{feedOf};
 ghost use Rattle.desk.specs.TakeMany.{manyOf, takeManyOf, listTaken};
+ghost use Rattle.desk.specs.State.{stateOf};
+ghost use Rattle.gate.specs.Gate.{newGate, changeOf, beginOf, pieceOf, decideOf};
 ghost use Rattle.tables.specs.Building.{builtOf, tableOf, neededOf};
 ghost use Rattle.reading.specs.Outside.{readOf, splitBy, wholeBy, listBy};
-ghost use Rattle.gateway.specs.Numbers.{builtAnswer, neededAnswer, replaceAnswer, openAnswer, feedAnswer, closeAnswer, takeAnswer, splitSaid, wholeSaid};
+ghost use Rattle.numbers.specs.Answers.{builtAnswer, neededAnswer, replaceAnswer, openAnswer, feedAnswer, closeAnswer, takeAnswer, stateAnswer, pieceAnswer, verdictAnswer, splitSaid, wholeSaid};
 
 // A desk after a call, and the call's answer.
 #[repr(C)]
 pub struct Reply {
     pub desk: Desk,
+    pub answer: Answer,
+}
+
+// A gate after a call, and the call's answer.
+#[repr(C)]
+pub struct GateReply {
+    pub gate: Gate,
     pub answer: Answer,
 }
 
@@ -44,6 +52,14 @@ pub struct WholeReply {
     pub place: u16,
 }
 
+// 10,000 for the major number, 100 for the minor one, and the patch: the header and the crate say which one they are written for.
+#[no_mangle]
+pub extern "C" fn sleet_version() -> u64
+    ensures { λ r. ⌜ r ≡ 10000 ⌝ }
+{
+    10000
+}
+
 #[no_mangle]
 pub extern "C" fn sleet_desk_new() -> Desk
     ensures { λ r. ⌜ r ≡ newDesk ⌝ }
@@ -58,7 +74,7 @@ pub extern "C" fn sleet_desk_replace(desk: Desk, set: &[u8], table: &mut [u16]) 
     let r = desk.replace(set, table);
     let after = r.desk;
     let said = r.answer;
-    let answer = answers::of_replace(said);
+    let answer = numbers::of_replace(said);
     Reply {
         desk: after,
         answer,
@@ -72,7 +88,7 @@ pub extern "C" fn sleet_desk_open(desk: Desk) -> Reply
     let r = desk.open();
     let after = r.desk;
     let said = r.answer;
-    let answer = answers::of_open(said);
+    let answer = numbers::of_open(said);
     Reply {
         desk: after,
         answer,
@@ -86,7 +102,7 @@ pub extern "C" fn sleet_desk_feed(desk: Desk, serial: u32, table: &[u16], piece:
     let r = desk.feed(Serial(serial), table, piece);
     let after = r.desk;
     let said = r.answer;
-    let answer = answers::of_feed(said);
+    let answer = numbers::of_feed(said);
     Reply {
         desk: after,
         answer,
@@ -100,7 +116,7 @@ pub extern "C" fn sleet_desk_close(desk: Desk, serial: u32) -> Reply
     let r = desk.close(Serial(serial));
     let after = r.desk;
     let said = r.answer;
-    let answer = answers::of_close(said);
+    let answer = numbers::of_close(said);
     Reply {
         desk: after,
         answer,
@@ -114,7 +130,7 @@ pub extern "C" fn sleet_desk_take(desk: Desk) -> Reply
     let r = desk.take();
     let after = r.desk;
     let said = r.answer;
-    let answer = answers::of_take(said);
+    let answer = numbers::of_take(said);
     Reply {
         desk: after,
         answer,
@@ -134,24 +150,99 @@ pub extern "C" fn sleet_desk_take_many(desk: Desk, list: &mut [u32]) -> TakenMan
 }
 
 #[no_mangle]
+pub extern "C" fn sleet_desk_state(desk: Desk, serial: u32) -> Answer
+    ensures { λ r. ⌜ r ≡ stateAnswer (stateOf desk (serialOf serial)) ⌝ }
+{
+    numbers::of_state(desk.state(Serial(serial)))
+}
+
+#[no_mangle]
+pub extern "C" fn sleet_gate_new() -> Gate
+    ensures { λ r. ⌜ r ≡ newGate ⌝ }
+{
+    Gate::new()
+}
+
+#[no_mangle]
+pub extern "C" fn sleet_gate_replace(gate: Gate, set: &[u8], table: &mut [u16]) -> GateReply
+    ensures { λ r. ⌜ (r .gate ≡ changeOf gate (now (set .entry)) (length (now (table .entry))) .gate) × (r .answer ≡ replaceAnswer (changeOf gate (now (set .entry)) (length (now (table .entry))) .answer)) × (now (table .exit) ≡ replacedRun (gate .desk) (now (set .entry)) (now (table .entry))) ⌝ }
+{
+    let r = gate.replace(set, table);
+    let after = r.gate;
+    let said = r.answer;
+    let answer = numbers::of_replace(said);
+    GateReply {
+        gate: after,
+        answer,
+    }
+}
+
+#[no_mangle]
+pub extern "C" fn sleet_gate_begin(gate: Gate) -> GateReply
+    ensures { λ r. ⌜ (r .gate ≡ beginOf gate .gate) × (r .answer ≡ openAnswer (beginOf gate .answer)) ⌝ }
+{
+    let r = gate.begin();
+    let after = r.gate;
+    let said = r.answer;
+    let answer = numbers::of_open(said);
+    GateReply {
+        gate: after,
+        answer,
+    }
+}
+
+#[no_mangle]
+pub extern "C" fn sleet_gate_piece(
+    gate: Gate,
+    serial: u32,
+    table: &[u16],
+    piece: &[u8],
+) -> GateReply
+    ensures { λ r. ⌜ (r .gate ≡ pieceOf gate (serialOf serial) (now (table .entry)) (now (piece .entry)) .gate) × (r .answer ≡ pieceAnswer (pieceOf gate (serialOf serial) (now (table .entry)) (now (piece .entry)) .answer)) ⌝ }
+{
+    let r = gate.piece(Serial(serial), table, piece);
+    let after = r.gate;
+    let said = r.answer;
+    let answer = numbers::of_piece(said);
+    GateReply {
+        gate: after,
+        answer,
+    }
+}
+
+#[no_mangle]
+pub extern "C" fn sleet_gate_decide(gate: Gate, serial: u32) -> GateReply
+    ensures { λ r. ⌜ (r .gate ≡ decideOf gate (serialOf serial) .gate) × (r .answer ≡ verdictAnswer (decideOf gate (serialOf serial) .answer)) ⌝ }
+{
+    let r = gate.decide(Serial(serial));
+    let after = r.gate;
+    let said = r.answer;
+    let answer = numbers::of_verdict(said);
+    GateReply {
+        gate: after,
+        answer,
+    }
+}
+
+#[no_mangle]
 pub extern "C" fn sleet_slots_needed(set: &[u8]) -> Answer
     ensures { λ r. ⌜ r ≡ neededAnswer (neededOf (now (set .entry))) ⌝ }
 {
-    answers::of_needed(tables::slots_needed(set))
+    numbers::of_needed(tables::slots_needed(set))
 }
 
 #[no_mangle]
 pub extern "C" fn sleet_build_split(set: &[u8], table: &mut [u16]) -> Answer
     ensures { λ r. ⌜ (r ≡ builtAnswer (builtOf 1 8 (now (set .entry)) (length (now (table .entry))))) × (now (table .exit) ≡ tableOf 1 8 (now (set .entry)) (now (table .entry))) ⌝ }
 {
-    answers::of_built(tables::build_split(set, table))
+    numbers::of_built(tables::build_split(set, table))
 }
 
 #[no_mangle]
 pub extern "C" fn sleet_build_whole(set: &[u8], table: &mut [u16]) -> Answer
     ensures { λ r. ⌜ (r ≡ builtAnswer (builtOf 8 1 (now (set .entry)) (length (now (table .entry))))) × (now (table .exit) ≡ tableOf 8 1 (now (set .entry)) (now (table .entry))) ⌝ }
 {
-    answers::of_built(tables::build_whole(set, table))
+    numbers::of_built(tables::build_whole(set, table))
 }
 
 #[no_mangle]
@@ -168,7 +259,7 @@ pub extern "C" fn sleet_read_split(
     let r = reading::read_split(table, start, count, piece, list);
     let after = r.place;
     let ending = r.ending;
-    let answer = answers::of_read(r.taken, r.records, ending);
+    let answer = numbers::of_read(r.taken, r.records, ending);
     SplitReply {
         answer,
         place: after,
@@ -187,7 +278,7 @@ pub extern "C" fn sleet_read_whole(
 {
     let r = reading::read_whole(table, place, count, piece, list);
     let ending = r.ending;
-    let answer = answers::of_read(r.taken, r.records, ending);
+    let answer = numbers::of_read(r.taken, r.records, ending);
     WholeReply {
         answer,
         place: r.place,

@@ -67,14 +67,16 @@ module _ (n k : ℕ) (set run : List ℕ) (ts : List Word) (b : AsBuilt n k set 
   abbrev table : List ℕ
   table = tableOf n k set run
 
-  -- EACH READING, after any input, is as the demand has it
+  -- EACH READING, after any input, is as the demand has it, its new place too
   pub each-reading : (v piece : Word) (list : ℕ) → Below 256 v → Below 256 piece
-      → DemandedRead ts v piece list (readOf n k table (placeAfter n ts 0 k v) (length v) piece list)
-  each-reading v piece list hv hp = subst (DemandedRead ts v piece list) (sym (read-is n k set run ts b v piece list hv hp)) (go (ltb 4294967295 (length v + length piece)) refl)
+      → DemandedRead n k ts v piece list (readOf n k table (placeAfter n ts 0 k v) (length v) piece list)
+  each-reading v piece list hv hp = subst (DemandedRead n k ts v piece list) (sym (read-is n k set run ts b v piece list hv hp)) (go (ltb 4294967295 (length v + length piece)) refl)
     where
-      go : (long : Bool) → ltb 4294967295 (length v + length piece) ≡ long → DemandedRead ts v piece list (readBy (expected n k ts v (length v) (list / 2) piece) true long)
+      go : (long : Bool) → ltb 4294967295 (length v + length piece) ≡ long → DemandedRead n k ts v piece list (readBy (expected n k ts v (length v) (list / 2) piece) true long)
       go true e = isLong (ltb-true _ _ e)
-      go false e = isRead (ltb-false _ _ e) _ (done-demanded n k ts v piece (list / 2) _ (expected-done n k ts piece v (length v) (list / 2)))
+      go false e =
+          let d = expected-done n k ts piece v (length v) (list / 2) in
+          isRead (ltb-false _ _ e) _ (done-demanded n k ts v piece (list / 2) _ d) (d .place)
 
   -- WHAT ONE READING FINDS: after the input v, counted from the opening, it writes the record (e, i) exactly if byte e is one that it takes, i is a
   -- tag, and that tag's bytes end the first e bytes

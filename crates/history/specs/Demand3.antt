@@ -7,6 +7,7 @@ use mathlib.Core.Path.{_∙_, _≡_, ap, subst, sym}
 use lib.ListN.{length}
 use Rattle.desk.specs.Reached.{Reached}
 use Rattle.desk.specs.Rooms.{roomOf, serialOf, ticketIn}
+use Rattle.desk.specs.State.{stateOf}
 use Rattle.desk.specs.declared.Desk.{Desk}
 use Rattle.desk.specs.declared.Serial.{Serial}
 use Rattle.history.specs.History.{Act, AllBytes, OpenOrStale, World, accountAt, recordsDue, recordsFor, run, start, stream}
@@ -18,7 +19,7 @@ use Rattle.history.specs.Laws.LedgerSteps.{Sound, sound}
 use Rattle.history.specs.Laws.ServingAll.{served}
 use Rattle.history.specs.Laws.States.{known-or-not, records-same, states-same}
 use Rattle.history.specs.Laws.Steps.{inv}
-use Rattle.history.specs.Served.{NoneRefused, joined, serving, stateOf}
+use Rattle.history.specs.Served.{NoneRefused, joined, serving}
 use Rattle.matching.specs.Words.{Word}
 
 -- the serials that openings answered are 1, 2, .. in order, so none was given twice; the edition in force is the number of replacements
@@ -71,7 +72,7 @@ pub counted : (acts : List Act) → AllBytes acts → Counted (run start acts)
 counted acts b = counted-in (run start acts) (sound acts b .inv)
 
 -- two worlds in which every ticket has had the same: the same edition, bytes (and so their count) and closing, the same records in the
--- same order, and the same state on the desk; and in both the desk counts those bytes
+-- same order, and the same state on the desk, with its numbers; and in both the desk counts those bytes
 pub record SameTickets (w v : World) : Type 0 where
   pub accounts : v .accounts ≡ w .accounts
   pub counts : Counted w × Counted v

@@ -1,12 +1,13 @@
--- Over every table, ours or not, and every history of calls with feeds lent any tables: in which order records are written and handed out, and
--- which serials are NO TICKET.
+-- Over every table, ours or not, and every history of calls with feeds lent any tables: in which order records are written and handed out,
+-- which serials are NO TICKET, and which the desk tells as never given and as closed.
 use Rattle.desk.specs.declared.FeedAnswer.the-variants as F
 use Rattle.desk.specs.declared.CloseAnswer.the-variants as C
-use Prim.Native.Nat.{_+_, _-_, _/_, _≤_, ℕ}
-use mathlib.Core.List.{List, List·Memᴰ, Memᴰ·append-right, [], _++_, _∷_, append-nil}
-use mathlib.Core.Logic.{_↔_, inl, inr}
-use mathlib.Core.Path.{_∙_, _≡_, refl, subst, sym}
-use native.Mathlib.Decide.{decLe}
+use Rattle.desk.specs.declared.StateAnswer.the-variants as A
+use Prim.Native.Nat.{_+_, _-_, _/_, _<_, _≤_, suc, zero, ℕ}
+use mathlib.Core.List.{List, List·Memᴰ, List·Memᴰ·cases-cons, List·Memᴰ·head, List·Memᴰ·not-nil, List·Memᴰ·tail, Memᴰ·append-right, [], _++_, _∷_, append-nil}
+use mathlib.Core.Logic.{_↔_, _⊎_, inl, inr}
+use mathlib.Core.Path.{_∙_, _≡_, ap, refl, subst, sym}
+use native.Mathlib.Decide.{decLe, ℕ-discrete}
 use native.Mathlib.Omega.{arith}
 use lib.ListN.{length}
 use Rattle.desk.specs.Calls.{closeOf, takeOf}
@@ -18,22 +19,25 @@ use Rattle.desk.specs.Laws.Views.{Closes, close-done, close-no-ticket, closes}
 use Rattle.desk.specs.Laws.Views.{Feeds, feed-long, feed-no-place, feed-no-ticket, feed-other-slots, feed-read, feed-stale, feeds}
 use Rattle.desk.specs.Laws.Views.{Opens, open-done, open-no-room, open-no-set, open-serial-end, opens}
 use Rattle.desk.specs.Laws.Views.{Replaces, replace-done, replace-edition-end, replace-fault, replace-table, replaces}
+use Rattle.desk.specs.Laws.Views.{States, state-closed, state-never, state-open, state-stale, states}
 use Rattle.desk.specs.Laws.Views.{Takes, take-nothing, take-oldest, takes}
 use Rattle.desk.specs.Reached.{Call, Reached, afterCall, callClose, callFeed, callOpen, callReplace, callTake}
-use Rattle.desk.specs.Rooms.{roomOf, ticketIn}
+use Rattle.desk.specs.Rooms.{roomOf, serialOf, ticketIn}
 use Rattle.desk.specs.Shared.{held, recordsOf}
+use Rattle.desk.specs.State.{stateOf}
 use Rattle.desk.specs.declared.Closing.{Closing}
 use Rattle.desk.specs.declared.Desk.{Desk}
 use Rattle.desk.specs.declared.Feeding.{Feeding}
 use Rattle.desk.specs.declared.Opening.{Opening}
 use Rattle.desk.specs.declared.Replacing.{Replacing}
 use Rattle.desk.specs.declared.Serial.{Serial}
+use Rattle.desk.specs.declared.StateAnswer.{StateAnswer}
 use Rattle.desk.specs.declared.Taking.{Taking}
 use Rattle.desk.specs.declared.Ticket.{Ticket}
 use Rattle.history.specs.History.{handedOut}
 use Rattle.history.specs.Laws.ByRoom.{close-by-room, feed-by-room, no-room-close, no-room-feed}
 use Rattle.history.specs.Laws.Given.{Given, given-all, given-run}
-use Rattle.history.specs.Laws.Numbers.{differ}
+use Rattle.history.specs.Laws.Numbers.{differ, lower}
 use Rattle.history.specs.Laws.Ordered.{found-ordered}
 use Rattle.history.specs.Serials.{NeverOrClosed, Serials, closedBy, downFrom, noSerials, serialsAfter, serialsOf}
 use Rattle.matching.specs.Laws.AnyTable.{read-kept}
@@ -97,6 +101,59 @@ closed-for-ever calls more s m table piece =
     let x = serialsOf (serialsOf noSerials calls) more in
     let h = no-room-iff x (given-run (serialsOf noSerials calls) (given-all calls) more) s .1 (inr (still-closed more (serialsOf noSerials calls) s m)) in
     (no-room-feed (x .desk) s table piece h, no-room-close (x .desk) s h)
+
+-- ---- which serials are told as never given, and which as closed
+
+-- 1 to n, and no others
+down-has : (n : ℕ) (s : Serial) → (s .0 ≡ 0 → ⊥) → s .0 ≤ n → List·Memᴰ s (downFrom n)
+unfolding downFrom
+down-has zero s p h = absurd (p (omega arith))
+down-has (suc n) s p h = go (ℕ-discrete (s .0) (suc n)) (down-has n s p)
+  where
+    go : Dec (s .0 ≡ suc n) → (s .0 ≤ n → List·Memᴰ s (downFrom n)) → List·Memᴰ s (serialOf (suc n) ∷ downFrom n)
+    go (yes e) ih = List·Memᴰ·head (λ d. record { 0 = e d })
+    go (no q) ih = List·Memᴰ·tail (ih (omega (arith, h, lower (s .0) (suc n) h q)))
+
+down-some : (n : ℕ) (s : Serial) → List·Memᴰ s (downFrom n) → s .0 ≡ 0 → ⊥
+unfolding downFrom
+down-some zero s m e = List·Memᴰ·not-nil m
+down-some (suc n) s m e = go (List·Memᴰ·cases-cons m) (down-some n s)
+  where
+    go : (s ≡ serialOf (suc n)) ⊎ List·Memᴰ s (downFrom n) → (List·Memᴰ s (downFrom n) → s .0 ≡ 0 → ⊥) → ⊥
+    go (inl q) ih = omega (arith, e, ap (λ (x : Serial). x .0) q)
+    go (inr q) ih = ih q e
+
+-- never given exactly if no opening answered it, and closed exactly if a closing accepted it
+pub record StateIff (x : Serials) (s : Serial) : Type 0 where
+  pub never : (stateOf (x .desk) s ≡ A.Never) ↔ (List·Memᴰ s (x .given) → ⊥)
+  pub closed : (stateOf (x .desk) s ≡ A.Closed) ↔ List·Memᴰ s (x .closed)
+
+-- NEVER GIVEN, AND CLOSED, exactly, after every history of calls; any other serial is told as stale or open
+pub state-iff : (calls : List Call) (s : Serial) → StateIff (serialsOf noSerials calls) s
+state-iff calls s = go _ (states (x .desk) s) refl
+  where
+    x : Serials
+    x = serialsOf noSerials calls
+
+    g : Given x
+    g = given-all calls
+
+    has : (s .0 ≡ 0 → ⊥) → s .0 ≤ x .desk .serial .0 → List·Memᴰ s (x .given)
+    has p h = subst (λ (l : List Serial). List·Memᴰ s l) (sym (g .numbers)) (down-has (x .desk .serial .0) s p h)
+
+    none : (s .0 ≡ 0) ⊎ (x .desk .serial .0 < s .0) → List·Memᴰ s (x .given) → ⊥
+    none (inl e) m = down-some (x .desk .serial .0) s (subst (λ (l : List Serial). List·Memᴰ s l) (g .numbers) m) e
+    none (inr h) m = omega (arith, h, g .upto s m)
+
+    gone : NeverOrClosed x s → List·Memᴰ s (x .given) → List·Memᴰ s (x .closed)
+    gone (inl f) m = absurd (f m)
+    gone (inr c) m = c
+
+    go : (a : StateAnswer) → States (x .desk) s a → stateOf (x .desk) s ≡ a → StateIff x s
+    go a (state-never h n) q = record { never = (λ e. none n, λ e. q); closed = (λ e. differ cc, λ c. absurd (none n (g .closed s c))) }
+    go a (state-closed h p u) q = record { never = (λ e. differ cc, λ f. absurd (f (has p u))); closed = (λ e. gone (g .has-not s h) (has p u), λ c. q) }
+    go a (state-stale t k h n) q = record { never = (λ e. differ cc, λ f. absurd (f (g .has s h .0))); closed = (λ e. differ cc, λ c. absurd (g .has s h .1 c)) }
+    go a (state-open t k h n) q = record { never = (λ e. differ cc, λ f. absurd (f (g .has s h .0))); closed = (λ e. differ cc, λ c. absurd (g .has s h .1 c)) }
 
 -- ---- in which order records are written and handed out
 

@@ -1,41 +1,41 @@
 -- Once the list is empty, a nonempty piece on a live ticket, not LONG and over the table as replacement left it, advances.
 use Rattle.desk.specs.declared.FeedAnswer.the-variants as F
+use Rattle.desk.specs.declared.StateAnswer.the-variants as A
 use Prim.Native.Nat.{_-_, _<_, ℕ}
-use mathlib.Core.Bool.{Bool, false, true}
 use mathlib.Core.List.{List, _∷_}
-use mathlib.Core.Path.{_≡_, ap, refl}
+use mathlib.Core.Path.{_∙_, _≡_, ap, refl, sym}
 use native.Mathlib.Omega.{arith}
-use lib.Dec.{eqb, ltb}
 use lib.ListN.{length}
-use borrow.Author.Tests.{eqb-true, ltb-true}
 use Rattle.desk.specs.Feed.{feedOf, takenBy}
 use Rattle.desk.specs.Laws.Good.{good, on-place}
 use Rattle.desk.specs.Laws.Views.{Feeds, feed-long, feed-no-place, feed-no-ticket, feed-other-slots, feed-read, feed-stale, feeds}
+use Rattle.desk.specs.Laws.Views.{States, state-closed, state-never, state-open, state-stale, states}
 use Rattle.desk.specs.Rooms.{roomOf, ticketIn}
+use Rattle.desk.specs.State.{stateOf}
 use Rattle.desk.specs.declared.Desk.{Desk}
+use Rattle.desk.specs.declared.Edition.{Edition}
 use Rattle.desk.specs.declared.Feeding.{Feeding}
 use Rattle.desk.specs.declared.Serial.{Serial}
+use Rattle.desk.specs.declared.StateAnswer.{StateAnswer}
+use Rattle.desk.specs.declared.Ticket.{Ticket}
 use Rattle.history.specs.History.{Act, AllBytes, World, accountAt, run, start}
 use Rattle.history.specs.Laws.Feeding.{force, read-due}
 use Rattle.history.specs.Laws.Invariant.{Inv, given}
 use Rattle.history.specs.Laws.LedgerSteps.{sound}
 use Rattle.history.specs.Laws.Numbers.{differ}
-use Rattle.history.specs.Served.{isOpen, stateBy, stateOf, wasGiven}
 use Rattle.matching.specs.Laws.Expected.{expected-advances}
 use Rattle.matching.specs.Words.{Below, Word}
 
 -- a ticket that the desk shows as open has a room and is of the edition in force
-open-has : (d : Desk) (s : Serial) → stateOf d s ≡ isOpen
+open-has : (d : Desk) (s : Serial) (e : Edition) (n : ℕ) → stateOf d s ≡ A.Open e n
     → (roomOf (d .tickets) s < 16) × (ticketIn (d .tickets) (roomOf (d .tickets) s) .edition .0 ≡ d .edition .0)
-unfolding stateOf
-open-has d s e = go (wasGiven d s) (ltb (roomOf (d .tickets) s) 16) refl (eqb (ticketIn (d .tickets) (roomOf (d .tickets) s) .edition .0) (d .edition .0)) refl e
+open-has d s e n = go _ (states d s)
   where
-    go : (a b : Bool) → ltb (roomOf (d .tickets) s) 16 ≡ b → (c : Bool) → eqb (ticketIn (d .tickets) (roomOf (d .tickets) s) .edition .0) (d .edition .0) ≡ c → stateBy a b c ≡ isOpen
-        → (roomOf (d .tickets) s < 16) × (ticketIn (d .tickets) (roomOf (d .tickets) s) .edition .0 ≡ d .edition .0)
-    go true true p true q z = (ltb-true _ _ p, eqb-true _ _ q)
-    go true true p false q z = differ cc
-    go true false p c q z = differ cc
-    go false b p c q z = differ cc
+    go : (a : StateAnswer) → States d s a → a ≡ A.Open e n → (roomOf (d .tickets) s < 16) × (ticketIn (d .tickets) (roomOf (d .tickets) s) .edition .0 ≡ d .edition .0)
+    go a (state-never h x) z = differ cc
+    go a (state-closed h x y) z = differ cc
+    go a (state-stale t q h x) z = differ cc
+    go a (state-open t q h x) z = (h, ap (λ (y : Ticket). y .edition .0) (sym q) ∙ x)
 
 -- no byte has more than 16 matches, and an empty list has room for 256
 pub takes-a-byte : (acts : List Act) → AllBytes acts → (s : Serial) → roomOf (run start acts .desk .tickets) s < 16
@@ -67,7 +67,7 @@ takes-a-byte acts b s room current empty c piece bytes not-long = go _ (feeds d 
         (expected-advances 1 8 (a .tags) c piece (a .bytes) (length (a .bytes)) (256 - d .records .count) (omega (arith, v .kept (g .0) (g .1) .lawful .few, empty)))
 
 -- PROGRESS
-pub progress : (acts : List Act) → AllBytes acts → (s : Serial) → stateOf (run start acts .desk) s ≡ isOpen → run start acts .desk .records .count ≡ 0
+pub progress : (acts : List Act) → AllBytes acts → (s : Serial) (e : Edition) (n : ℕ) → stateOf (run start acts .desk) s ≡ A.Open e n → run start acts .desk .records .count ≡ 0
     → (c : ℕ) (piece : Word) → Below 256 (c ∷ piece) → (feedOf (run start acts .desk) s (run start acts .table) (c ∷ piece) .answer ≡ F.Long → ⊥)
     → 0 < takenBy (feedOf (run start acts .desk) s (run start acts .table) (c ∷ piece) .answer)
-progress acts b s is-open = let have = open-has (run start acts .desk) s is-open in takes-a-byte acts b s (have .0) (have .1)
+progress acts b s e n is-open = let have = open-has (run start acts .desk) s e n is-open in takes-a-byte acts b s (have .0) (have .1)

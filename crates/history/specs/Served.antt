@@ -3,17 +3,15 @@
 use Rattle.matching.specs.declared.Stop.the-variants as S
 use Rattle.desk.specs.declared.FeedAnswer.the-variants as F
 use Prim.Native.Nat.{_+_, _-_, suc, zero, ℕ}
-use mathlib.Core.Bool.{Bool, _&&_, false, true}
+use mathlib.Core.Bool.{Bool, false, true}
 use mathlib.Core.List.{List, [], _++_, _∷_}
 use mathlib.Core.Path.{_≡_}
-use lib.Dec.{eqb, leb, ltb}
 use lib.ListN.{drop, length, replicate, take}
 use Rattle.desk.specs.Calls.{closeOf, openOf, takeOf}
 use Rattle.desk.specs.Feed.{feedOf}
 use Rattle.desk.specs.Numbers.{closeNumber, feedNumber, openNumber, replaceNumber, takeNumber}
 use Rattle.desk.specs.Replace.{replaceOf}
-use Rattle.desk.specs.Rooms.{roomOf, serialOf, ticketIn}
-use Rattle.desk.specs.declared.Desk.{Desk}
+use Rattle.desk.specs.Rooms.{serialOf}
 use Rattle.desk.specs.declared.FeedAnswer.{FeedAnswer}
 use Rattle.desk.specs.declared.Serial.{Serial}
 use Rattle.history.specs.History.{Account, Act, Order, World, actClose, actFeed, actOpen, actReplace, actTake, run, start, step}
@@ -94,25 +92,3 @@ accepts w actTake = takeNumber (takeOf (w .desk) .answer) ≡ 0
 unfoldable pub NoneRefused : World → List Act → Type 0
 NoneRefused w [] = Unit {0}
 NoneRefused w (a ∷ acts) = accepts w a × NoneRefused (step w a) acts
-
--- what a desk shows of a serial
-pub data TicketState : Type 0 where
-  neverGiven : TicketState
-  isClosed : TicketState
-  isStale : TicketState
-  isOpen : TicketState
-
--- by whether it was given, whether it has a room, and whether its ticket is of the edition in force
-abbrev pub stateBy : Bool → Bool → Bool → TicketState
-stateBy false room current = neverGiven
-stateBy true false current = isClosed
-stateBy true true false = isStale
-stateBy true true true = isOpen
-
-abbrev pub wasGiven : Desk → Serial → Bool
-wasGiven d s = ltb 0 (s .0) && leb (s .0) (d .serial .0)
-
-unfoldable pub stateOf : Desk → Serial → TicketState
-stateOf d s =
-    stateBy (wasGiven d s) (ltb (roomOf (d .tickets) s) 16)
-    (eqb (ticketIn (d .tickets) (roomOf (d .tickets) s) .edition .0) (d .edition .0))

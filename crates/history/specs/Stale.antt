@@ -2,6 +2,7 @@
 use Rattle.desk.specs.declared.FeedAnswer.the-variants as F
 use Rattle.desk.specs.declared.CloseAnswer.the-variants as C
 use Rattle.desk.specs.declared.ReplaceAnswer.the-variants as R
+use Rattle.desk.specs.declared.StateAnswer.the-variants as A
 use Prim.Native.Nat.{_+_, _<_, suc, ℕ}
 use mathlib.Core.Bool.{Bool, false, not, true}
 use mathlib.Core.List.{List}
@@ -18,6 +19,7 @@ use Rattle.desk.specs.Laws.Views.{Feeds, feed-long, feed-no-place, feed-no-tick
 use Rattle.desk.specs.Laws.Views.{Replaces, replace-done, replace-edition-end, replace-fault, replace-table, replaces}
 use Rattle.desk.specs.Replace.{replaceOf}
 use Rattle.desk.specs.Rooms.{editionOf, roomOf, serialOf, ticketIn}
+use Rattle.desk.specs.State.{stateBy, stateOf}
 use Rattle.desk.specs.declared.Closing.{Closing}
 use Rattle.desk.specs.declared.Edition.{Edition}
 use Rattle.desk.specs.declared.Feeding.{Feeding}
@@ -33,16 +35,15 @@ use Rattle.history.specs.Laws.Numbers.{differ}
 use Rattle.history.specs.Laws.Seats.{Agrees}
 use Rattle.history.specs.Laws.States.{state-is, stateOfAccount}
 use Rattle.history.specs.Laws.Steps.{inv-step}
-use Rattle.history.specs.Served.{isClosed, isStale, stateBy, stateOf}
 use Rattle.matching.specs.Laws.Bools.{is-false}
 use Rattle.matching.specs.Laws.Words.{eqb-eq}
 use Rattle.matching.specs.Words.{Below, Word}
 
--- what the desk says of a ticket that is older than the set: it is stale, or closed if it was closed; a feed is refused, over every table; and
+-- what the desk says of a ticket that is older than the set: it is stale with its edition and its bytes taken, or closed if it was closed; a feed is refused, over every table; and
 -- while it is stale it can be closed
 pub record Older (w : World) (a : Account) : Type 0 where
-  pub stale-state : a .closed ≡ false → stateOf (w .desk) (serialOf (a .serial)) ≡ isStale
-  pub closed-state : a .closed ≡ true → stateOf (w .desk) (serialOf (a .serial)) ≡ isClosed
+  pub stale-state : a .closed ≡ false → stateOf (w .desk) (serialOf (a .serial)) ≡ A.Stale (editionOf (a .edition)) (length (a .bytes))
+  pub closed-state : a .closed ≡ true → stateOf (w .desk) (serialOf (a .serial)) ≡ A.Closed
   pub stale-feed : a .closed ≡ false → (table : List ℕ) (piece : Word)
       → feedOf (w .desk) (serialOf (a .serial)) table piece ≡ record { desk = w .desk; answer = F.Stale (editionOf (a .edition)) }
   pub closed-feed : a .closed ≡ true → (table : List ℕ) (piece : Word) → feedOf (w .desk) (serialOf (a .serial)) table piece ≡ record { desk = w .desk; answer = F.NoTicket }
@@ -90,8 +91,8 @@ module _ (w : World) (v : Inv w) (k : ℕ) (hk : k < length (w .accounts)) where
 
   older-is : a .edition < w .edition → Older w a
   older-is old = record {
-    stale-state = λ c. shown ∙ ap₂ (λ (b x : Bool). stateBy true (not b) x) c other;
-    closed-state = λ c. shown ∙ ap (λ (b : Bool). stateBy true (not b) (eqb (a .edition) (w .edition))) c;
+    stale-state = λ c. shown ∙ ap₂ (λ (b x : Bool). stateBy (editionOf (a .edition)) (length (a .bytes)) (not b) x true) c other;
+    closed-state = λ c. shown ∙ ap (λ (b : Bool). stateBy (editionOf (a .edition)) (length (a .bytes)) (not b) (eqb (a .edition) (w .edition)) true) c;
     stale-feed = λ c. stale-feed-is c old;
     closed-feed = closed-feed-is;
     stale-close = open-close-is;

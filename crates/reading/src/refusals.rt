@@ -2,10 +2,11 @@
 use crate::ReadRefusal;
 ghost use mathlib.Core.Path.{_≡_};
 ghost use Prim.Native.Nat.{_+_};
-ghost use mathlib.Core.Bool.{not};
+ghost use mathlib.Core.List.{[], _∷_};
 ghost use lib.Dec.{ltb};
-ghost use Rattle.reading.specs.declared.ReadRefusal.the-variants.{Place, Long};
-ghost use Rattle.reading.specs.Refusals.{firstOf};
+ghost use Rattle.matching.specs.Refusal.{firstOf, _if_};
+ghost use Rattle.reading.specs.Outside.{readNumber};
+ghost use Rattle.reading.specs.Refusals.{readGrounds, verdictNumber};
 
 pub enum Verdict {
     Refuse(ReadRefusal),
@@ -14,7 +15,7 @@ pub enum Verdict {
 
 // The first of two refusals whose condition holds.
 fn first_of(a: bool, x: ReadRefusal, b: bool, y: ReadRefusal) -> Verdict
-    ensures { λ r. ⌜ r ≡ firstOf a x b y ⌝ }
+    ensures { λ r. ⌜ verdictNumber r ≡ firstOf ((readNumber x if a) ∷ (readNumber y if b) ∷ []) ⌝ }
 {
     if a {
         return Verdict::Refuse(x);
@@ -27,7 +28,7 @@ fn first_of(a: bool, x: ReadRefusal, b: bool, y: ReadRefusal) -> Verdict
 
 // PLACE, then LONG.
 pub fn judge(sound: bool, long: bool) -> Verdict
-    ensures { λ r. ⌜ r ≡ firstOf (not sound) Place long Long ⌝ }
+    ensures { λ r. ⌜ verdictNumber r ≡ firstOf (readGrounds sound long) ⌝ }
 {
     first_of(!sound, ReadRefusal::Place, long, ReadRefusal::Long)
 }

@@ -7,7 +7,7 @@ use Rattle.tagset.specs.declared.SetFault.the-variants as D
 use Prim.Native.Nat.{_%_, _*_, ℕ}
 use mathlib.Core.List.{List, [], _++_, _∷_, map}
 use mathlib.Core.Path.{_≡_, refl}
-use lib.ListN.{getD}
+use lib.ListN.{getD, replicate}
 use Rattle.desk.specs.Calls.{closeOf, openOf, takeOf}
 use Rattle.desk.specs.Feed.{feedOf}
 use Rattle.desk.specs.Replace.{replaceOf, replacedRun}
@@ -21,9 +21,11 @@ use Rattle.matching.specs.Slicing.{anded, reduced, slice}
 use Rattle.matching.specs.Stepping.{readBy, stepped}
 use Rattle.matching.specs.Table.{built, laid, roomFrom, slot, slots, spot, tagsFor}
 use Rattle.matching.specs.Words.{among, ends, indexOf, same}
-use Rattle.samples.specs.Sets.{a-record, acts-254, acts-255, acts-closed, acts-half, acts-open, asSet, at, ers, hishers, hx, later, long, one-two, singles, split, startPlace, tags, two, ush, ushers}
+use Rattle.samples.specs.Sets.{a-record, acts-254, acts-255, acts-closed, acts-half, acts-open, asSet, at, ers, he-set, hishers, hx, later, long, one-two, singles, split, startPlace, tags, two, ush, ushers}
 use Rattle.tables.specs.Building.{builtOf, tableOf}
+use Rattle.tagset.specs.Answer.{along, cutAt, setRead, tagsLie}
 use Rattle.tagset.specs.Grammar.{distinct, entriesFrom, entryOf, goodSet, badSet, setOf}
+use Rattle.tagset.specs.declared.Verdict.the-variants.{Good}
 
 -- after "hx" each bit machine is in a state: that state's vector, as the table has it, for machines 0 to 7
 abbrev pub vectorsAfter-hx : List ℕ
@@ -31,8 +33,13 @@ vectorsAfter-hx = vectorsAt 1 10 (split 10 tags) 0 (read 1 10 (split 10 tags) st
 
 -- of the machines and of reading
 pub record OfReading : Type 0 where
-  -- the tag "he" as a set
-  pub example : asSet ((104 ∷ 101 ∷ []) ∷ []) ≡ 2 ∷ 0 ∷ 1 ∷ 0 ∷ 104 ∷ 101 ∷ []
+  -- the document's six bytes, 02 00 01 00 68 65, are the set of the one tag "he"; reading them answers one tag, from byte 4 up to byte 6, and that
+  -- part of them is "he"
+  pub example : setOf he-set ≡ goodSet ((104 ∷ 101 ∷ []) ∷ [])
+  pub example-read : setRead (setOf he-set) ≡ record { verdict = Good; tags = record { count = 1; from = 4 ∷ replicate 15 0; to = 6 ∷ replicate 15 0 } }
+  pub example-tag : getD (cutAt he-set (4 ∷ replicate 15 0) (6 ∷ replicate 15 0)) 0 [] ≡ 104 ∷ 101 ∷ []
+  -- the sets of the samples below are made alike
+  pub example-made : asSet ((104 ∷ 101 ∷ []) ∷ []) ≡ he-set
   -- 1: the whole-byte machine has 10 states, and "hxhe" goes 0, 1, 0, 1, 2
   pub sample-1-states : states tags ≡ 10
   pub sample-1-walk : map (walk (prefixes tags) 0) ([] ∷ (104 ∷ []) ∷ hx ∷ (104 ∷ 120 ∷ 104 ∷ []) ∷ (104 ∷ 120 ∷ 104 ∷ 101 ∷ []) ∷ [])
@@ -102,10 +109,13 @@ pub record Samples : Type 0 where
 pub samples : Samples
 unfolding asSet singles same among ends indexOf withWord withPrefixes withTags prefixes states longest next walk vectorBy vector slice reduced anded
     spot laid slot slots built roomFrom numbersWhere tagsEnding occurAt occurrencesBy nexts vectorsAt onesOf flagged allBelow halted tookByte stepped readBy tableStep read
-    entryOf entriesFrom distinct setOf builtOf tableOf firstRoom pushAll openOf closeOf takeOf replaceOf replacedRun feedOf onSerial run round
+    entryOf entriesFrom distinct setOf along tagsLie setRead cutAt builtOf tableOf firstRoom pushAll openOf closeOf takeOf replaceOf replacedRun feedOf onSerial run round
 samples = record {
   of-reading = record {
     example = refl;
+    example-read = refl;
+    example-tag = refl;
+    example-made = refl;
     sample-1-states = refl;
     sample-1-walk = refl;
     sample-2 = refl;

@@ -2,6 +2,7 @@
 use Prim.Native.Nat.{ℕ, zero, suc, _+_, _≤_, _<_}
 use mathlib.Core.Bool.{Bool, true, false, _||_, cond}
 use mathlib.Core.List.{List, [], _∷_}
+use mathlib.Core.Path.{_≡_}
 use lib.Dec.{eqb, leb, ltb}
 use lib.ListN.{length, take, getD}
 use Rattle.matching.specs.Words.{same}
@@ -31,6 +32,7 @@ pub data CallOf : Type 0 where
   callOpen : CallOf
   callFeed : ℕ → List ℕ → CallOf
   callClose : ℕ → CallOf
+  callState : ℕ → CallOf
   callTake : CallOf
   callShow : CallOf
   callBuild : Layout → CallOf
@@ -53,6 +55,7 @@ meant place bytes C.Replace = callReplace
 meant place bytes C.Open = callOpen
 meant place bytes (C.Feed serial n) = callFeed serial (take n bytes)
 meant place bytes (C.Close serial) = callClose serial
+meant place bytes (C.State serial) = callState serial
 meant place bytes C.Take = callTake
 meant place bytes C.Show = callShow
 meant place bytes (C.Build layout) = callBuild layout
@@ -70,6 +73,7 @@ Bounded C.Replace = Unit {0}
 Bounded C.Open = Unit {0}
 Bounded (C.Feed serial n) = n ≤ 20000
 Bounded (C.Close serial) = Unit {0}
+Bounded (C.State serial) = Unit {0}
 Bounded C.Take = Unit {0}
 Bounded C.Show = Unit {0}
 Bounded (C.Build layout) = Unit {0}
@@ -119,6 +123,10 @@ abbrev pub closeBy : Number → CallOf
 closeBy (Is serial) = callClose serial
 closeBy NoNumber = notACall
 
+abbrev pub stateBy : Number → CallOf
+stateBy (Is serial) = callState serial
+stateBy NoNumber = notACall
+
 abbrev pub buildBy : Layouts → CallOf
 buildBy (Named layout) = callBuild layout
 buildBy Unnamed = notACall
@@ -167,12 +175,17 @@ nameOf word =
     (cond (same word (111 ∷ 112 ∷ 101 ∷ 110 ∷ [])) N.Open
     (cond (same word (102 ∷ 101 ∷ 101 ∷ 100 ∷ [])) N.Feed
     (cond (same word (99 ∷ 108 ∷ 111 ∷ 115 ∷ 101 ∷ [])) N.Close
+    (cond (same word (115 ∷ 116 ∷ 97 ∷ 116 ∷ 101 ∷ [])) N.State
     (cond (same word (116 ∷ 97 ∷ 107 ∷ 101 ∷ [])) N.Take
     (cond (same word (115 ∷ 104 ∷ 111 ∷ 119 ∷ [])) N.Show
     (cond (same word (98 ∷ 117 ∷ 105 ∷ 108 ∷ 100 ∷ [])) N.Build
     (cond (same word (114 ∷ 101 ∷ 97 ∷ 100 ∷ [])) N.Read
     (cond (same word (112 ∷ 111 ∷ 107 ∷ 101 ∷ [])) N.Poke
-    (cond (same word (112 ∷ 101 ∷ 101 ∷ 107 ∷ [])) N.Peek N.Other)))))))))))
+    (cond (same word (112 ∷ 101 ∷ 101 ∷ 107 ∷ [])) N.Peek N.Other))))))))))))
+
+-- one row of names: this name, where the word is the call's, and else another
+pub record Row (word call : List ℕ) (name other r : Name) : Type 0 where
+  pub is : r ≡ cond (same word call) name other
 
 -- a call that has nothing behind its name
 abbrev pub alone : Bool → CallOf → CallOf
@@ -187,6 +200,7 @@ callBy N.Replace whole words = alone whole callReplace
 callBy N.Open whole words = alone whole callOpen
 callBy N.Feed whole words = feedBy (numberOf 4294967295 (wordOf words)) (bytesOf (behind words))
 callBy N.Close whole words = closeBy (numberOf 4294967295 words)
+callBy N.State whole words = stateBy (numberOf 4294967295 words)
 callBy N.Take whole words = alone whole callTake
 callBy N.Show whole words = alone whole callShow
 callBy N.Build whole words = buildBy (layoutOf words)

@@ -29,7 +29,7 @@ ghost use Rattle.script.specs.Words.{behind as behind·of};
 ghost use Rattle.script.specs.Numbers.{numberOf};
 ghost use Rattle.script.specs.Bytes.{bytesOf};
 ghost use Rattle.script.specs.Sets.{setOf};
-ghost use Rattle.script.specs.Calls.{Bounded, callOf, callBy, meant, setBy, lendBy, feedBy, closeBy, buildBy, pokeBy, peekBy, layoutOf};
+ghost use Rattle.script.specs.Calls.{Bounded, callOf, callBy, meant, setBy, lendBy, feedBy, closeBy, stateBy, buildBy, pokeBy, peekBy, layoutOf};
 
 pub enum Layout {
     Split,
@@ -46,6 +46,7 @@ pub enum Call {
     Open,
     Feed(u32, usize),
     Close(u32),
+    State(u32),
     Take,
     Show,
     Build(Layout),
@@ -111,6 +112,7 @@ fn by_name(name: Name, whole: bool, words: &[u8], buffer: &mut [u8]) -> Line
         Name::Open => plain(alone(whole, Call::Open)),
         Name::Feed => plain(feed(words, buffer)),
         Name::Close => plain(close(words)),
+        Name::State => plain(state(words)),
         Name::Take => plain(alone(whole, Call::Take)),
         Name::Show => plain(alone(whole, Call::Show)),
         Name::Build => plain(build(words)),
@@ -173,6 +175,16 @@ fn close(words: &[u8]) -> Call
         return Call::NotACall;
     };
     Call::Close(serial)
+}
+
+fn state(words: &[u8]) -> Call
+    ensures { λ r. ⌜ ((place bytes : List ℕ) → meant place bytes r ≡ stateBy (numberOf 4294967295 (now (words .entry)))) ⌝ }
+    ensures { λ r. ⌜ Bounded r ⌝ }
+{
+    let Number::Is(serial) = number_of(words, LARGEST) else {
+        return Call::NotACall;
+    };
+    Call::State(serial)
 }
 
 fn build(words: &[u8]) -> Call

@@ -2,7 +2,7 @@
 use crate::Layout;
 use crate::words::same;
 ghost use mathlib.Core.Path.{_≡_};
-ghost use Rattle.script.specs.Calls.{nameOf, layoutOf};
+ghost use Rattle.script.specs.Calls.{nameOf, layoutOf, Row};
 
 pub enum Name {
     Set,
@@ -11,6 +11,7 @@ pub enum Name {
     Open,
     Feed,
     Close,
+    State,
     Take,
     Show,
     Build,
@@ -37,44 +38,31 @@ pub fn layout_of(word: &[u8]) -> Layouts
     Layouts::Unnamed
 }
 
+fn named(word: &[u8], call: &[u8], name: Name, other: Name) -> Name
+    ensures { λ r. ⌜ Row (now (word .entry)) (now (call .entry)) name other r ⌝ }
+{
+    if same(word, call) {
+        return name;
+    }
+    other
+}
+
+// A row for each call, the last first.
 pub fn name_of(word: &[u8]) -> Name
     ensures { λ r. ⌜ r ≡ nameOf (now (word .entry)) ⌝ }
 {
-    if same(word, b"set") {
-        return Name::Set;
-    }
-    if same(word, b"lend") {
-        return Name::Lend;
-    }
-    if same(word, b"replace") {
-        return Name::Replace;
-    }
-    if same(word, b"open") {
-        return Name::Open;
-    }
-    if same(word, b"feed") {
-        return Name::Feed;
-    }
-    if same(word, b"close") {
-        return Name::Close;
-    }
-    if same(word, b"take") {
-        return Name::Take;
-    }
-    if same(word, b"show") {
-        return Name::Show;
-    }
-    if same(word, b"build") {
-        return Name::Build;
-    }
-    if same(word, b"read") {
-        return Name::Read;
-    }
-    if same(word, b"poke") {
-        return Name::Poke;
-    }
-    if same(word, b"peek") {
-        return Name::Peek;
-    }
-    Name::Other
+    let n = Name::Other;
+    let n = named(word, b"peek", Name::Peek, n);
+    let n = named(word, b"poke", Name::Poke, n);
+    let n = named(word, b"read", Name::Read, n);
+    let n = named(word, b"build", Name::Build, n);
+    let n = named(word, b"show", Name::Show, n);
+    let n = named(word, b"take", Name::Take, n);
+    let n = named(word, b"state", Name::State, n);
+    let n = named(word, b"close", Name::Close, n);
+    let n = named(word, b"feed", Name::Feed, n);
+    let n = named(word, b"open", Name::Open, n);
+    let n = named(word, b"replace", Name::Replace, n);
+    let n = named(word, b"lend", Name::Lend, n);
+    named(word, b"set", Name::Set, n)
 }

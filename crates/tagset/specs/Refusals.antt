@@ -64,3 +64,12 @@ pub record Accepted (bytes : List ℕ) (ts : List Word) : Type 0 where
   pub some : 0 < length bytes
   pub passed : Passed bytes (length ts) ts []
   pub distinct : NoRepeats ts
+
+-- what a set is refused with, row by row as the document's table of refusals has it: the number, and what is returned with it
+pub data RefusedAs (bytes : List ℕ) : ℕ → List ℕ → Type 0 where
+  cutAs : {entry : ℕ} → Refused bytes (Cut entry) → RefusedAs bytes 1 (entry ∷ [])
+  manyAs : Refused bytes (Many 16) → RefusedAs bytes 2 (16 ∷ [])
+  kindAs : {entry : ℕ} → Refused bytes (Kind entry) → RefusedAs bytes 3 (entry ∷ [])
+  lengthAs : {entry : ℕ} → Refused bytes (Length entry) → RefusedAs bytes 4 (entry ∷ [])
+  emptyAs : Refused bytes Empty → RefusedAs bytes 5 (0 ∷ [])
+  repeatAs : {entry : ℕ} → Refused bytes (Repeat entry) → RefusedAs bytes 6 (entry ∷ [])

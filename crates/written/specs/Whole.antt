@@ -1,6 +1,7 @@
 -- An input of no more than 4,294,967,295 bytes is taken whole: only LONG ends the run before the input ends.
 use Rattle.desk.specs.declared.FeedAnswer.the-variants as F
 use Rattle.desk.specs.declared.ReplaceAnswer.the-variants as R
+use Rattle.desk.specs.declared.StateAnswer.the-variants as A
 use Prim.Native.Nat.{ℕ, _+_, _<_, _≤_}
 use mathlib.Core.List.{List, [], _∷_, _++_}
 use mathlib.Core.Path.{_≡_, _∙_, refl, ap}
@@ -14,6 +15,7 @@ use Rattle.desk.specs.Laws.Views.{Feeds, feed-long, feed-no-place, feed-no-tick
 use Rattle.desk.specs.Replace.{replaceOf, replacedRun}
 use Rattle.desk.specs.Rooms.{editionOf, roomOf, serialOf}
 use Rattle.desk.specs.Shared.{recordsOf}
+use Rattle.desk.specs.State.{stateOf}
 use Rattle.desk.specs.declared.Desk.{Desk}
 use Rattle.desk.specs.declared.Edition.{Edition}
 use Rattle.desk.specs.declared.Feeding.{Feeding}
@@ -25,7 +27,7 @@ use Rattle.history.specs.Laws.LedgerSteps.{sound}
 use Rattle.history.specs.Laws.States.{state-is, stateOfAccount}
 use Rattle.history.specs.Laws.Takings.{below-rest, bytes-append}
 use Rattle.history.specs.Progress.{progress}
-use Rattle.history.specs.Served.{isOpen, joined, stateOf}
+use Rattle.history.specs.Served.{joined}
 use Rattle.matching.specs.Occurrence.{occurrences}
 use Rattle.matching.specs.Words.{AllBelow, Below, Word}
 use Rattle.serving.specs.Lines.{linesOf}
@@ -54,7 +56,7 @@ module _ {ts : List Word} {before : Word} {acts : List Act} (ready : Ready ts be
   account : accountAt w 0 ≡ accountOf ts before
   account = ap (λ (l : List Account). getD l 0 noAccount) (ready .accounts-are)
 
-  ticket-open : stateOf (w .desk) (serialOf 1) ≡ isOpen
+  ticket-open : stateOf (w .desk) (serialOf 1) ≡ A.Open (editionOf 1) (length before)
   ticket-open = state-is w v 0 one ∙ ap (λ (a : Account). stateOfAccount (w .edition) a) account ∙ ap (λ (e : ℕ). stateOfAccount e (accountOf ts before)) (ready .edition-is)
 
   not-long : (piece : Word) → length before + length piece ≤ 4294967295 → feedOf (w .desk) (serialOf 1) (w .table) piece .answer ≡ F.Long → ⊥
@@ -71,7 +73,7 @@ module _ {ts : List Word} {before : Word} {acts : List Act} (ready : Ready ts be
 
   some-bytes : (c : ℕ) (piece : Word) → Below 256 (c ∷ piece) → length before + length (c ∷ piece) ≤ 4294967295 → 0 < restTaken (serialOf 1) (w .table) (w .desk) (c ∷ piece)
   some-bytes c piece below few =
-      progress acts (ready .bytes) (serialOf 1) ticket-open (ready .empty) c piece below (not-long (c ∷ piece) few)
+      progress acts (ready .bytes) (serialOf 1) (editionOf 1) (length before) ticket-open (ready .empty) c piece below (not-long (c ∷ piece) few)
 
   -- after a history that goes on from there
   ready-on : {taken : Word} {e : Desk} {lines : List ℕ} (c : Comes w (serialOf 1) taken e lines) → Ready ts (before ++ taken) (acts ++ c .acts)

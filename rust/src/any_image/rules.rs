@@ -11,12 +11,16 @@ pub const FREE: Ticket = Ticket {
 
 pub fn answer(refusal: u64, values: [u64; 4]) -> Answer {
     let [a, b, c, d] = values;
+    let (e, f, g) = (0, 0, 0);
     Answer {
         refusal,
         a,
         b,
         c,
         d,
+        e,
+        f,
+        g,
     }
 }
 

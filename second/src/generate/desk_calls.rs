@@ -111,6 +111,24 @@ impl Generator {
         }
     }
 
+    /// The state of some serials: live, not closed, ever given, and never given.
+    pub(super) fn state(&mut self) {
+        for _ in 0..self.rng.one_of(&[1, 1, 2, 5]) {
+            let last = self.replay.desk().serial().0;
+            let tickets = self.replay.desk().tickets().iter();
+            let not_closed: Vec<u32> = tickets.map(|ticket| ticket.serial.0).collect();
+            let ever = self.rng.below(last as usize + 2) as u32;
+            let serial = match self.rng.below(6) {
+                0 => self.rng.pick(&[0, last.saturating_add(1), u32::MAX]),
+                1 | 2 => Some(ever),
+                3 => self.rng.pick(&not_closed),
+                _ => Some(self.serial()),
+            };
+            let number = self.number(u64::from(serial.unwrap_or(ever)));
+            self.say(&format!("state {number}"));
+        }
+    }
+
     pub(super) fn show(&mut self) {
         self.say("show");
     }

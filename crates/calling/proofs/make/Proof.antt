@@ -95,6 +95,12 @@ enum-known-call-4 c = search needs
 close-requires : tie.Need-close-requires
 close-requires c κs = search needs
 
+enum-known-call-5 : tie.Need-enum-known-call-5
+enum-known-call-5 c = search needs
+
+tell-requires : tie.Need-tell-requires
+tell-requires c κs = search needs
+
 enum-told-5 : tie.Need-enum-told-5
 enum-told-5 c = search needs
 
@@ -107,70 +113,70 @@ enum-told-6 c = search needs
 show-requires : tie.Need-show-requires
 show-requires c κs = search needs
 
-enum-known-call-5 : tie.Need-enum-known-call-5
-enum-known-call-5 c = search needs
+enum-known-call-6 : tie.Need-enum-known-call-6
+enum-known-call-6 c = search needs
 
 build-requires : tie.Need-build-requires
 build-requires c κs = search needs
 
-enum-known-call-6 : tie.Need-enum-known-call-6
-enum-known-call-6 c = search needs
+enum-known-call-7 : tie.Need-enum-known-call-7
+enum-known-call-7 c = search needs
 
 read-requires : tie.Need-read-requires
 read-requires c κs =
     let c4 = c .before .before .before .before in
-    let call6 = c4 .call6 in
+    let call7 = c4 .call7 in
     let asked = c4 .before .before .before .before .before .before .pre in
-    omega (arith, subst Bounded (call6 .given .1) (asked .1), asked .0, asked .2, asked .3, asked .4, asked .5)
-
-enum-known-call-7 : tie.Need-enum-known-call-7
-enum-known-call-7 c = search needs
-
-poke-requires : tie.Need-poke-requires
-poke-requires c κs =
-    let c3 = c .before .before .before in
-    let call7 = c3 .call7 in
-    let asked = c3 .before .before .before .before .before .before .pre in
     omega (arith, subst Bounded (call7 .given .1) (asked .1), asked .0, asked .2, asked .3, asked .4, asked .5)
 
 enum-known-call-8 : tie.Need-enum-known-call-8
 enum-known-call-8 c = search needs
 
+poke-requires : tie.Need-poke-requires
+poke-requires c κs =
+    let c3 = c .before .before .before in
+    let call8 = c3 .call8 in
+    let asked = c3 .before .before .before .before .before .before .pre in
+    omega (arith, subst Bounded (call8 .given .1) (asked .1), asked .0, asked .2, asked .3, asked .4, asked .5)
+
+enum-known-call-9 : tie.Need-enum-known-call-9
+enum-known-call-9 c = search needs
+
 add-peek : tie.Need-add-peek
 add-peek c =
     let asked = c .before .before .before .before .before .before .before .pre in
-    omega (arith, subst Bounded (c .before .call8 .given .1) (asked .1), asked .0, asked .2, asked .3, asked .4, asked .5)
+    omega (arith, subst Bounded (c .before .call9 .given .1) (asked .1), asked .0, asked .2, asked .3, asked .4, asked .5)
 
 mul-peek : tie.Need-mul-peek
 mul-peek c =
     let asked = c .before .before .before .before .before .before .before .pre in
-    omega (arith, subst Bounded (c .before .call8 .given .1) (asked .1), asked .0, asked .2, asked .3, asked .4, asked .5)
+    omega (arith, subst Bounded (c .before .call9 .given .1) (asked .1), asked .0, asked .2, asked .3, asked .4, asked .5)
 
 sub-peek : tie.Need-sub-peek
 sub-peek c =
     let asked = c .before .before .before .before .before .before .before .pre in
-    omega (arith, subst Bounded (c .before .call8 .given .1) (asked .1), asked .0, asked .2, asked .3, asked .4, asked .5)
+    omega (arith, subst Bounded (c .before .call9 .given .1) (asked .1), asked .0, asked .2, asked .3, asked .4, asked .5)
 
 part-peek-start : tie.Need-part-peek-start
 part-peek-start c =
     let c2 = c .before .before in
-    let call8 = c2 .call8 in
+    let call9 = c2 .call9 in
     let asked = c2 .before .before .before .before .before .before .pre in
-    omega (arith, subst Bounded (call8 .given .1) (asked .1), asked .0, asked .2, asked .3, asked .4, asked .5)
+    omega (arith, subst Bounded (call9 .given .1) (asked .1), asked .0, asked .2, asked .3, asked .4, asked .5)
 
 part-peek-end : tie.Need-part-peek-end
 part-peek-end c =
     let c2 = c .before .before in
-    let call8 = c2 .call8 in
+    let call9 = c2 .call9 in
     let asked = c2 .before .before .before .before .before .before .pre in
-    omega (arith, subst Bounded (call8 .given .1) (asked .1), asked .0, asked .2, asked .3, asked .4, asked .5)
+    omega (arith, subst Bounded (call9 .given .1) (asked .1), asked .0, asked .2, asked .3, asked .4, asked .5)
 
 peek-requires : tie.Need-peek-requires
 peek-requires c κs =
     let c4 = c .before .before .before .before in
-    let call8 = c4 .call8 in
+    let call9 = c4 .call9 in
     let asked = c4 .before .before .before .before .before .before .pre in
-    omega (arith, subst Bounded (call8 .given .1) (asked .1), asked .0, asked .2, asked .3, asked .4, asked .5)
+    omega (arith, subst Bounded (call9 .given .1) (asked .1), asked .0, asked .2, asked .3, asked .4, asked .5)
 
 returns : tie.Need-returns
 returns c = (rw (c .enum-told .given .1) (record { same = refl; puts = put-none _ }), c .before .before .before .before .before .before .pre .0)
@@ -240,13 +246,20 @@ returns-8 c =
 
 returns-9 : tie.Need-returns-9
 returns-9 c =
+    let c3 = c .before .before .before in
+    let call5 = c3 .call5 in
+    let args = c3 .before .before .before .before .before .before .args in
+    (rw (call5 .given .1) (c .tell .ensures .0 (args .set .now) (args .table .now)), c .tell .ensures .1)
+
+returns-10 : tie.Need-returns-10
+returns-10 c =
     let c2 = c .before .before in
     let enum-told5 = c2 .enum-told5 in
     let args = c2 .before .before .before .before .before .before .args in
     (rw (enum-told5 .given .1) (c .take .ensures .0 (args .set .now) (args .table .now)), c .take .ensures .1)
 
-returns-10 : tie.Need-returns-10
-returns-10 c =
+returns-11 : tie.Need-returns-11
+returns-11 c =
     let c2 = c .before .before in
     let enum-told6 = c2 .enum-told6 in
     let args = c2 .before .before .before .before .before .before .args in
@@ -258,12 +271,12 @@ same-length-5 c = search needs
 same-length-6 : tie.Need-same-length-6
 same-length-6 c = search needs
 
-returns-11 : tie.Need-returns-11
-returns-11 c =
+returns-12 : tie.Need-returns-12
+returns-12 c =
     let c2 = c .before .before in
     let build = c2 .build in
-    let call5 = c2 .before .before .before .before .before .call5 in
-    (rw (call5 .given .1) (build .ensures .0), build .ensures .1)
+    let call6 = c2 .before .before .before .before .before .call6 in
+    (rw (call6 .given .1) (build .ensures .0), build .ensures .1)
 
 same-length-7 : tie.Need-same-length-7
 same-length-7 c = search needs
@@ -271,36 +284,36 @@ same-length-7 c = search needs
 same-length-8 : tie.Need-same-length-8
 same-length-8 c = search needs
 
-returns-12 : tie.Need-returns-12
-returns-12 c =
+returns-13 : tie.Need-returns-13
+returns-13 c =
     let c2 = c .before .before in
     let read = c2 .read in
     let c7 = c2 .before .before .before .before .before in
-    let call6 = c7 .call6 in
+    let call7 = c7 .call7 in
     let args = c7 .before .before .before .before .before .before .args in
-    (rw (call6 .given .1) (read .ensures .0 (args .set .now)), read .ensures .1)
+    (rw (call7 .given .1) (read .ensures .0 (args .set .now)), read .ensures .1)
 
 same-length-9 : tie.Need-same-length-9
 same-length-9 c = search needs
 
-returns-13 : tie.Need-returns-13
-returns-13 c =
+returns-14 : tie.Need-returns-14
+returns-14 c =
     let c2 = c .before .before in
     let poke = c2 .poke in
     let c6 = c2 .before .before .before .before in
-    let call7 = c6 .call7 in
+    let call8 = c6 .call8 in
     let args = c6 .before .before .before .before .before .before .args in
-    (rw (call7 .given .1) (poke .ensures .0 (args .set .now)), poke .ensures .1)
+    (rw (call8 .given .1) (poke .ensures .0 (args .set .now)), poke .ensures .1)
 
 same-length-10 : tie.Need-same-length-10
 same-length-10 c = search needs
 
-returns-14 : tie.Need-returns-14
-returns-14 c =
+returns-15 : tie.Need-returns-15
+returns-15 c =
     let c5 = c .before .before .before .before .before in
-    let call8 = c5 .call8 in
+    let call9 = c5 .call9 in
     let args = c5 .before .before .before .before .before .before .args in (
-      rw (call8 .given .1) (rw (span (call8 .given .0 .0) (call8 .given .0 .1 .0)) at
+      rw (call9 .given .1) (rw (span (call9 .given .0 .0) (call9 .given .0 .1 .0)) at
           (c .peek .ensures .0 (args .set .now) (args .table .now))),
       c .peek .ensures .1,
     )
@@ -330,17 +343,19 @@ make-spec =
     feed-requires
     enum-known-call-4
     close-requires
+    enum-known-call-5
+    tell-requires
     enum-told-5
     take-requires
     enum-told-6
     show-requires
-    enum-known-call-5
-    build-requires
     enum-known-call-6
-    read-requires
+    build-requires
     enum-known-call-7
-    poke-requires
+    read-requires
     enum-known-call-8
+    poke-requires
+    enum-known-call-9
     add-peek
     mul-peek
     sub-peek
@@ -361,13 +376,14 @@ make-spec =
     returns-8
     returns-9
     returns-10
+    returns-11
     same-length-5
     same-length-6
-    returns-11
+    returns-12
     same-length-7
     same-length-8
-    returns-12
-    same-length-9
     returns-13
+    same-length-9
+    returns-14
     same-length-10
-    returns-14)
+    returns-15)

@@ -4,27 +4,33 @@ use Rattle.desk.specs.declared.OpenAnswer.the-variants as O
 use Rattle.desk.specs.declared.FeedAnswer.the-variants as F
 use Rattle.desk.specs.declared.CloseAnswer.the-variants as C
 use Rattle.desk.specs.declared.TakeAnswer.the-variants as K
+use Rattle.desk.specs.declared.StateAnswer.the-variants as A
 use Rattle.tables.specs.declared.Built.the-variants as B
 use Prim.Native.Nat.{_%_, _+_, _<_, _≤_, suc, zero, ℕ}
-use mathlib.Core.Bool.{Bool, false, true}
+use mathlib.Core.Bool.{Bool, _&&_, false, not, true, true≢false}
 use mathlib.Core.List.{List}
+use mathlib.Core.Logic.{_⊎_, inl, inr}
 use mathlib.Core.Path.{_≡_, refl}
 use native.Mathlib.Omega.{arith}
 use lib.Dec.{eqb, ltb}
 use lib.ListN.{getD, length}
-use borrow.Author.Tests.{eqb-false, eqb-true, ltb-false, ltb-true}
+use borrow.Author.Tests.{eqb-false, eqb-true, ltb-false, ltb-true, not-true}
 use Rattle.desk.specs.Calls.{closeBy, closeOf, openBy, openOf, openedIn, takeBy, takeOf, withRecords, withTicket}
 use Rattle.desk.specs.Feed.{fedBy, feedBy, feedIn, feedOf, readFor}
 use Rattle.desk.specs.Replace.{replaceBy, replaceOf, underNext}
 use Rattle.desk.specs.Rooms.{editionOf, freeRoom, freeTicket, roomOf, serialOf, ticketIn}
 use Rattle.desk.specs.Shared.{noRecord, popped}
+use Rattle.desk.specs.State.{isGiven, stateBy, stateOf}
 use Rattle.desk.specs.declared.Closing.{Closing}
 use Rattle.desk.specs.declared.Desk.{Desk}
 use Rattle.desk.specs.declared.Feeding.{Feeding}
 use Rattle.desk.specs.declared.Opening.{Opening}
 use Rattle.desk.specs.declared.Replacing.{Replacing}
 use Rattle.desk.specs.declared.Serial.{Serial}
+use Rattle.desk.specs.declared.StateAnswer.{StateAnswer}
 use Rattle.desk.specs.declared.Taking.{Taking}
+use Rattle.desk.specs.declared.Ticket.{Ticket}
+use Rattle.matching.specs.Laws.Bools.{and-l, and-r}
 use Rattle.matching.specs.Reading.{allBelow}
 use Rattle.matching.specs.Table.{slotsIn}
 use Rattle.matching.specs.Words.{Word}
@@ -132,3 +138,32 @@ feeds-in d i table piece = go _ _ _ _ _ refl refl refl refl refl
 pub feeds : (d : Desk) (s : Serial) (table : List ℕ) (piece : Word) → Feeds d (roomOf (d .tickets) s) table piece (feedOf d s table piece)
 unfolding feedOf
 feeds d s table piece = feeds-in d (roomOf (d .tickets) s) table piece
+
+pub data States (d : Desk) (s : Serial) : StateAnswer → Type 0 where
+  state-never : 16 ≤ roomOf (d .tickets) s → (s .0 ≡ 0) ⊎ (d .serial .0 < s .0) → States d s A.Never
+  state-closed : 16 ≤ roomOf (d .tickets) s → Not (s .0) 0 → s .0 ≤ d .serial .0 → States d s A.Closed
+  state-stale : (t : Ticket) → t ≡ ticketIn (d .tickets) (roomOf (d .tickets) s) → roomOf (d .tickets) s < 16 → Not (t .edition .0) (d .edition .0)
+      → States d s (A.Stale (t .edition) (t .taken))
+  state-open : (t : Ticket) → t ≡ ticketIn (d .tickets) (roomOf (d .tickets) s) → roomOf (d .tickets) s < 16 → t .edition .0 ≡ d .edition .0
+      → States d s (A.Open (t .edition) (t .taken))
+
+pub states : (d : Desk) (s : Serial) → States d s (stateOf d s)
+unfolding stateOf
+states d s = go _ _ _ refl refl refl
+  where
+    t : Ticket
+    t = ticketIn (d .tickets) (roomOf (d .tickets) s)
+
+    neither : (a b : Bool) → eqb (s .0) 0 ≡ a → ltb (d .serial .0) (s .0) ≡ b → not a && not b ≡ false → (s .0 ≡ 0) ⊎ (d .serial .0 < s .0)
+    neither true b p q r = inl (eqb-true _ _ p)
+    neither false true p q r = inr (ltb-true _ _ q)
+    neither false false p q r = absurd (true≢false r)
+
+    go : (a b c : Bool) → ltb (roomOf (d .tickets) s) 16 ≡ a → eqb (t .edition .0) (d .edition .0) ≡ b → isGiven s (d .serial) ≡ c
+        → States d s (stateBy (t .edition) (t .taken) a b c)
+    go true true c p q r = state-open t refl (ltb-true _ _ p) (eqb-true _ _ q)
+    go true false c p q r = state-stale t refl (ltb-true _ _ p) (eqb-false _ _ q)
+    go false b true p q r =
+        state-closed (ltb-false _ _ p) (eqb-false _ _ (not-true _ (and-l (not (eqb (s .0) 0)) (not (ltb (d .serial .0) (s .0))) r)))
+        (ltb-false _ _ (not-true _ (and-r (not (eqb (s .0) 0)) (not (ltb (d .serial .0) (s .0))) r)))
+    go false b false p q r = state-never (ltb-false _ _ p) (neither _ _ refl refl r)

@@ -3,7 +3,7 @@ use Rattle.gateway.proofs.sleet_build_split.Statement.{statement}
 use Rattle.gateway.proofs.sleet_build_split.Tie as tie
 use Rattle.gateway.proofs.sleet_build_split.Reads as reads
 use Rattle.gateway.proofs.sleet_build_split.Lts as lts
-use Rattle.gateway.proofs.answers.of_built.Reads as of-built-reads
+use Rattle.numbers.proofs.of_built.Reads as of-built-reads
 use Rattle.tables.proofs.build_split.Reads as build-split-reads
 
 -- src/lib.rt:133:23

@@ -3,7 +3,7 @@ use Rattle.gateway.proofs.sleet_build_whole.Statement.{statement}
 use Rattle.gateway.proofs.sleet_build_whole.Tie as tie
 use Rattle.gateway.proofs.sleet_build_whole.Reads as reads
 use Rattle.gateway.proofs.sleet_build_whole.Lts as lts
-use Rattle.gateway.proofs.answers.of_built.Reads as of-built-reads
+use Rattle.numbers.proofs.of_built.Reads as of-built-reads
 use Rattle.tables.proofs.build_whole.Reads as build-whole-reads
 
 -- src/lib.rt:140:23

@@ -4,7 +4,7 @@ use Rattle.gateway.proofs.sleet_desk_close.Tie as tie
 use Rattle.gateway.proofs.sleet_desk_close.Reads as reads
 use Rattle.gateway.proofs.sleet_desk_close.Lts as lts
 use Rattle.desk.proofs.Desk.close.Reads as close-reads
-use Rattle.gateway.proofs.answers.of_close.Reads as of-close-reads
+use Rattle.numbers.proofs.of_close.Reads as of-close-reads
 
 -- src/lib.rt:92:9
 close-requires : tie.Need-close-requires

@@ -4,7 +4,7 @@ use Rattle.gateway.proofs.sleet_desk_feed.Tie as tie
 use Rattle.gateway.proofs.sleet_desk_feed.Reads as reads
 use Rattle.gateway.proofs.sleet_desk_feed.Lts as lts
 use Rattle.desk.proofs.Desk.feed.Reads as feed-reads
-use Rattle.gateway.proofs.answers.of_feed.Reads as of-feed-reads
+use Rattle.numbers.proofs.of_feed.Reads as of-feed-reads
 
 -- src/lib.rt:81:9
 feed-requires : tie.Need-feed-requires

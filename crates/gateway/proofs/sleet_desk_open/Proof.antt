@@ -4,7 +4,7 @@ use Rattle.gateway.proofs.sleet_desk_open.Tie as tie
 use Rattle.gateway.proofs.sleet_desk_open.Reads as reads
 use Rattle.gateway.proofs.sleet_desk_open.Lts as lts
 use Rattle.desk.proofs.Desk.open.Reads as open-reads
-use Rattle.gateway.proofs.answers.of_open.Reads as of-open-reads
+use Rattle.numbers.proofs.of_open.Reads as of-open-reads
 
 -- src/lib.rt:70:9
 open-requires : tie.Need-open-requires

@@ -4,7 +4,7 @@ use Rattle.gateway.proofs.sleet_desk_replace.Tie as tie
 use Rattle.gateway.proofs.sleet_desk_replace.Reads as reads
 use Rattle.gateway.proofs.sleet_desk_replace.Lts as lts
 use Rattle.desk.proofs.Desk.replace.Reads as replace-reads
-use Rattle.gateway.proofs.answers.of_replace.Reads as of-replace-reads
+use Rattle.numbers.proofs.of_replace.Reads as of-replace-reads
 
 -- src/lib.rt:59:9
 replace-requires : tie.Need-replace-requires

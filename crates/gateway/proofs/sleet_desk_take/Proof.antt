@@ -4,7 +4,7 @@ use Rattle.gateway.proofs.sleet_desk_take.Tie as tie
 use Rattle.gateway.proofs.sleet_desk_take.Reads as reads
 use Rattle.gateway.proofs.sleet_desk_take.Lts as lts
 use Rattle.desk.proofs.Desk.take.Reads as take-reads
-use Rattle.gateway.proofs.answers.of_take.Reads as of-take-reads
+use Rattle.numbers.proofs.of_take.Reads as of-take-reads
 
 -- src/lib.rt:103:9
 take-requires : tie.Need-take-requires

@@ -3,7 +3,7 @@ use Rattle.gateway.proofs.sleet_read_split.Statement.{statement}
 use Rattle.gateway.proofs.sleet_read_split.Tie as tie
 use Rattle.gateway.proofs.sleet_read_split.Reads as reads
 use Rattle.gateway.proofs.sleet_read_split.Lts as lts
-use Rattle.gateway.proofs.answers.of_read.Reads as of-read-reads
+use Rattle.numbers.proofs.of_read.Reads as of-read-reads
 use Rattle.reading.proofs.read_split.Reads as read-split-reads
 
 -- src/lib.rt:154:9

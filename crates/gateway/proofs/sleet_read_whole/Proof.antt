@@ -3,7 +3,7 @@ use Rattle.gateway.proofs.sleet_read_whole.Statement.{statement}
 use Rattle.gateway.proofs.sleet_read_whole.Tie as tie
 use Rattle.gateway.proofs.sleet_read_whole.Reads as reads
 use Rattle.gateway.proofs.sleet_read_whole.Lts as lts
-use Rattle.gateway.proofs.answers.of_read.Reads as of-read-reads
+use Rattle.numbers.proofs.of_read.Reads as of-read-reads
 use Rattle.reading.proofs.read_whole.Reads as read-whole-reads
 
 -- src/lib.rt:171:9

@@ -3,7 +3,7 @@ use Rattle.gateway.proofs.sleet_slots_needed.Statement.{statement}
 use Rattle.gateway.proofs.sleet_slots_needed.Tie as tie
 use Rattle.gateway.proofs.sleet_slots_needed.Reads as reads
 use Rattle.gateway.proofs.sleet_slots_needed.Lts as lts
-use Rattle.gateway.proofs.answers.of_needed.Reads as of-needed-reads
+use Rattle.numbers.proofs.of_needed.Reads as of-needed-reads
 use Rattle.tables.proofs.slots_needed.Reads as slots-needed-reads
 
 -- src/lib.rt:126:24

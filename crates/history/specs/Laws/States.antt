@@ -6,26 +6,30 @@ use mathlib.Core.Logic.{_⊎_, inl, inr}
 use mathlib.Core.Path.{_∙_, _≡_, ap, ap₂, refl, subst, sym}
 use native.Mathlib.Decide.{decLe}
 use native.Mathlib.Omega.{arith}
-use lib.Dec.{eqb, leb, leb→le, le→leb, ltb, ltb→lt, lt→ltb}
+use lib.Dec.{eqb, ltb}
 use lib.ListN.{getD, length}
-use Rattle.desk.specs.Rooms.{roomOf, serialOf, ticketIn}
+use borrow.Author.Tests.{eqb-false, le-ltb, lt-ltb, ltb-false, ne-eqb, not-true}
+use Rattle.desk.specs.Rooms.{editionOf, roomOf, serialOf, ticketIn}
+use Rattle.desk.specs.State.{heldBy, isGiven, stateBy, stateIn, stateOf}
 use Rattle.desk.specs.declared.Serial.{Serial}
+use Rattle.desk.specs.declared.StateAnswer.{StateAnswer}
+use Rattle.desk.specs.declared.StateAnswer.the-variants as A
+use Rattle.desk.specs.declared.Ticket.{Ticket}
 use Rattle.history.specs.History.{Account, World, accountAt, noAccount, recordsDue, recordsFor, stream}
 use Rattle.history.specs.Laws.Invariant.{Inv, Stranger}
 use Rattle.history.specs.Laws.Numbers.{ltb-no}
 use Rattle.history.specs.Laws.Seats.{Seat, no-seat, seated}
-use Rattle.history.specs.Served.{TicketState, neverGiven, stateBy, stateOf, wasGiven}
-use Rattle.matching.specs.Laws.Bools.{and-both, and-l, and-r, is-false, is-true, to-T}
+use Rattle.matching.specs.Laws.Bools.{and-both, and-l, and-r, is-false}
 
 -- what an account says of its ticket, under an edition in force
-abbrev pub stateOfAccount : ℕ → Account → TicketState
-stateOfAccount edition a = stateBy true (not (a .closed)) (eqb (a .edition) edition)
+abbrev pub stateOfAccount : ℕ → Account → StateAnswer
+stateOfAccount edition a = stateBy (editionOf (a .edition)) (length (a .bytes)) (not (a .closed)) (eqb (a .edition) edition) true
 
 module _ (w : World) (v : Inv w) where
-  pub given-test : (k : ℕ) → k < length (w .accounts) → wasGiven (w .desk) (serialOf (suc k)) ≡ true
+  given-test : (k : ℕ) → k < length (w .accounts) → isGiven (serialOf (suc k)) (w .desk .serial) ≡ true
   given-test k h =
-      and-both (ltb 0 (suc k)) (leb (suc k) (w .desk .serial .0)) (is-true (ltb 0 (suc k)) (lt→ltb 0 (suc k) (omega arith)))
-      (is-true (leb (suc k) (w .desk .serial .0)) (le→leb (suc k) (w .desk .serial .0) (omega (arith, h, v .serials))))
+      and-both (not (eqb (suc k) 0)) (not (ltb (w .desk .serial .0) (suc k))) (ap not (ne-eqb (suc k) 0 (λ e. omega (arith, e))))
+      (ap not (le-ltb (w .desk .serial .0) (suc k) (omega (arith, h, v .serials))))
 
   pub state-is : (k : ℕ) → k < length (w .accounts) → stateOf (w .desk) (serialOf (suc k)) ≡ stateOfAccount (w .edition) (accountAt w k)
   unfolding stateOf
@@ -37,30 +41,36 @@ module _ (w : World) (v : Inv w) where
       room : ℕ
       room = roomOf (w .desk .tickets) (serialOf (suc k))
 
+      t : Ticket
+      t = ticketIn (w .desk .tickets) room
+
       -- the account under a number
       numbered : ℕ → Account
       numbered n = record { serial = n; edition = accountAt w k .edition; tags = accountAt w k .tags; bytes = accountAt w k .bytes; closed = accountAt w k .closed }
 
-      go : Seat (w .desk .tickets) (numbered (suc k))
-          → stateBy (wasGiven (w .desk) (serialOf (suc k))) (ltb room 16) (eqb (ticketIn (w .desk .tickets) room .edition .0) (w .desk .edition .0))
-          ≡ stateOfAccount (w .edition) a
-      go (no-seat c q) =
-          ap₂ (λ (x y : Bool). stateBy x y (eqb (ticketIn (w .desk .tickets) room .edition .0) (w .desk .edition .0))) (given-test k h) (ltb-no room 16 q)
-          ∙ ap (λ (b : Bool). stateBy true (not b) (eqb (a .edition) (w .edition))) (sym c)
-      go (seated c q g) =
-          ap₂ (λ (x y : Bool). stateBy x y (eqb (ticketIn (w .desk .tickets) room .edition .0) (w .desk .edition .0))) (given-test k h) (is-true (ltb room 16) (lt→ltb room 16 q))
-          ∙ ap₂ (λ (m n : ℕ). stateBy true true (eqb m n)) (g .edition) (sym (v .edition))
-          ∙ ap (λ (b : Bool). stateBy true (not b) (eqb (a .edition) (w .edition))) (sym c)
+      -- the account, closed or not
+      told : Bool → StateAnswer
+      told b = stateBy (editionOf (a .edition)) (length (a .bytes)) (not b) (eqb (a .edition) (w .edition)) true
 
-  pub state-none : (s : Serial) → Stranger (length (w .accounts)) (s .0) → stateOf (w .desk) s ≡ neverGiven
+      go : Seat (w .desk .tickets) (numbered (suc k)) → stateIn (w .desk) (serialOf (suc k)) room ≡ told (a .closed)
+      go (no-seat c q) =
+          ap₂ (λ (x y : Bool). stateBy (t .edition) (t .taken) x (eqb (t .edition .0) (w .desk .edition .0)) y) (ltb-no room 16 q) (given-test k h)
+          ∙ ap told (sym c)
+      go (seated c q g) =
+          ap (λ (x : Bool). stateBy (t .edition) (t .taken) x (eqb (t .edition .0) (w .desk .edition .0)) (isGiven (serialOf (suc k)) (w .desk .serial))) (lt-ltb room 16 q)
+          ∙ (λ i. heldBy (record { 0 = g .edition i }) (g .taken i) (eqb (g .edition i) (sym (v .edition) i)))
+          ∙ ap told (sym c)
+
+  pub state-none : (s : Serial) → Stranger (length (w .accounts)) (s .0) → stateOf (w .desk) s ≡ A.Never
   unfolding stateOf
   state-none s h =
-      ap (λ (b : Bool). stateBy b (ltb (roomOf (w .desk .tickets) s) 16) (eqb (ticketIn (w .desk .tickets) (roomOf (w .desk .tickets) s) .edition .0) (w .desk .edition .0)))
-      (is-false (wasGiven (w .desk) s) (λ e. no h (and-l (ltb 0 (s .0)) (leb (s .0) (w .desk .serial .0)) e) (and-r (ltb 0 (s .0)) (leb (s .0) (w .desk .serial .0)) e)))
+      let t = ticketIn (w .desk .tickets) (roomOf (w .desk .tickets) s) in
+      ap₂ (λ (x y : Bool). stateBy (t .edition) (t .taken) x (eqb (t .edition .0) (w .desk .edition .0)) y) (ltb-no (roomOf (w .desk .tickets) s) 16 (v .strangers s h))
+      (is-false (isGiven s (w .desk .serial)) (λ e. no h (and-l (not (eqb (s .0) 0)) (not (ltb (w .desk .serial .0) (s .0))) e) (and-r (not (eqb (s .0) 0)) (not (ltb (w .desk .serial .0) (s .0))) e)))
     where
-      no : Stranger (length (w .accounts)) (s .0) → ltb 0 (s .0) ≡ true → leb (s .0) (w .desk .serial .0) ≡ true → ⊥
-      no (inl z) p q = omega (arith, z, ltb→lt 0 (s .0) (to-T (ltb 0 (s .0)) p))
-      no (inr z) p q = omega (arith, z, v .serials, leb→le (s .0) (w .desk .serial .0) (to-T (leb (s .0) (w .desk .serial .0)) q))
+      no : Stranger (length (w .accounts)) (s .0) → not (eqb (s .0) 0) ≡ true → not (ltb (w .desk .serial .0) (s .0)) ≡ true → ⊥
+      no (inl z) p q = eqb-false (s .0) 0 (not-true _ p) z
+      no (inr z) p q = omega (arith, z, v .serials, ltb-false (w .desk .serial .0) (s .0) (not-true _ q))
 
   -- a serial is that of an account, or a stranger
   pub known-or-not : (n : ℕ) → ((k : ℕ) × (k < length (w .accounts)) × (n ≡ suc k)) ⊎ Stranger (length (w .accounts)) n

@@ -2,7 +2,7 @@
 use Rattle.reading.proofs.read_whole.Statement.{statement}
 use Rattle.reading.proofs.read_whole.Tie as tie
 use Prim.Native.Nat.{_+_, _/_, _<_}
-use mathlib.Core.Bool.{false, not, true}
+use mathlib.Core.Bool.{false, true}
 use mathlib.Core.List.{[], _∷_}
 use mathlib.Core.Path.{_∙_, _≡_, ap, refl, sym}
 use native.Mathlib.Nat.{one-mul}
@@ -15,8 +15,8 @@ use Rattle.matching.specs.Reading.{allBelow, read}
 use Rattle.passing.specs.Laws.Below.{below-only, one-below}
 use Rattle.matching.specs.Laws.Slots.{slots-room}
 use Rattle.reading.specs.Laws.Answers.{first-none, list-long, read-goes, read-refused, slots-few, states-fit, whole-read}
-use Rattle.reading.specs.Refusals.{firstOf}
-use Rattle.reading.specs.declared.ReadRefusal.the-variants.{Long, Place}
+use Rattle.matching.specs.Refusal.{firstOf}
+use Rattle.reading.specs.Refusals.{readGrounds, verdictNumber}
 use Rattle.reading.specs.declared.walks.WentOne.{WentOne}
 
 slots-requires : tie.Need-slots-requires
@@ -34,9 +34,9 @@ judge-requires c κs = search needs
 -- the verdict by what is refused
 verdict-is : (c : tie.After-judge)
     → let args = c .before .before .before .before .before .before .before .args in
-    c .judge .result
-    ≡ firstOf (not (allBelow (c .before .before .before .slots .result) (args .place ∷ []))) Place
-    (ltb 4294967295 (args .count + length (args .piece .now))) Long
+    verdictNumber (c .judge .result)
+    ≡ firstOf (readGrounds (allBelow (c .before .before .before .slots .result) (args .place ∷ []))
+    (ltb 4294967295 (args .count + length (args .piece .now))))
 verdict-is c =
     let c2 = c .before .before in
     let wide = c2 .wide in
@@ -50,7 +50,7 @@ goes : (c : tie.After-enum-told)
     → let args = c .before .before .before .before .before .before .before .before .before .args in
     (allBelow (c .before .before .before .before .before .slots .result) (args .place ∷ []) ≡ true)
     × (ltb 4294967295 (args .count + length (args .piece .now)) ≡ false)
-goes c = first-none _ _ (sym (c .enum-told .given .1) ∙ verdict-is (c .before .before))
+goes c = first-none _ _ (sym (ap verdictNumber (c .enum-told .given .1)) ∙ verdict-is (c .before .before))
 
 enum-known-verdict : tie.Need-enum-known-verdict
 enum-known-verdict c = search needs
@@ -66,7 +66,7 @@ returns c =
     let args = c6 .before .before .before .before .args in
     let a = args in
     rw (read-refused 8 1 (a .table .now) (a .place ∷ []) (a .count) (a .piece .now) (length (a .list .now)) (slots .result) (slots .ensures)
-    (verdict .given .0 .0) (sym (verdict .given .1) ∙ verdict-is before)) (refl, refl)
+    (verdict .given .0 .0) (sym (ap verdictNumber (verdict .given .1)) ∙ verdict-is before)) (refl, refl)
 
 enum-told : tie.Need-enum-told
 enum-told c = search needs

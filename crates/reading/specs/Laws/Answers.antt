@@ -1,6 +1,6 @@
 -- What comes before the loop and after it.
 use Prim.Native.Nat.{_+_, _-_, _/_, _<_, _≤_, ℕ}
-use mathlib.Core.Bool.{Bool, false, not, true}
+use mathlib.Core.Bool.{Bool, false, true}
 use mathlib.Core.List.{List}
 use mathlib.Core.Path.{_∙_, _≡_, ap, refl}
 use native.Mathlib.Omega.{arith}
@@ -10,16 +10,16 @@ use borrow.Author.Tests.{lt-ltb, ltb-true}
 use Rattle.matching.specs.Laws.AnyTable.{read-kept}
 use Rattle.matching.specs.Laws.Bools.{both-ways}
 use Rattle.matching.specs.Reading.{Outcome, allBelow, read}
+use Rattle.matching.specs.Refusal.{firstOf}
 use Rattle.matching.specs.Table.{slotsIn}
 use Rattle.passing.specs.Laws.Below.{below-at}
 use Rattle.reading.specs.Laws.Records.{flat-length}
-use Rattle.reading.specs.Outside.{ReadOf, listBy, readBy, readOf, readTo, refusedRead, splitBy, wholeBy}
-use Rattle.reading.specs.Refusals.{firstOf}
+use Rattle.reading.specs.Outside.{ReadOf, listBy, readBy, readNumber, readOf, readTo, refusedRead, splitBy, wholeBy}
+use Rattle.reading.specs.Refusals.{readGrounds}
 use Rattle.reading.specs.Walks.{listOf, wentOf, wentOneOf}
 use Rattle.reading.specs.declared.Ending.the-variants.{Stopped}
 use Rattle.reading.specs.declared.ReadRefusal.{ReadRefusal}
 use Rattle.reading.specs.declared.ReadRefusal.the-variants.{Long, Place}
-use Rattle.reading.specs.declared.refusals.Verdict.the-variants.{Go, Refuse}
 use Rattle.reading.specs.declared.walks.Went.{Went}
 use Rattle.reading.specs.declared.walks.WentOne.{WentOne}
 
@@ -46,19 +46,24 @@ module _ (n k : ℕ) (table place : List ℕ) (count : ℕ) (piece : List ℕ) (
   unfolding readOf
   read-goes b h = rw (← e, b, h)
 
--- by the code's verdict
-pub first-refused : (r : Outcome) (sound long : Bool) (why : ReadRefusal) → Refuse why ≡ firstOf (not sound) Place long Long → readBy r sound long ≡ refusedRead why
-first-refused r false long why e = cc
-first-refused r true true why e = cc
-first-refused r true false why e = let z : _≡_ {A = ℕ} 0 1 = cc in absurd (omega arith)
+-- by the number of the code's verdict
+first-refused : (r : Outcome) (sound long : Bool) (why : ReadRefusal) → readNumber why ≡ firstOf (readGrounds sound long) → readBy r sound long ≡ refusedRead why
+unfolding firstOf
+first-refused r false long Place e = refl
+first-refused r false long Long e = absurd (omega (arith, e))
+first-refused r true true Place e = absurd (omega (arith, e))
+first-refused r true true Long e = refl
+first-refused r true false Place e = absurd (omega (arith, e))
+first-refused r true false Long e = absurd (omega (arith, e))
 
-pub first-none : (sound long : Bool) → Go ≡ firstOf (not sound) Place long Long → (sound ≡ true) × (long ≡ false)
-first-none false long e = let z : _≡_ {A = ℕ} 0 1 = cc in absurd (omega arith)
-first-none true true e = let z : _≡_ {A = ℕ} 0 1 = cc in absurd (omega arith)
+pub first-none : (sound long : Bool) → 0 ≡ firstOf (readGrounds sound long) → (sound ≡ true) × (long ≡ false)
+unfolding firstOf
+first-none false long e = absurd (omega (arith, e))
+first-none true true e = absurd (omega (arith, e))
 first-none true false e = (refl, refl)
 
 pub read-refused : (n k : ℕ) (table place : List ℕ) (count : ℕ) (piece : List ℕ) (len s : ℕ) → s ≡ slotsIn n k (length table)
-    → (why : ReadRefusal) → Refuse why ≡ firstOf (not (allBelow s place)) Place (ltb 4294967295 (count + length piece)) Long
+    → (why : ReadRefusal) → readNumber why ≡ firstOf (readGrounds (allBelow s place) (ltb 4294967295 (count + length piece)))
     → readOf n k table place count piece len ≡ refusedRead why
 unfolding readOf
 read-refused n k table place count piece len s e why v = rw (← e) (first-refused _ (allBelow s place) (ltb 4294967295 (count + length piece)) why v)

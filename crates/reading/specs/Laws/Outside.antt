@@ -1,6 +1,6 @@
 -- What a read outside the desk promises, over ANY table, place, count, piece and list.
 use Prim.Native.Nat.{_*_, _+_, _-_, _/_, _<_, _≤_, suc, zero, zero-le, ℕ}
-use mathlib.Core.Bool.{false, true}
+use mathlib.Core.Bool.{Bool, false, true}
 use mathlib.Core.List.{List, [], _++_, _∷_}
 use mathlib.Core.Logic.{_↔_, _⊎_, inl, inr}
 use mathlib.Core.Path.{_∙_, _≡_, ap, refl, sym}
@@ -12,7 +12,8 @@ use borrow.Author.Tests.{ltb-false, ltb-true}
 use Rattle.matching.specs.Laws.AnyTable.{read-kept}
 use Rattle.matching.specs.Laws.Bools.{decided, not-both}
 use Rattle.matching.specs.Occurrence.{Occurrence, flat}
-use Rattle.matching.specs.Reading.{allBelow, read}
+use Rattle.matching.specs.Reading.{Outcome, allBelow, read}
+use Rattle.matching.specs.Refusal.{firstOf}
 use Rattle.matching.specs.Table.{slotsIn}
 use Rattle.matching.specs.Words.{Word}
 use Rattle.matching.specs.declared.Stop.{Stop}
@@ -20,7 +21,8 @@ use Rattle.matching.specs.declared.Stop.the-variants.{All}
 use Rattle.passing.specs.Laws.Below.{below-at}
 use Rattle.reading.specs.Laws.Answers.{list-long, read-goes, read-long, read-place}
 use Rattle.reading.specs.Laws.Records.{flat-length}
-use Rattle.reading.specs.Outside.{ReadOf, listBy, readOf, readTo, refusedRead, splitBy, wholeBy}
+use Rattle.reading.specs.Outside.{ReadOf, listBy, readBy, readNumber, readOf, readTo, refusedRead, splitBy, wholeBy}
+use Rattle.reading.specs.Refusals.{RefusedWith, endingNumber, readGrounds}
 use Rattle.reading.specs.declared.Ending.{Ending}
 use Rattle.reading.specs.declared.Ending.the-variants.{Refused, Stopped}
 use Rattle.reading.specs.declared.ReadRefusal.{ReadRefusal}
@@ -113,6 +115,30 @@ module _ (n k : ℕ) (table place : List ℕ) (count : ℕ) (piece : Word) (len 
       back r (too-many-bytes f h) w = absurd (omega (arith, w .1, h))
       back r (is-read f h) w = refl
 
+-- the number of a read, 0 where it is not refused
+abbrev pub numberBy : ReadOf → ℕ
+numberBy (refusedRead why) = readNumber why
+numberBy (readTo r) = 0
+
+-- PLACE, then LONG: the number is that of the first ground that holds
+pub read-refusals : (n k : ℕ) (table place : List ℕ) (count : ℕ) (piece : Word) (len : ℕ)
+    → numberBy (readOf n k table place count piece len) ≡ firstOf (readGrounds (allBelow (slotsIn n k (length table)) place) (ltb 4294967295 (count + length piece)))
+unfolding readOf firstOf
+read-refusals n k table place count piece len = go _ (allBelow (slotsIn n k (length table)) place) (ltb 4294967295 (count + length piece))
+  where
+    go : (r : Outcome) (sound long : Bool) → numberBy (readBy r sound long) ≡ firstOf (readGrounds sound long)
+    go r false long = refl
+    go r true true = refl
+    go r true false = refl
+
+split-number : (place : List ℕ) (r : ReadOf) → endingNumber (splitBy place r .ending) ≡ numberBy r
+split-number place (refusedRead why) = refl
+split-number place (readTo o) = refl
+
+whole-number : (place : ℕ) (r : ReadOf) → endingNumber (wholeBy place r .ending) ≡ numberBy r
+whole-number place (refusedRead why) = refl
+whole-number place (readTo o) = refl
+
 -- the answers name the refusal
 pub split-refused : (place : List ℕ) (r : ReadOf) (why : ReadRefusal) → (splitBy place r .ending ≡ Refused why) ↔ (r ≡ refusedRead why)
 split-refused place (refusedRead w) why = (λ e. cc, λ e. cc)
@@ -122,44 +148,72 @@ pub whole-refused : (place : ℕ) (r : ReadOf) (why : ReadRefusal) → (wholeBy 
 whole-refused place (refusedRead w) why = (λ e. cc, λ e. cc)
 whole-refused place (readTo o) why = (λ e. let z : _≡_ {A = ℕ} 0 1 = cc in absurd (omega arith), λ e. let z : _≡_ {A = ℕ} 0 1 = cc in absurd (omega arith))
 
--- so for each call, in its own answer
+-- a number is one refusal's
+by-number : (why : ReadRefusal) (ending : Ending) → RefusedWith ending (readNumber why) [] ↔ (ending ≡ Refused why)
+by-number why ending = (λ w. w .refused ∙ ap Refused (same (w .why) why (w .number-is)), λ e. record { why = why; refused = e; number-is = refl; values-are = refl })
+  where
+    same : (a b : ReadRefusal) → readNumber a ≡ readNumber b → a ≡ b
+    same Place Place e = refl
+    same Place Long e = absurd (omega (arith, e))
+    same Long Place e = absurd (omega (arith, e))
+    same Long Long e = refl
+
+-- SO FOR EACH CALL, in its own answer: 15, with nothing returned, exactly if a state is not below s; 14 exactly if each is, and the bytes taken and
+-- the piece pass 4,294,967,295
 module _ (table place : List ℕ) (count : ℕ) (piece : Word) (len : ℕ) where
+  abbrev splitRead : ReadOf
+  splitRead = readOf 1 8 table place count piece len
+
   abbrev splitEnding : Ending
-  splitEnding = splitBy place (readOf 1 8 table place count piece len) .ending
+  splitEnding = splitBy place splitRead .ending
 
-  pub split-place-iff : (splitEnding ≡ Refused Place) ↔ ((i : ℕ) × ((i < length place) × (slotsIn 1 8 (length table) ≤ getD place i 0)))
-  split-place-iff =
-      (λ e. place-iff 1 8 table place count piece len .0 (split-refused place _ Place .0 e), λ w. split-refused place _ Place .1 (place-iff 1 8 table place count piece len .1 w))
+  pub split-place-iff : RefusedWith splitEnding 15 [] ↔ ((i : ℕ) × ((i < length place) × (slotsIn 1 8 (length table) ≤ getD place i 0)))
+  split-place-iff = (
+    λ w. place-iff 1 8 table place count piece len .0 (split-refused place splitRead Place .0 (by-number Place splitEnding .0 w)),
+    λ h. by-number Place splitEnding .1 (split-refused place splitRead Place .1 (place-iff 1 8 table place count piece len .1 h)),
+  )
 
-  pub split-long-iff : (splitEnding ≡ Refused Long) ↔ (States (slotsIn 1 8 (length table)) place × (4294967295 < count + length piece))
-  split-long-iff =
-      (λ e. long-iff 1 8 table place count piece len .0 (split-refused place _ Long .0 e), λ w. split-refused place _ Long .1 (long-iff 1 8 table place count piece len .1 w))
+  pub split-long-iff : RefusedWith splitEnding 14 [] ↔ (States (slotsIn 1 8 (length table)) place × (4294967295 < count + length piece))
+  split-long-iff = (
+    λ w. long-iff 1 8 table place count piece len .0 (split-refused place splitRead Long .0 (by-number Long splitEnding .0 w)),
+    λ h. by-number Long splitEnding .1 (split-refused place splitRead Long .1 (long-iff 1 8 table place count piece len .1 h)),
+  )
+
+  -- the same in order: the number is that of the first ground that holds
+  pub split-refusals : endingNumber splitEnding ≡ firstOf (readGrounds (allBelow (slotsIn 1 8 (length table)) place) (ltb 4294967295 (count + length piece)))
+  split-refusals = split-number place splitRead ∙ read-refusals 1 8 table place count piece len
 
 module _ (table : List ℕ) (place count : ℕ) (piece : Word) (len : ℕ) where
-  abbrev wholeEnding : Ending
-  wholeEnding = wholeBy place (readOf 8 1 table (place ∷ []) count piece len) .ending
+  abbrev wholeRead : ReadOf
+  wholeRead = readOf 8 1 table (place ∷ []) count piece len
 
-  pub whole-place-iff : (wholeEnding ≡ Refused Place) ↔ (slotsIn 8 1 (length table) ≤ place)
+  abbrev wholeEnding : Ending
+  wholeEnding = wholeBy place wholeRead .ending
+
+  pub whole-place-iff : RefusedWith wholeEnding 15 [] ↔ (slotsIn 8 1 (length table) ≤ place)
   whole-place-iff = (
-    λ e. only (place-iff 8 1 table (place ∷ []) count piece len .0 (whole-refused place _ Place .0 e)),
-    λ h. whole-refused place _ Place .1 (place-iff 8 1 table (place ∷ []) count piece len .1 (0, (omega arith, h))),
+    λ w. only (place-iff 8 1 table (place ∷ []) count piece len .0 (whole-refused place wholeRead Place .0 (by-number Place wholeEnding .0 w))),
+    λ h. by-number Place wholeEnding .1 (whole-refused place wholeRead Place .1 (place-iff 8 1 table (place ∷ []) count piece len .1 (0, (omega arith, h)))),
   )
     where
       only : (i : ℕ) × ((i < length (place ∷ [])) × (slotsIn 8 1 (length table) ≤ getD (place ∷ []) i 0)) → slotsIn 8 1 (length table) ≤ place
       only (zero, w) = w .1
       only (suc i, w) = absurd (omega (arith, w .0))
 
-  pub whole-long-iff : (wholeEnding ≡ Refused Long) ↔ ((place < slotsIn 8 1 (length table)) × (4294967295 < count + length piece))
+  pub whole-long-iff : RefusedWith wholeEnding 14 [] ↔ ((place < slotsIn 8 1 (length table)) × (4294967295 < count + length piece))
   whole-long-iff = (
     λ e.
-        let w = long-iff 8 1 table (place ∷ []) count piece len .0 (whole-refused place _ Long .0 e) in
+        let w = long-iff 8 1 table (place ∷ []) count piece len .0 (whole-refused place wholeRead Long .0 (by-number Long wholeEnding .0 e)) in
         (w .0 0 (omega arith), w .1),
-    λ w. whole-refused place _ Long .1 (long-iff 8 1 table (place ∷ []) count piece len .1 (all (w .0), w .1)),
+    λ w. by-number Long wholeEnding .1 (whole-refused place wholeRead Long .1 (long-iff 8 1 table (place ∷ []) count piece len .1 (all (w .0), w .1))),
   )
     where
       all : place < slotsIn 8 1 (length table) → States (slotsIn 8 1 (length table)) (place ∷ [])
       all h zero l = h
       all h (suc i) l = absurd (omega (arith, l))
+
+  pub whole-refusals : endingNumber wholeEnding ≡ firstOf (readGrounds (allBelow (slotsIn 8 1 (length table)) (place ∷ [])) (ltb 4294967295 (count + length piece)))
+  whole-refusals = whole-number place wholeRead ∙ read-refusals 8 1 table (place ∷ []) count piece len
 
 -- ---- what it keeps
 
@@ -195,7 +249,7 @@ pub record ReadKept (place : List ℕ) (piece : Word) (list : List ℕ) (r : Rea
   pub wide : length (placeBy place r) ≡ length place
   pub long : length (listBy list r) ≡ length list
   pub unused : (i : ℕ) → 2 * recordsBy r ≤ i → getD (listBy list r) i 0 ≡ getD list i 0
-  pub idle : takenBy r ≡ 0 → (placeBy place r ≡ place) × (listBy list r ≡ list)
+  pub idle : takenBy r ≡ 0 → (placeBy place r ≡ place) × (recordsBy r ≡ 0) × (listBy list r ≡ list)
   pub whole : (endingBy r ≡ Stopped All) → takenBy r ≡ length piece
 
 pub kept-refused : (place : List ℕ) (piece : Word) (list : List ℕ) (why : ReadRefusal) → ReadKept place piece list (refusedRead why)
@@ -205,7 +259,7 @@ kept-refused place piece list why = record {
   wide = refl;
   long = refl;
   unused = λ i h. refl;
-  idle = λ e. (refl, refl);
+  idle = λ e. (refl, refl, refl);
   whole = λ e. let z : _≡_ {A = ℕ} 0 1 = cc in absurd (omega arith);
 }
 
@@ -228,7 +282,7 @@ kept-read n s table place count piece list =
       wide = k .long;
       long = list-long n s table place count piece list _ refl;
       unused = λ i h. behind (flat (o .found)) list i (omega (arith, flat-length (o .found))) room;
-      idle = λ e. (k .idle e .0, none (o .found) list (k .idle e .1));
+      idle = λ e. (k .idle e .0, ap length (k .idle e .1), none (o .found) list (k .idle e .1));
       whole = λ e. k .whole .0 (stopped-is (o .stop) All e);
     }
   where
@@ -259,12 +313,27 @@ pub refused-same : (place list : List ℕ) (r : ReadOf) (why : ReadRefusal) → 
     → (takenBy r ≡ 0) × ((recordsBy r ≡ 0) × ((placeBy place r ≡ place) × (listBy list r ≡ list)))
 refused-same place list r why e = rw e (refl, (refl, (refl, refl)))
 
--- nothing taken, refused or not: place and list are what they were
-module _ (piece : Word) (list : List ℕ) where
-  pub split-idle : (place : List ℕ) (r : ReadOf) → ReadKept place piece list r → splitBy place r .taken ≡ 0 → (splitBy place r .place ≡ place) × (listBy list r ≡ list)
-  split-idle place (refusedRead why) k e = (refl, refl)
-  split-idle place (readTo o) k e = k .idle e
+-- NOTHING TAKEN, over any table: refused, or stopped FULL or DAMAGED before the first byte, or an empty piece; place and list are what they were, and
+-- no record is told of
+module _ (table : List ℕ) (count : ℕ) (piece : Word) (list : List ℕ) where
+  pub split-idle : (place : List ℕ) → splitBy place (readOf 1 8 table place count piece (length list)) .taken ≡ 0
+      → (splitBy place (readOf 1 8 table place count piece (length list)) .place ≡ place)
+      × (splitBy place (readOf 1 8 table place count piece (length list)) .records ≡ 0)
+      × (listBy list (readOf 1 8 table place count piece (length list)) ≡ list)
+  split-idle place e = go _ (read-keeps 1 8 table place count piece list) e
+    where
+      go : (r : ReadOf) → ReadKept place piece list r → splitBy place r .taken ≡ 0
+          → (splitBy place r .place ≡ place) × (splitBy place r .records ≡ 0) × (listBy list r ≡ list)
+      go (refusedRead why) k e = (refl, refl, refl)
+      go (readTo o) k e = k .idle e
 
-  pub whole-idle : (place : ℕ) (r : ReadOf) → ReadKept (place ∷ []) piece list r → wholeBy place r .taken ≡ 0 → (wholeBy place r .place ≡ place) × (listBy list r ≡ list)
-  whole-idle place (refusedRead why) k e = (refl, refl)
-  whole-idle place (readTo o) k e = (ap (λ (l : List ℕ). getD l 0 0) (k .idle e .0), k .idle e .1)
+  pub whole-idle : (place : ℕ) → wholeBy place (readOf 8 1 table (place ∷ []) count piece (length list)) .taken ≡ 0
+      → (wholeBy place (readOf 8 1 table (place ∷ []) count piece (length list)) .place ≡ place)
+      × (wholeBy place (readOf 8 1 table (place ∷ []) count piece (length list)) .records ≡ 0)
+      × (listBy list (readOf 8 1 table (place ∷ []) count piece (length list)) ≡ list)
+  whole-idle place e = go _ (read-keeps 8 1 table (place ∷ []) count piece list) e
+    where
+      go : (r : ReadOf) → ReadKept (place ∷ []) piece list r → wholeBy place r .taken ≡ 0
+          → (wholeBy place r .place ≡ place) × (wholeBy place r .records ≡ 0) × (listBy list r ≡ list)
+      go (refusedRead why) k e = (refl, refl, refl)
+      go (readTo o) k e = (ap (λ (l : List ℕ). getD l 0 0) (k .idle e .0), k .idle e .1, k .idle e .2)

@@ -65,8 +65,8 @@ plain-requires-6 c κs = search needs
 enum-told-7 : tie.Need-enum-told-7
 enum-told-7 c = search needs
 
-alone-requires-3 : tie.Need-alone-requires-3
-alone-requires-3 c κs = search needs
+state-requires : tie.Need-state-requires
+state-requires c κs = search needs
 
 plain-requires-7 : tie.Need-plain-requires-7
 plain-requires-7 c κs = search needs
@@ -74,8 +74,8 @@ plain-requires-7 c κs = search needs
 enum-told-8 : tie.Need-enum-told-8
 enum-told-8 c = search needs
 
-alone-requires-4 : tie.Need-alone-requires-4
-alone-requires-4 c κs = search needs
+alone-requires-3 : tie.Need-alone-requires-3
+alone-requires-3 c κs = search needs
 
 plain-requires-8 : tie.Need-plain-requires-8
 plain-requires-8 c κs = search needs
@@ -83,8 +83,8 @@ plain-requires-8 c κs = search needs
 enum-told-9 : tie.Need-enum-told-9
 enum-told-9 c = search needs
 
-build-requires : tie.Need-build-requires
-build-requires c κs = search needs
+alone-requires-4 : tie.Need-alone-requires-4
+alone-requires-4 c κs = search needs
 
 plain-requires-9 : tie.Need-plain-requires-9
 plain-requires-9 c κs = search needs
@@ -92,23 +92,23 @@ plain-requires-9 c κs = search needs
 enum-told-10 : tie.Need-enum-told-10
 enum-told-10 c = search needs
 
-read-requires : tie.Need-read-requires
-read-requires c κs = search needs
-
-enum-told-11 : tie.Need-enum-told-11
-enum-told-11 c = search needs
-
-poke-requires : tie.Need-poke-requires
-poke-requires c κs = search needs
+build-requires : tie.Need-build-requires
+build-requires c κs = search needs
 
 plain-requires-10 : tie.Need-plain-requires-10
 plain-requires-10 c κs = search needs
 
+enum-told-11 : tie.Need-enum-told-11
+enum-told-11 c = search needs
+
+read-requires : tie.Need-read-requires
+read-requires c κs = search needs
+
 enum-told-12 : tie.Need-enum-told-12
 enum-told-12 c = search needs
 
-peek-requires : tie.Need-peek-requires
-peek-requires c κs = search needs
+poke-requires : tie.Need-poke-requires
+poke-requires c κs = search needs
 
 plain-requires-11 : tie.Need-plain-requires-11
 plain-requires-11 c κs = search needs
@@ -116,8 +116,17 @@ plain-requires-11 c κs = search needs
 enum-told-13 : tie.Need-enum-told-13
 enum-told-13 c = search needs
 
+peek-requires : tie.Need-peek-requires
+peek-requires c κs = search needs
+
 plain-requires-12 : tie.Need-plain-requires-12
 plain-requires-12 c κs = search needs
+
+enum-told-14 : tie.Need-enum-told-14
+enum-told-14 c = search needs
+
+plain-requires-13 : tie.Need-plain-requires-13
+plain-requires-13 c κs = search needs
 
 same-length : tie.Need-same-length
 same-length c = search needs
@@ -208,89 +217,102 @@ returns-6 c =
 returns-7 : tie.Need-returns-7
 returns-7 c =
     let c1 = c .before in
-    let alone3 = c1 .alone3 in
+    let state = c1 .state in
     let c2 = c1 .before in
     let enum-told7 = c2 .enum-told7 in
     let args = c2 .before .before .before .before .args in (
-      by-plain (args .buffer .now) (c .plain7 .result) (c .plain7 .ensures)
-          (λ p. alone-means (args .whole) p _ _ (alone3 .result) (alone3 .ensures)) ∙ sym
+      by-plain (args .buffer .now) (c .plain7 .result) (c .plain7 .ensures) (λ p. state .ensures .0 p _) ∙ sym
           (ap (λ (n : Name). callBy n (args .whole) (args .words .now)) (enum-told7 .given .1)),
       by-bounded (c .plain7 .result)
-          (c .plain7 .ensures) (alone-bounded (args .whole) _ (alone3 .result) (alone3 .ensures) tt),
+          (c .plain7 .ensures) (state .ensures .1),
     )
 
 returns-8 : tie.Need-returns-8
 returns-8 c =
     let c1 = c .before in
-    let alone4 = c1 .alone4 in
+    let alone3 = c1 .alone3 in
     let c2 = c1 .before in
     let enum-told8 = c2 .enum-told8 in
     let args = c2 .before .before .before .before .args in (
       by-plain (args .buffer .now) (c .plain8 .result) (c .plain8 .ensures)
-          (λ p. alone-means (args .whole) p _ _ (alone4 .result) (alone4 .ensures)) ∙ sym
+          (λ p. alone-means (args .whole) p _ _ (alone3 .result) (alone3 .ensures)) ∙ sym
           (ap (λ (n : Name). callBy n (args .whole) (args .words .now)) (enum-told8 .given .1)),
       by-bounded (c .plain8 .result)
-          (c .plain8 .ensures) (alone-bounded (args .whole) _ (alone4 .result) (alone4 .ensures) tt),
+          (c .plain8 .ensures) (alone-bounded (args .whole) _ (alone3 .result) (alone3 .ensures) tt),
     )
 
 returns-9 : tie.Need-returns-9
 returns-9 c =
     let c1 = c .before in
-    let build = c1 .build in
+    let alone4 = c1 .alone4 in
     let c2 = c1 .before in
     let enum-told9 = c2 .enum-told9 in
     let args = c2 .before .before .before .before .args in (
-      by-plain (args .buffer .now) (c .plain9 .result) (c .plain9 .ensures) (λ p. build .ensures .0 p _) ∙ sym
+      by-plain (args .buffer .now) (c .plain9 .result) (c .plain9 .ensures)
+          (λ p. alone-means (args .whole) p _ _ (alone4 .result) (alone4 .ensures)) ∙ sym
           (ap (λ (n : Name). callBy n (args .whole) (args .words .now)) (enum-told9 .given .1)),
       by-bounded (c .plain9 .result)
-          (c .plain9 .ensures) (build .ensures .1),
+          (c .plain9 .ensures) (alone-bounded (args .whole) _ (alone4 .result) (alone4 .ensures) tt),
+    )
+
+returns-10 : tie.Need-returns-10
+returns-10 c =
+    let c1 = c .before in
+    let build = c1 .build in
+    let c2 = c1 .before in
+    let enum-told10 = c2 .enum-told10 in
+    let args = c2 .before .before .before .before .args in (
+      by-plain (args .buffer .now) (c .plain10 .result) (c .plain10 .ensures) (λ p. build .ensures .0 p _) ∙ sym
+          (ap (λ (n : Name). callBy n (args .whole) (args .words .now)) (enum-told10 .given .1)),
+      by-bounded (c .plain10 .result)
+          (c .plain10 .ensures) (build .ensures .1),
     )
 
 same-length-3 : tie.Need-same-length-3
 same-length-3 c = search needs
 
-returns-10 : tie.Need-returns-10
-returns-10 c =
+returns-11 : tie.Need-returns-11
+returns-11 c =
     let c2 = c .before .before in
     let read = c2 .read in
     let c4 = c2 .before .before in
-    let enum-told10 = c4 .enum-told10 in
+    let enum-told11 = c4 .enum-told11 in
     let args = c4 .before .before .before .before .args in
-    (read .ensures .0 ∙ sym (ap (λ (n : Name). callBy n (args .whole) (args .words .now)) (enum-told10 .given .1)), read .ensures .1)
-
-returns-11 : tie.Need-returns-11
-returns-11 c =
-    let c1 = c .before in
-    let poke = c1 .poke in
-    let c2 = c1 .before in
-    let enum-told11 = c2 .enum-told11 in
-    let args = c2 .before .before .before .before .args in (
-      by-plain (args .buffer .now) (c .plain10 .result) (c .plain10 .ensures) (λ p. poke .ensures .0 p _) ∙ sym
-          (ap (λ (n : Name). callBy n (args .whole) (args .words .now)) (enum-told11 .given .1)),
-      by-bounded (c .plain10 .result)
-          (c .plain10 .ensures) (poke .ensures .1),
-    )
+    (read .ensures .0 ∙ sym (ap (λ (n : Name). callBy n (args .whole) (args .words .now)) (enum-told11 .given .1)), read .ensures .1)
 
 returns-12 : tie.Need-returns-12
 returns-12 c =
     let c1 = c .before in
-    let peek = c1 .peek in
+    let poke = c1 .poke in
     let c2 = c1 .before in
     let enum-told12 = c2 .enum-told12 in
     let args = c2 .before .before .before .before .args in (
-      by-plain (args .buffer .now) (c .plain11 .result) (c .plain11 .ensures) (λ p. peek .ensures .0 p _) ∙ sym
+      by-plain (args .buffer .now) (c .plain11 .result) (c .plain11 .ensures) (λ p. poke .ensures .0 p _) ∙ sym
           (ap (λ (n : Name). callBy n (args .whole) (args .words .now)) (enum-told12 .given .1)),
       by-bounded (c .plain11 .result)
-          (c .plain11 .ensures) (peek .ensures .1),
+          (c .plain11 .ensures) (poke .ensures .1),
     )
 
 returns-13 : tie.Need-returns-13
 returns-13 c =
-    let args = c .before .before .before .before .before .args in (
-      by-plain (args .buffer .now) (c .plain12 .result) (c .plain12 .ensures) (λ p. refl) ∙ sym
-          (ap (λ (n : Name). callBy n (args .whole) (args .words .now)) (c .before .enum-told13 .given .1)),
+    let c1 = c .before in
+    let peek = c1 .peek in
+    let c2 = c1 .before in
+    let enum-told13 = c2 .enum-told13 in
+    let args = c2 .before .before .before .before .args in (
+      by-plain (args .buffer .now) (c .plain12 .result) (c .plain12 .ensures) (λ p. peek .ensures .0 p _) ∙ sym
+          (ap (λ (n : Name). callBy n (args .whole) (args .words .now)) (enum-told13 .given .1)),
       by-bounded (c .plain12 .result)
-          (c .plain12 .ensures) (tt),
+          (c .plain12 .ensures) (peek .ensures .1),
+    )
+
+returns-14 : tie.Need-returns-14
+returns-14 c =
+    let args = c .before .before .before .before .before .args in (
+      by-plain (args .buffer .now) (c .plain13 .result) (c .plain13 .ensures) (λ p. refl) ∙ sym
+          (ap (λ (n : Name). callBy n (args .whole) (args .words .now)) (c .before .enum-told14 .given .1)),
+      by-bounded (c .plain13 .result)
+          (c .plain13 .ensures) (tt),
     )
 
 pub by-name-spec : {M : Type 1} → statement M
@@ -316,24 +338,27 @@ by-name-spec =
     close-requires
     plain-requires-6
     enum-told-7
-    alone-requires-3
+    state-requires
     plain-requires-7
     enum-told-8
-    alone-requires-4
+    alone-requires-3
     plain-requires-8
     enum-told-9
-    build-requires
+    alone-requires-4
     plain-requires-9
     enum-told-10
-    read-requires
-    enum-told-11
-    poke-requires
+    build-requires
     plain-requires-10
+    enum-told-11
+    read-requires
     enum-told-12
-    peek-requires
+    poke-requires
     plain-requires-11
     enum-told-13
+    peek-requires
     plain-requires-12
+    enum-told-14
+    plain-requires-13
     same-length
     returns
     returns-2
@@ -345,8 +370,9 @@ by-name-spec =
     returns-7
     returns-8
     returns-9
-    same-length-3
     returns-10
+    same-length-3
     returns-11
     returns-12
-    returns-13)
+    returns-13
+    returns-14)

@@ -9,10 +9,11 @@ use lib.Dec.{eqb, leb, ltb}
 use lib.ListN.{length, take, set, getD}
 use lib.Seq.{take-suc-set}
 use borrow.Author.Tests.{eq-eqb, ne-eqb, le-leb, lt-leb, lt-ltb, le-ltb}
+use Rattle.matching.specs.Words.{same}
 use Rattle.script.specs.Words.{reach, wordOf, behind, skipped}
 use Rattle.script.specs.Bytes.{BytesOf, these, noBytes, bytesOf}
 use Rattle.script.specs.Numbers.{numberOf}
-use Rattle.script.specs.Calls.{CallOf, passedOver, notACall, callPeek, peekBy, NumbersOf, numbersAre, noNumbers, placeBy, placeOf, machinesOf, placeIn, readBy, readFrom, readOver, callRead, layoutOf, meant, Bounded, alone, nameOf, callBy, callOf}
+use Rattle.script.specs.Calls.{CallOf, passedOver, notACall, callPeek, peekBy, NumbersOf, numbersAre, noNumbers, placeBy, placeOf, machinesOf, placeIn, readBy, readFrom, readOver, callRead, layoutOf, meant, Bounded, alone, nameOf, Row, callBy, callOf}
 use Rattle.script.specs.declared.Call.{Call}
 use Rattle.script.specs.declared.Call.the-variants.{NotACall}
 use Rattle.script.specs.declared.Layout.{Layout}
@@ -160,3 +161,7 @@ over-both layout w count room e f = rw (e, f)
 
 pub layout-said : (u : List ℕ) {v : List ℕ} {r : Layouts} (x : Layouts) → r ≡ layoutOf v → v ≡ u → r ≡ x → layoutOf u ≡ x
 layout-said u x f e g = sym (ap layoutOf e) ∙ sym f ∙ g
+
+-- a row of names above others
+pub row : {word call : List ℕ} {name other below r : Name} → Row word call name other r → other ≡ below → r ≡ cond (same word call) name below
+row {word} {call} {name} e q = e .is ∙ ap (cond (same word call) name) q

@@ -2,24 +2,27 @@
 use Rattle.tables.specs.declared.Built.the-variants as B
 use Rattle.tables.specs.declared.Needed.the-variants as N
 use Prim.Native.Nat.{_+_, _<_, _≤_, max, suc, zero, ℕ}
-use mathlib.Core.List.{List}
+use mathlib.Core.Bool.{false, true}
+use mathlib.Core.List.{List, [], _∷_}
 use mathlib.Core.Logic.{_↔_}
 use mathlib.Core.Path.{_∙_, _≡_, ap, refl, subst, sym}
 use native.Mathlib.Decide.{decLt, ℕ-discrete}
 use native.Mathlib.Omega.{arith}
-use lib.ListN.{set}
+use lib.Dec.{eqb}
+use lib.ListN.{getD, set}
 use Rattle.matching.specs.Laws.Built.{enough-iff}
 use Rattle.matching.specs.Laws.Tables.{Judged, Lowest, all-fit, judged, one-short}
 use Rattle.matching.specs.Machine.{states}
 use Rattle.matching.specs.Table.{Room, enoughSlots, roomFrom, shortOfSlots, slotsIn, tagsFor}
 use Rattle.matching.specs.Words.{Word}
-use Rattle.tables.specs.Building.{builtBy, builtNumber, builtOf, builtValues, mostStates, neededBy, neededOf, onSet}
-use Rattle.tables.specs.Refusals.{Answers, Builds, Enough, TooFewSlots, aFault, aTable, aTags}
+use Rattle.tables.specs.Building.{builtBy, builtNumber, builtOf, builtValues, mostStates, neededBy, neededNumber, neededOf, neededValues, onSet}
+use Rattle.tables.specs.Refusals.{Answers, BuildExact, Builds, Enough, NeedsAs, TooFewSlots, aFault, aTable, aTags, needsNone, needsSlots}
 use Rattle.tables.specs.declared.Built.{Built}
 use Rattle.tagset.specs.Grammar.{SetOf, setOf}
-use Rattle.tagset.specs.Laws.Exact.{SetCase, accepted-iff, isBad, isGood, refused-iff, set-case}
-use Rattle.tagset.specs.Refusals.{Accepted, Refused}
+use Rattle.tagset.specs.Laws.Exact.{SetCase, accepted-iff, as-fault, isBad, isGood, numbered-as, refused-iff, set-case}
+use Rattle.tagset.specs.Refusals.{Accepted, Refused, RefusedAs, cutAs, emptyAs, kindAs, lengthAs, manyAs, repeatAs}
 use Rattle.tagset.specs.declared.SetFault.{SetFault}
+use Rattle.tagset.specs.declared.SetFault.the-variants.{Cut, Empty, Kind, Length, Many, Repeat}
 
 -- ---- the lowest machine is one
 
@@ -116,14 +119,70 @@ module _ (n k : ℕ) (bytes : List ℕ) (len : ℕ) where
       go b c en ev = subst (λ (l : List ℕ). Answers n k bytes len number l) ev (subst (λ (x : ℕ). Answers n k bytes len x (builtValues b)) en (says b c))
         where
           says : (b : Built) → BuiltCase b → Answers n k bytes len (builtNumber b) (builtValues b)
-          says b (isFault r) = aFault r
+          says b (isFault {fault} r) = aFault (numbered-as bytes fault r)
           says b (isTable t) = aTable t
           says b (isTags t) = aTags t
 
       back : (j : ℕ) (l : List ℕ) → Answers n k bytes len j l → (builtNumber (builtOf n k bytes len) ≡ j) × (builtValues (builtOf n k bytes len) ≡ l)
-      back j l (aFault r) = (ap builtNumber (fault-so r), ap builtValues (fault-so r))
+      back j l (aFault r) =
+          let f = as-fault bytes j l r in
+          let e = fault-so (refused-iff bytes (f .fault) .0 (f .refused)) in
+          (ap builtNumber e ∙ f .number-is, ap builtValues e ∙ f .values-are)
       back j l (aTable t) = (ap builtNumber (table-so t), ap builtValues (table-so t))
       back j l (aTags t) = (ap builtNumber (tags-so t), ap builtValues (tags-so t))
+
+  -- what the row of a number says, by the number
+  abbrev Row : ℕ → List ℕ → Type 0
+  Row j l =
+      let entry = getD l 0 0 in
+      elim (eqb j 0) [
+        | true ↦ Builds n k bytes len entry
+        | false ↦ elim (eqb j 1) [
+          | true ↦ Refused bytes (Cut entry)
+          | false ↦ elim (eqb j 2) [
+            | true ↦ (entry ≡ 16) × Refused bytes (Many 16)
+            | false ↦ elim (eqb j 3) [
+              | true ↦ Refused bytes (Kind entry)
+              | false ↦ elim (eqb j 4) [
+                | true ↦ Refused bytes (Length entry)
+                | false ↦ elim (eqb j 5) [
+                  | true ↦ (entry ≡ 0) × Refused bytes Empty
+                  | false ↦ elim (eqb j 6) [ true ↦ Refused bytes (Repeat entry) | false ↦ TooFewSlots n k bytes len entry (getD l 1 0) ]
+                ]
+              ]
+            ]
+          ]
+        ]
+      ]
+
+  row : (j : ℕ) (l : List ℕ) → Answers n k bytes len j l → Row j l
+  row j l (aTags t) = t
+  row j l (aFault (cutAs r)) = r
+  row j l (aFault (manyAs r)) = (refl, r)
+  row j l (aFault (kindAs r)) = r
+  row j l (aFault (lengthAs r)) = r
+  row j l (aFault (emptyAs r)) = (refl, r)
+  row j l (aFault (repeatAs r)) = r
+  row j l (aTable t) = t
+
+  -- THE TABLE OF REFUSALS FOR BUILDING, number by number
+  pub build-exact : BuildExact n k bytes len (builtNumber (builtOf n k bytes len)) (builtValues (builtOf n k bytes len))
+  build-exact = record {
+    done = λ c. (λ e. row 0 (c ∷ []) (number-iff _ _ .0 e), λ t. number-iff _ _ .1 (aTags t));
+    cut = λ i. (λ e. row 1 (i ∷ []) (number-iff _ _ .0 e), λ r. number-iff _ _ .1 (aFault (cutAs r)));
+    many = λ i. (λ e. row 2 (i ∷ []) (number-iff _ _ .0 e), λ r. number-iff _ _ .1 (aFault (sixteenth i (r .0) (manyAs (r .1)))));
+    kind = λ i. (λ e. row 3 (i ∷ []) (number-iff _ _ .0 e), λ r. number-iff _ _ .1 (aFault (kindAs r)));
+    length = λ i. (λ e. row 4 (i ∷ []) (number-iff _ _ .0 e), λ r. number-iff _ _ .1 (aFault (lengthAs r)));
+    empty = λ i. (λ e. row 5 (i ∷ []) (number-iff _ _ .0 e), λ r. number-iff _ _ .1 (aFault (none i (r .0) (emptyAs (r .1)))));
+    repeat = λ i. (λ e. row 6 (i ∷ []) (number-iff _ _ .0 e), λ r. number-iff _ _ .1 (aFault (repeatAs r)));
+    table = λ m s. (λ e. row 7 (m ∷ s ∷ []) (number-iff _ _ .0 e), λ t. number-iff _ _ .1 (aTable t));
+  }
+    where
+      sixteenth : (i : ℕ) → i ≡ 16 → RefusedAs bytes 2 (16 ∷ []) → RefusedAs bytes 2 (i ∷ [])
+      sixteenth i e r = subst (λ (x : ℕ). RefusedAs bytes 2 (x ∷ [])) (sym e) r
+
+      none : (i : ℕ) → i ≡ 0 → RefusedAs bytes 5 (0 ∷ []) → RefusedAs bytes 5 (i ∷ [])
+      none i e r = subst (λ (x : ℕ). RefusedAs bytes 5 (x ∷ [])) (sym e) r
 
 -- ---- the slots that a set needs
 
@@ -158,3 +217,23 @@ needed-slots-iff bytes split whole = (λ e. go (setOf bytes) (set-case bytes) e,
     go : (s : SetOf) → SetCase bytes s → neededBy s ≡ N.Slots split whole → (ts : List Word) × (Accepted bytes ts) × (split ≡ mostStates 1 ts 0 8) × (whole ≡ mostStates 8 ts 0 1)
     go s (isBad r) e = let z : _≡_ {A = ℕ} 0 1 = cc in absurd (omega arith)
     go s (isGood {ts} a) e = (ts, a, (cc), (cc))
+
+-- EACH NUMBER IS GIVEN WITH ITS VALUES EXACTLY IF ITS ROW SAYS SO
+pub needed-number-iff : (bytes : List ℕ) (number : ℕ) (values : List ℕ)
+    → ((neededNumber (neededOf bytes) ≡ number) × (neededValues (neededOf bytes) ≡ values)) ↔ NeedsAs bytes number values
+unfolding neededOf
+needed-number-iff bytes number values = (λ e. there (setOf bytes) (set-case bytes) (e .0) (e .1), back number values)
+  where
+    says : (s : SetOf) → SetCase bytes s → NeedsAs bytes (neededNumber (neededBy s)) (neededValues (neededBy s))
+    says s (isBad {fault} r) = needsNone (numbered-as bytes fault r)
+    says s (isGood a) = needsSlots a
+
+    there : (s : SetOf) → SetCase bytes s → neededNumber (neededBy s) ≡ number → neededValues (neededBy s) ≡ values → NeedsAs bytes number values
+    there s c en ev =
+        subst (λ (l : List ℕ). NeedsAs bytes number l) ev (subst (λ (x : ℕ). NeedsAs bytes x (neededValues (neededBy s))) en (says s c))
+
+    back : (j : ℕ) (l : List ℕ) → NeedsAs bytes j l → (neededNumber (neededBy (setOf bytes)) ≡ j) × (neededValues (neededBy (setOf bytes)) ≡ l)
+    back j l (needsNone r) =
+        let f = as-fault bytes j l r in
+        rw (f .refused) (f .number-is, f .values-are)
+    back j l (needsSlots {ts} a) = rw (accepted-iff bytes ts .1 a) (refl, refl)

@@ -7,12 +7,13 @@ use native.Mathlib.Decide.{ℕ-discrete}
 use native.Mathlib.Omega.{arith}
 use lib.ListN.{length, length-append}
 use Rattle.matching.specs.Words.{Word}
+use Rattle.tagset.specs.Answer.{faultNumber, faultValues}
 use Rattle.tagset.specs.Grammar.{SetOf, badSet, distinct, entriesFrom, goodSet, onTags, setOf}
 use Rattle.tagset.specs.Laws.Distinct.{DistinctCase, distinct-case, distinct-first, distinct-none, noneRepeats, oneRepeats}
 use Rattle.tagset.specs.Laws.Entries.{EntriesCase, allPassed, entries-case, oneFails, passed-all, passed-fails}
-use Rattle.tagset.specs.Refusals.{Accepted, Passed, Refused, atFront, entryFails, noBytes, oneMore, payload, tagRepeats}
+use Rattle.tagset.specs.Refusals.{Accepted, Fails, Passed, Refused, RefusedAs, atFront, cutAs, emptyAs, entryFails, fewerThanFour, kindAs, lengthAs, manyAs, noBytes, oneMore, otherKind, payload, repeatAs, seventeenth, shortPayload, tagRepeats, wrongLength}
 use Rattle.tagset.specs.declared.SetFault.{SetFault}
-use Rattle.tagset.specs.declared.SetFault.the-variants.{Empty}
+use Rattle.tagset.specs.declared.SetFault.the-variants.{Cut, Empty, Kind, Length, Many, Repeat}
 
 -- ---- what the document says, the definition does
 
@@ -80,3 +81,51 @@ refused-iff bytes fault = (refused-only bytes fault (setOf bytes) (set-case byte
 -- a set is accepted with these tags exactly if none does
 pub accepted-iff : (bytes : List ℕ) (ts : List Word) → (setOf bytes ≡ goodSet ts) ↔ Accepted bytes ts
 accepted-iff bytes ts = (accepted-only bytes ts (setOf bytes) (set-case bytes), accepted-so bytes ts)
+
+-- ---- and with its number
+
+-- MANY is only ever of entry 16
+many-sixteenth : {bytes : List ℕ} {fault : SetFault} → Refused bytes fault → (k : ℕ) → fault ≡ Many k → k ≡ 16
+many-sixteenth (noBytes h) k e = let z : _≡_ {A = ℕ} 0 1 = cc in absurd (omega arith)
+many-sixteenth (tagRepeats h p r) k e = let z : _≡_ {A = ℕ} 0 1 = cc in absurd (omega arith)
+many-sixteenth (entryFails p h f) k e = go f e
+  where
+    go : {i : ℕ} {left : List ℕ} {fault : SetFault} → Fails i left fault → fault ≡ Many k → k ≡ 16
+    go (fewerThanFour h) e = let z : _≡_ {A = ℕ} 0 1 = cc in absurd (omega arith)
+    go (seventeenth h q) e = cc
+    go (otherKind h n d) e = let z : _≡_ {A = ℕ} 0 1 = cc in absurd (omega arith)
+    go (wrongLength h n d w) e = let z : _≡_ {A = ℕ} 0 1 = cc in absurd (omega arith)
+    go (shortPayload h n d s l r) e = let z : _≡_ {A = ℕ} 0 1 = cc in absurd (omega arith)
+
+-- a fault, under its number and with its values, is a row of the table
+pub numbered-as : (bytes : List ℕ) (fault : SetFault) → Refused bytes fault → RefusedAs bytes (faultNumber fault) (faultValues fault)
+numbered-as bytes (Cut k) r = cutAs r
+numbered-as bytes (Many k) r = subst (λ (i : ℕ). Refused bytes (Many i) → RefusedAs bytes 2 (i ∷ [])) (sym (many-sixteenth r k refl)) manyAs r
+numbered-as bytes (Kind k) r = kindAs r
+numbered-as bytes (Length k) r = lengthAs r
+numbered-as bytes Empty r = emptyAs r
+numbered-as bytes (Repeat k) r = repeatAs r
+
+-- a fault that a set is refused for, with this number and these values
+pub record FaultWith (bytes : List ℕ) (number : ℕ) (values : List ℕ) : Type 0 where
+  pub fault : SetFault
+  pub refused : setOf bytes ≡ badSet fault
+  pub number-is : faultNumber fault ≡ number
+  pub values-are : faultValues fault ≡ values
+
+pub as-fault : (bytes : List ℕ) (number : ℕ) (values : List ℕ) → RefusedAs bytes number values → FaultWith bytes number values
+as-fault bytes number values (cutAs {entry} r) = record { fault = Cut entry; refused = refused-so bytes _ r; number-is = refl; values-are = refl }
+as-fault bytes number values (manyAs r) = record { fault = Many 16; refused = refused-so bytes _ r; number-is = refl; values-are = refl }
+as-fault bytes number values (kindAs {entry} r) = record { fault = Kind entry; refused = refused-so bytes _ r; number-is = refl; values-are = refl }
+as-fault bytes number values (lengthAs {entry} r) = record { fault = Length entry; refused = refused-so bytes _ r; number-is = refl; values-are = refl }
+as-fault bytes number values (emptyAs r) = record { fault = Empty; refused = refused-so bytes _ r; number-is = refl; values-are = refl }
+as-fault bytes number values (repeatAs {entry} r) = record { fault = Repeat entry; refused = refused-so bytes _ r; number-is = refl; values-are = refl }
+
+-- EACH NUMBER OF THE TABLE IS A REFUSED SET'S, WITH ITS ENTRY, EXACTLY IF ITS ROW SAYS SO
+pub refused-as-iff : (bytes : List ℕ) (number : ℕ) (values : List ℕ) → FaultWith bytes number values ↔ RefusedAs bytes number values
+refused-as-iff bytes number values = (there, as-fault bytes number values)
+  where
+    there : FaultWith bytes number values → RefusedAs bytes number values
+    there f =
+        subst (λ (l : List ℕ). RefusedAs bytes number l) (f .values-are)
+        (subst (λ (x : ℕ). RefusedAs bytes x (faultValues (f .fault))) (f .number-is) (numbered-as bytes (f .fault) (refused-iff bytes (f .fault) .0 (f .refused))))

@@ -4,7 +4,7 @@
 use second::script::{parse, Call, TABLE_BUFFER};
 use second::table::Layout;
 use sleetbarley::lent::{self, LentDesk, Reading, SPLIT_TABLE};
-use sleetbarley::{Fed, Refusal, Serial, Ticket};
+use sleetbarley::{Fed, Refusal, Serial, Ticket, TicketState};
 use std::fmt::Display;
 
 /// What a list holds before a read.
@@ -66,6 +66,7 @@ impl Replay {
                 self.desk.close(Serial(serial))?;
                 format!("closed {serial}")
             }
+            Call::State(serial) => stated(serial, self.desk.state(Serial(serial))),
             Call::Take => record(self.desk.take()?),
             Call::Show => return Ok(self.show()),
             Call::Build(Layout::Split) => format!("tags {}", lent::build_split(&self.set, lent)?),
@@ -118,6 +119,16 @@ impl Replay {
 
 pub fn fed(fed: Fed) -> String {
     format!("taken {} stop {}", fed.taken, fed.stop)
+}
+
+pub fn stated(serial: u32, state: TicketState) -> String {
+    let state = match state {
+        TicketState::Never => "never".to_string(),
+        TicketState::Closed => "closed".to_string(),
+        TicketState::Stale { edition, taken } => format!("stale {edition} {taken}"),
+        TicketState::Open { edition, taken } => format!("open {edition} {taken}"),
+    };
+    format!("state {serial} {state}")
 }
 
 pub fn record(record: sleetbarley::Record) -> String {

@@ -1,7 +1,7 @@
 //! The desk that owns its table, against the second program: generated scripts without the calls
 //! that change or lend a table, each with the answers of both.
 
-use library_replay::{fed, record, refused, shown};
+use library_replay::{fed, record, refused, shown, stated};
 use second::differ::answers;
 use second::generate::script;
 use second::script::{parse, Call};
@@ -30,7 +30,7 @@ fn answer(desk: &mut Desk, set: &mut Vec<u8>, call: Call) -> Result<Vec<String>,
             format!("set {}", set.len())
         }
         Call::Replace => {
-            let now = desk.replace(&set)?;
+            let now = desk.replace_bytes(set)?;
             format!("edition {} tags {}", now.edition, now.tags)
         }
         Call::Open => format!("serial {}", desk.open()?),
@@ -39,6 +39,7 @@ fn answer(desk: &mut Desk, set: &mut Vec<u8>, call: Call) -> Result<Vec<String>,
             desk.close(Serial(serial))?;
             format!("closed {serial}")
         }
+        Call::State(serial) => stated(serial, desk.state(Serial(serial))),
         Call::Take => record(desk.take()?),
         _ => {
             let (edition, serial) = (desk.edition().0, desk.last_serial().0);

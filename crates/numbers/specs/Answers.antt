@@ -1,0 +1,82 @@
+-- Answers as numbers, for C and Rust: the number of a refusal in the document's table and what is returned with it; or 0 and what the call gives.
+use Rattle.reading.specs.declared.Ending.the-variants as E
+use Prim.Native.Nat.{ℕ}
+use mathlib.Core.List.{List, [], _∷_}
+use lib.ListN.{getD}
+use Rattle.desk.specs.Numbers.{closeNumber, closeValues, feedNumber, feedValues, openNumber, openValues, replaceNumber, replaceValues, stateValues, stopNumber, takeNumber, takeValues}
+use Rattle.desk.specs.declared.CloseAnswer.{CloseAnswer}
+use Rattle.desk.specs.declared.FeedAnswer.{FeedAnswer}
+use Rattle.desk.specs.declared.OpenAnswer.{OpenAnswer}
+use Rattle.desk.specs.declared.ReplaceAnswer.{ReplaceAnswer}
+use Rattle.desk.specs.declared.StateAnswer.{StateAnswer}
+use Rattle.desk.specs.declared.TakeAnswer.{TakeAnswer}
+use Rattle.gate.specs.Numbers.{pieceNumber, pieceValues, verdictNumber, verdictValues}
+use Rattle.gate.specs.declared.PieceAnswer.{PieceAnswer}
+use Rattle.gate.specs.declared.Verdict.{Verdict}
+use Rattle.numbers.specs.declared.Answer.{Answer}
+use Rattle.reading.specs.Outside.{readNumber, readValues}
+use Rattle.reading.specs.declared.Ending.{Ending}
+use Rattle.reading.specs.declared.SplitAnswer.{SplitAnswer}
+use Rattle.reading.specs.declared.WholeAnswer.{WholeAnswer}
+use Rattle.tables.specs.Building.{builtNumber, builtValues, neededNumber, neededValues}
+use Rattle.tables.specs.declared.Built.{Built}
+use Rattle.tables.specs.declared.Needed.{Needed}
+
+-- a number and up to seven values; those that there aren't are 0
+abbrev pub answerOf : ℕ → List ℕ → Answer
+answerOf n values = record {
+  refusal = n;
+  a = getD values 0 0;
+  b = getD values 1 0;
+  c = getD values 2 0;
+  d = getD values 3 0;
+  e = getD values 4 0;
+  f = getD values 5 0;
+  g = getD values 6 0;
+}
+
+-- building: the number of tags, or what is returned with its refusal
+abbrev pub builtAnswer : Built → Answer
+builtAnswer r = answerOf (builtNumber r) (builtValues r)
+
+-- the size query: the slots of the split and of the whole-byte layout
+abbrev pub neededAnswer : Needed → Answer
+neededAnswer r = answerOf (neededNumber r) (neededValues r)
+
+-- the desk's calls, each by the desk's own numbers and values
+abbrev pub replaceAnswer : ReplaceAnswer → Answer
+replaceAnswer r = answerOf (replaceNumber r) (replaceValues r)
+
+abbrev pub openAnswer : OpenAnswer → Answer
+openAnswer r = answerOf (openNumber r) (openValues r)
+
+abbrev pub feedAnswer : FeedAnswer → Answer
+feedAnswer r = answerOf (feedNumber r) (feedValues r)
+
+abbrev pub closeAnswer : CloseAnswer → Answer
+closeAnswer r = answerOf (closeNumber r) (closeValues r)
+
+abbrev pub takeAnswer : TakeAnswer → Answer
+takeAnswer r = answerOf (takeNumber r) (takeValues r)
+
+-- the state of a ticket, never refused
+abbrev pub stateAnswer : StateAnswer → Answer
+stateAnswer r = answerOf 0 (stateValues r)
+
+-- the gate's calls, each by the gate's own numbers and values; its replacing and beginning answer as the desk does
+abbrev pub pieceAnswer : PieceAnswer → Answer
+pieceAnswer r = answerOf (pieceNumber r) (pieceValues r)
+
+abbrev pub verdictAnswer : Verdict → Answer
+verdictAnswer r = answerOf (verdictNumber r) (verdictValues r)
+
+-- a read outside: the bytes taken, why it stopped, and the records written
+abbrev pub readAnswer : ℕ → ℕ → Ending → Answer
+readAnswer count records (E.Stopped stop) = answerOf 0 (count ∷ stopNumber stop ∷ records ∷ [])
+readAnswer count records (E.Refused why) = answerOf (readNumber why) (readValues why)
+
+abbrev pub splitSaid : SplitAnswer → Answer
+splitSaid r = readAnswer (r .taken) (r .records) (r .ending)
+
+abbrev pub wholeSaid : WholeAnswer → Answer
+wholeSaid r = readAnswer (r .taken) (r .records) (r .ending)

@@ -1,0 +1,364 @@
+//! The gate: the one way to decide about approvals.
+
+use crate::kept::Kept;
+use crate::lent::{tickets_of, SPLIT_SLOT, SPLIT_TABLE};
+use crate::numbers::{Edition, Replaced, Serial, Tag, Ticket, TicketState};
+use crate::raw::GateImage;
+use crate::refusal::Refusal;
+use crate::set::TagSet;
+use crate::text::escaped;
+use std::fmt::{self, Debug, Display, Formatter};
+
+/// Slots beyond these are never used.
+const MOST_SLOTS: usize = 513;
+
+/// A gate: it reads up to 16 approvals side by side, and decides about each.
+///
+/// An approval is begun, handed in piece by piece, and decided. However it was cut and whatever came
+/// between, after any history of calls [`Gate::decide`] answers [`Verdict::Pass`] exactly if no
+/// replacement was accepted since the approval began, every byte handed in was taken, and no tag of
+/// the set in force ends anywhere in those bytes. That is proved (`docs/PROMISES.md`).
+///
+/// The gate owns its table, notes each record for its own approval, and frees the approval's ticket
+/// when it decides, so there is no list to empty and no ticket to close. It can't be cloned: a copy
+/// would decide by a set that was replaced on the other.
+///
+/// ```
+/// use sleetbarley::{Edition, Gate, Piece, Refusal, TagSet, Verdict};
+///
+/// let mut gate = Gate::new();
+/// gate.replace(&TagSet::new(["preview-17", "preview-23"])?)?;
+///
+/// // A tag across two pieces.
+/// let north = gate.begin()?;
+/// assert_eq!(gate.piece(north, b"approved: crown 26, from prev")?, Piece::Read);
+/// assert_eq!(gate.piece(north, b"iew-17, for Monday")?, Piece::Read);
+/// match gate.decide(north)? {
+///     Verdict::Hold(held) => assert_eq!(held.to_string(), "preview-17 (tag 0 of edition 1)"),
+///     other => panic!("{other}"),
+/// }
+///
+/// // Read whole and without a tag; but the set is replaced before the decision.
+/// let south = gate.begin()?;
+/// gate.piece(south, b"approved: bridge 4, from preview-31")?;
+/// gate.replace(&TagSet::new(["preview-17", "preview-23", "preview-31"])?)?;
+/// assert_eq!(gate.decide(south)?, Verdict::Stale { edition: Edition(1) });
+///
+/// // So it is read again, from its first byte.
+/// let again = gate.begin()?;
+/// gate.piece(again, b"approved: bridge 4, from preview-31")?;
+/// assert!(!gate.decide(again)?.passes());
+///
+/// // A serial is decided once.
+/// assert_eq!(gate.decide(again), Err(Refusal::NoTicket));
+/// # Ok::<(), Refusal>(())
+/// ```
+pub struct Gate {
+    // An image has 4,832 bytes.
+    image: Box<GateImage>,
+    table: Box<[u16]>,
+    kept: Kept,
+}
+
+impl Default for Gate {
+    fn default() -> Gate {
+        Gate::new()
+    }
+}
+
+impl Gate {
+    /// A new gate, with no set in force, and a table that is enough for every set: 22,992 bytes.
+    pub fn new() -> Gate {
+        Gate::with_slots(SPLIT_TABLE / SPLIT_SLOT)
+    }
+
+    /// A new gate with a table of so many slots, 48 bytes each. A set that needs more is refused as
+    /// [`Refusal::Table`]; [`TagSet::split_slots`] says what it needs.
+    pub fn with_slots(slots: usize) -> Gate {
+        Gate {
+            image: Box::new(GateImage::new()),
+            table: vec![0; slots.min(MOST_SLOTS) * SPLIT_SLOT].into(),
+            kept: Kept::default(),
+        }
+    }
+
+    /// Puts a set in force. Every approval that isn't decided yet is stale from now on.
+    ///
+    /// A refused set changes nothing: the old one stays in force.
+    ///
+    /// A string is no set, so this doesn't compile:
+    ///
+    /// ```compile_fail,E0308
+    /// let mut gate = sleetbarley::Gate::new();
+    /// gate.replace("preview-17");
+    /// ```
+    pub fn replace(&mut self, set: &TagSet) -> Result<Replaced, Refusal> {
+        let replaced = self.install(set.as_bytes())?;
+        self.keep(replaced, set.clone());
+        Ok(replaced)
+    }
+
+    /// Puts in force the set that stands in these bytes, as [`TagSet::from_bytes`] reads them: what
+    /// a file has that `sleet-set make` wrote.
+    ///
+    /// ```
+    /// use sleetbarley::{Gate, Refusal};
+    ///
+    /// let mut gate = Gate::new();
+    /// assert_eq!(gate.replace_bytes(b"\x02\0\x01\0he")?.tags, 1);
+    /// // The bytes of a tag alone are no set.
+    /// assert_eq!(gate.replace_bytes(b"preview-17"), Err(Refusal::Kind { entry: 0 }));
+    /// # Ok::<(), Refusal>(())
+    /// ```
+    pub fn replace_bytes(&mut self, set: &[u8]) -> Result<Replaced, Refusal> {
+        let replaced = self.install(set)?;
+        self.keep(replaced, TagSet::accepted(set));
+        Ok(replaced)
+    }
+
+    fn install(&mut self, set: &[u8]) -> Result<Replaced, Refusal> {
+        Refusal::or(self.image.replace(set, &mut self.table)).map(Replaced::of)
+    }
+
+    /// Lets go the sets that no undecided approval was begun under.
+    fn keep(&mut self, replaced: Replaced, set: TagSet) {
+        let undecided = self.approvals();
+        let wanted = |edition| undecided.iter().any(|one| one.edition == edition);
+        self.kept.put(replaced, set, wanted);
+    }
+
+    /// Begins an approval.
+    ///
+    /// Refused as [`Refusal::NoSet`] before the first set, and as [`Refusal::NoRoom`] where 16
+    /// approvals are not decided: decide one, a stale one too, and it has room again.
+    pub fn begin(&mut self) -> Result<Serial, Refusal> {
+        let said = Refusal::or(self.image.begin())?;
+        Ok(Serial(said.a as u32))
+    }
+
+    /// Hands in a piece of an approval. Whatever it answers, [`Gate::decide`] knows of it: who
+    /// overlooks a cut, or that the approval is stale, can't pass it.
+    ///
+    /// Refused as [`Refusal::Stale`] where the set was replaced since the approval began: decide it,
+    /// begin it anew and hand in all of it, from its first byte.
+    pub fn piece(&mut self, serial: Serial, piece: &[u8]) -> Result<Piece, Refusal> {
+        let said = Refusal::or(self.image.piece(serial.0, &self.table, piece))?;
+        let taken = said.b as usize;
+        Ok(match said.a {
+            1 => Piece::Read,
+            _ => Piece::Cut { taken },
+        })
+    }
+
+    /// Decides about an approval, and frees its room. Its serial is never given again: a second
+    /// decision is refused as [`Refusal::NoTicket`], and so is a serial that was never given.
+    ///
+    /// Who doesn't look at the verdict is warned:
+    ///
+    /// ```compile_fail
+    /// #![deny(unused_must_use)]
+    /// # use sleetbarley::{Gate, Refusal, Serial};
+    /// fn finish(gate: &mut Gate, serial: Serial) -> Result<(), Refusal> {
+    ///     gate.decide(serial)?;
+    ///     Ok(())
+    /// }
+    /// ```
+    pub fn decide(&mut self, serial: Serial) -> Result<Verdict, Refusal> {
+        let said = Refusal::or(self.image.decide(serial.0))?;
+        Ok(match said.a {
+            1 => Verdict::Pass,
+            2 => Verdict::Hold(self.held(said.b)),
+            3 => Verdict::Stale {
+                edition: Edition(said.b as u32),
+            },
+            4 => Verdict::Unread,
+            other => panic!("the archive isn't the one this crate is for: a verdict of {other}"),
+        })
+    }
+
+    /// The tags of a mask, by the set in force.
+    fn held(&self, mask: u64) -> Held {
+        let edition = self.edition();
+        let bytes = |tag| self.tag_bytes(edition, tag).unwrap_or_default().to_vec();
+        let in_mask = (0..64).filter(|tag| mask >> tag & 1 == 1).map(Tag);
+        Held {
+            edition,
+            tags: in_mask.map(|tag| (tag, bytes(tag))).collect(),
+        }
+    }
+
+    /// The edition of the set in force; 0 where there is none yet.
+    pub fn edition(&self) -> Edition {
+        Edition(self.image.desk.edition)
+    }
+
+    /// The last serial given; 0 where none was.
+    pub fn last_serial(&self) -> Serial {
+        Serial(self.image.desk.serial)
+    }
+
+    /// The approvals that aren't decided yet, by serial.
+    pub fn approvals(&self) -> Vec<Ticket> {
+        tickets_of(&self.image.desk)
+    }
+
+    /// What a serial stands for: an approval that is decided is [`TicketState::Closed`]. This
+    /// decides nothing; an approval that is open may carry a tag.
+    pub fn state(&self, serial: Serial) -> TicketState {
+        TicketState::of(self.image.desk.state(serial.0))
+    }
+
+    /// The set of an edition, where the gate still has it: the set in force, and those under which
+    /// approvals were begun that weren't decided when the set in force came.
+    pub fn set(&self, edition: Edition) -> Option<&TagSet> {
+        self.kept.set(edition)
+    }
+
+    /// The bytes of a tag, by its edition and its number; see [`Gate::set`] for which editions.
+    pub fn tag_bytes(&self, edition: Edition, tag: Tag) -> Option<&[u8]> {
+        self.kept.tag_bytes(edition, tag)
+    }
+}
+
+impl Debug for Gate {
+    fn fmt(&self, f: &mut Formatter) -> fmt::Result {
+        f.debug_struct("Gate")
+            .field("edition", &self.edition())
+            .field("last_serial", &self.last_serial())
+            .field("approvals", &self.approvals())
+            .field("slots", &(self.table.len() / SPLIT_SLOT))
+            .finish()
+    }
+}
+
+/// What an accepted piece gives.
+#[derive(Clone, Copy, Debug, PartialEq, Eq, Hash)]
+pub enum Piece {
+    /// Every byte of it was taken.
+    Read,
+    /// Only so many bytes of it were taken, for an approval has at most 4,294,967,295. It can no
+    /// longer pass.
+    Cut {
+        /// How many bytes of the piece were taken.
+        taken: usize,
+    },
+}
+
+/// What is decided about an approval. Only [`Verdict::Pass`] lets it pass.
+#[derive(Clone, Debug, PartialEq, Eq, Hash)]
+#[must_use = "an approval passes only where this is Verdict::Pass"]
+pub enum Verdict {
+    /// It was begun under the set in force and read whole, and carries no tag of it.
+    Pass,
+    /// It carries tags of the set in force.
+    Hold(Held),
+    /// The set was replaced after it was begun, so it wasn't read under the set in force. Begin it
+    /// anew and hand in all of it, from its first byte.
+    Stale {
+        /// The edition under which it was begun.
+        edition: Edition,
+    },
+    /// Not every byte handed in was taken, so nobody knows what it carries.
+    Unread,
+}
+
+impl Verdict {
+    /// Whether the approval passes: true for [`Verdict::Pass`] alone.
+    pub fn passes(&self) -> bool {
+        matches!(self, Verdict::Pass)
+    }
+}
+
+impl Display for Verdict {
+    fn fmt(&self, f: &mut Formatter) -> fmt::Result {
+        match self {
+            Verdict::Pass => write!(f, "pass"),
+            Verdict::Hold(held) => write!(f, "hold: it carries {held}"),
+            Verdict::Stale { edition } => write!(
+                f,
+                "stale: it was begun under edition {edition}, which was replaced; read it again"
+            ),
+            Verdict::Unread => write!(f, "unread: not every byte handed in was taken"),
+        }
+    }
+}
+
+/// The tags for which an approval is held, by number: one at least.
+#[derive(Clone, Debug, PartialEq, Eq, Hash)]
+pub struct Held {
+    edition: Edition,
+    tags: Vec<(Tag, Vec<u8>)>,
+}
+
+impl Held {
+    /// The edition of the set in force at the decision; the tags are numbers of that set.
+    pub fn edition(&self) -> Edition {
+        self.edition
+    }
+
+    /// Each tag's number and its bytes, by number.
+    pub fn tags(&self) -> impl Iterator<Item = (Tag, &[u8])> {
+        self.tags.iter().map(|(tag, bytes)| (*tag, &bytes[..]))
+    }
+
+    /// Bit i is 1 where tag i is among them.
+    pub fn mask(&self) -> u64 {
+        self.tags.iter().fold(0, |mask, (tag, _)| mask | 1 << tag.0)
+    }
+}
+
+/// Each tag in the text form of sets ([`text`](crate::text)), with its number.
+impl Display for Held {
+    fn fmt(&self, f: &mut Formatter) -> fmt::Result {
+        for (at, (tag, bytes)) in self.tags().enumerate() {
+            let between = if at == 0 { "" } else { ", " };
+            let bytes = escaped(bytes);
+            write!(
+                f,
+                "{between}{bytes} (tag {tag} of edition {})",
+                self.edition
+            )?;
+        }
+        Ok(())
+    }
+}
+
+#[cfg(test)]
+mod tests {
+    //! Approvals near the largest count of bytes, which no test can hand in.
+
+    use super::*;
+
+    #[test]
+    fn a_piece_past_the_largest_count_is_cut_and_the_approval_is_unread() {
+        let mut gate = Gate::new();
+        let set = TagSet::new(["he"]).expect("a lawful set");
+        gate.replace(&set).expect("accepted");
+        let serials: Vec<Serial> = (0..3).map(|_| gate.begin().expect("room")).collect();
+        for room in &mut gate.image.desk.tickets {
+            room.taken = u32::MAX - 2;
+        }
+        let said = |gate: &mut Gate, at: usize, piece: &[u8]| gate.piece(serials[at], piece);
+        assert_eq!(said(&mut gate, 0, b"xx"), Ok(Piece::Read));
+        assert_eq!(said(&mut gate, 1, b"he!"), Ok(Piece::Cut { taken: 0 }));
+        assert_eq!(said(&mut gate, 2, b"he"), Ok(Piece::Read));
+        assert_eq!(said(&mut gate, 2, b"!"), Ok(Piece::Cut { taken: 0 }));
+        assert_eq!(said(&mut gate, 1, b"x"), Ok(Piece::Read));
+        assert_eq!(gate.decide(serials[0]), Ok(Verdict::Pass));
+        assert_eq!(gate.decide(serials[1]), Ok(Verdict::Unread));
+        assert_eq!(gate.decide(serials[2]), Ok(Verdict::Unread));
+    }
+
+    #[test]
+    fn a_table_that_was_changed_cuts_and_can_not_pass() {
+        let mut gate = Gate::new();
+        let set = TagSet::new(["he"]).expect("a lawful set");
+        gate.replace(&set).expect("accepted");
+        let serial = gate.begin().expect("room");
+        gate.table[..3].fill(u16::MAX);
+        assert_eq!(gate.piece(serial, b"abc"), Ok(Piece::Cut { taken: 0 }));
+        let verdict = gate.decide(serial).expect("a verdict");
+        assert!(!verdict.passes());
+        assert_eq!(verdict, Verdict::Unread);
+    }
+}

@@ -1,0 +1,219 @@
+//! The text form of sets, and the program `sleet-set`.
+
+use sleetbarley::text::{read, written, What};
+use sleetbarley::{Tag, TagSet};
+use std::fs;
+use std::io::Write;
+use std::path::PathBuf;
+use std::process::{Command, Output, Stdio};
+
+fn tags_of(text: &[u8]) -> Vec<Vec<u8>> {
+    let set = read(text).unwrap_or_else(|fault| panic!("{fault}"));
+    set.tags().map(<[u8]>::to_vec).collect()
+}
+
+#[test]
+fn lines_are_tags_and_the_rest_is_passed_over() {
+    let text = b"# withdrawn\n\npreview-17\n \t \n#\npreview-23\r\n\r\nK#4 a\\#b \\# c\n";
+    let expected: [&[u8]; 3] = [b"preview-17", b"preview-23", b"K#4 a#b # c"];
+    assert_eq!(tags_of(text), expected);
+    assert_eq!(tags_of(b"no line's end"), [b"no line's end"]);
+    assert_eq!(
+        tags_of(b"\\\\\\n\\r\\t\\x00\\xfF\\x20"),
+        [b"\\\n\r\t\0\xff "]
+    );
+    assert_eq!(tags_of("Zürich\n".as_bytes()), ["Zürich".as_bytes()]);
+    assert_eq!(
+        tags_of(b"\\#not a remark\n\\x20#"),
+        [&b"#not a remark"[..], b" #"]
+    );
+}
+
+#[test]
+fn every_fault_is_told_with_its_line() {
+    let numbered =
+        |count: usize| -> String { (0..count).map(|k| format!("tag {k}\n\n")).collect() };
+    let long = format!("# one\n{}\n", "x".repeat(33));
+    let cases: Vec<(Vec<u8>, usize, What)> = vec![
+        (b"".to_vec(), 1, What::NoTag),
+        (b"# a\n\n# b\n".to_vec(), 3, What::NoTag),
+        (b"# a\n\n# b".to_vec(), 3, What::NoTag),
+        (b"\xef\xbb\xbfa\n".to_vec(), 1, What::Mark),
+        (b"a\n b\n".to_vec(), 2, What::BlankInFront),
+        (b"a\nb \n".to_vec(), 2, What::BlankAtEnd),
+        (b"a\nb \r\n".to_vec(), 2, What::BlankAtEnd),
+        (b"\npreview-17 # gone\n".to_vec(), 2, What::Remark),
+        (b"a\tb\n".to_vec(), 1, What::Control { byte: 9 }),
+        (b"a\rb\n".to_vec(), 1, What::Control { byte: 13 }),
+        (b"a\0\n".to_vec(), 1, What::Control { byte: 0 }),
+        (b"a\x7f\n".to_vec(), 1, What::Control { byte: 127 }),
+        (b"a\n\n\\q\n".to_vec(), 3, What::Escape),
+        (b"a\\".to_vec(), 1, What::Escape),
+        (b"a\\x4".to_vec(), 1, What::Escape),
+        (b"a\\x+4".to_vec(), 1, What::Escape),
+        (b"a\\xg0".to_vec(), 1, What::Escape),
+        (b"a\\ \n".to_vec(), 1, What::Escape),
+        (numbered(17).into_bytes(), 33, What::Many),
+        (long.into_bytes(), 2, What::Long { bytes: 33 }),
+        (vec![b'x'; 70_000], 1, What::Long { bytes: 70_000 }),
+        (b"a\nb\n#\nc\nb\na".to_vec(), 5, What::Repeat { line: 2 }),
+        (b"a\n\\x61\n".to_vec(), 2, What::Repeat { line: 1 }),
+    ];
+    for (text, line, what) in cases {
+        let fault = read(&text).expect_err("a fault");
+        assert_eq!((fault.line, fault.what), (line, what), "{fault}");
+        let words = fault.to_string();
+        assert!(words.starts_with(&format!("line {line}: ")), "{words}");
+    }
+    assert_eq!(tags_of(numbered(16).as_bytes()).len(), 16);
+    assert_eq!(tags_of("x".repeat(32).as_bytes())[0].len(), 32);
+}
+
+/// Random numbers (xorshift).
+fn random(state: &mut u64) -> u64 {
+    *state ^= *state << 13;
+    *state ^= *state >> 7;
+    *state ^= *state << 17;
+    *state >> 8
+}
+
+#[test]
+fn what_is_written_is_read_as_the_same_set() {
+    let mut state = 0x5EED_0005;
+    let odd = b" #\\\n\r\tx4\0\x7f\xff\xef\xbb\xbf";
+    for _ in 0..500 {
+        let mut tags: Vec<Vec<u8>> = Vec::new();
+        for _ in 0..=random(&mut state) % 16 {
+            let length = 1 + random(&mut state) % 32;
+            let byte = |_| match random(&mut state) % 3 {
+                0 => random(&mut state) as u8,
+                _ => odd[random(&mut state) as usize % odd.len()],
+            };
+            let tag: Vec<u8> = (0..length).map(byte).collect();
+            if !tags.contains(&tag) {
+                tags.push(tag);
+            }
+        }
+        let set = TagSet::new(&tags).expect("a lawful set");
+        let text = written(&set);
+        assert!(text
+            .bytes()
+            .all(|byte| byte == b'\n' || (b' '..=b'~').contains(&byte)));
+        assert_eq!(read(text.as_bytes()), Ok(set), "{text}");
+    }
+}
+
+/// The program, started as cargo starts programs for its target.
+fn sleet_set(arguments: &[&str], input: &[u8]) -> Output {
+    let program = env!("CARGO_BIN_EXE_sleet-set");
+    let runner = std::env::var("CARGO_TARGET_X86_64_UNKNOWN_LINUX_GNU_RUNNER").unwrap_or_default();
+    let words: Vec<&str> = runner.split_whitespace().chain([program]).collect();
+    let mut child = Command::new(words[0])
+        .args(&words[1..])
+        .args(arguments)
+        .stdin(Stdio::piped())
+        .stdout(Stdio::piped())
+        .stderr(Stdio::piped())
+        .spawn()
+        .expect("the program starts");
+    // It may end without reading its input.
+    let _ = child.stdin.take().expect("a pipe").write_all(input);
+    child.wait_with_output().expect("the program ends")
+}
+
+fn said(output: &Output) -> (Option<i32>, String, String) {
+    let text = |bytes: &[u8]| String::from_utf8_lossy(bytes).into_owned();
+    (
+        output.status.code(),
+        text(&output.stdout),
+        text(&output.stderr),
+    )
+}
+
+/// An empty folder of this test's own.
+fn folder(name: &str) -> PathBuf {
+    let folder = PathBuf::from(env!("CARGO_TARGET_TMPDIR")).join(name);
+    let _ = fs::remove_dir_all(&folder);
+    fs::create_dir_all(&folder).expect("a folder");
+    folder
+}
+
+#[test]
+fn the_program_makes_a_set_and_lists_it() {
+    let folder = folder("sleet-set");
+    let file = |name: &str| folder.join(name).to_str().expect("a name").to_string();
+    let (text, bin, again) = (file("in.txt"), file("set.bin"), file("again.bin"));
+    fs::write(&text, "# withdrawn\npreview-17\nfree \\#4\\x20\n").expect("written");
+    let nothing = (Some(0), String::new(), String::new());
+    assert_eq!(said(&sleet_set(&["make", &text, &bin], b"")), nothing);
+    let set = TagSet::from_bytes(fs::read(&bin).expect("made")).expect("lawful");
+    assert_eq!(set.tag(Tag(1)), Some(&b"free #4 "[..]));
+    let listed = sleet_set(&["list", &bin], b"");
+    let expected = "# tags: 2; bytes of the set: 26\n# tag 0, length 10\npreview-17\n\
+                    # tag 1, length 8\nfree \\#4\\x20\n";
+    assert_eq!(said(&listed), (Some(0), expected.into(), String::new()));
+    // What is listed makes the same set, by pipes too, and over a file that is there.
+    fs::write(&again, "old").expect("written");
+    assert_eq!(
+        said(&sleet_set(&["make", "-", &again], &listed.stdout)),
+        nothing
+    );
+    assert_eq!(fs::read(&again).expect("made"), set.as_bytes());
+    let piped = sleet_set(&["make", "-", "-"], &listed.stdout);
+    assert_eq!(
+        (piped.status.code(), &piped.stdout[..]),
+        (Some(0), set.as_bytes())
+    );
+    assert_eq!(
+        sleet_set(&["list", "-"], &piped.stdout).stdout,
+        listed.stdout
+    );
+    // A faulty text writes nothing, and leaves nothing beside it.
+    let faulty = sleet_set(&["make", "-", &again], b"a\n\na\n");
+    let words = "sleet-set: standard input or output: line 3: the tag of line 1 again\n";
+    assert_eq!(said(&faulty), (Some(1), String::new(), words.into()));
+    assert_eq!(fs::read(&again).expect("made"), set.as_bytes());
+    assert_eq!(fs::read_dir(&folder).expect("a folder").count(), 3);
+}
+
+#[test]
+fn the_program_says_what_is_wrong() {
+    let folder = folder("sleet-set-wrong");
+    let file = |name: &str| folder.join(name).to_str().expect("a name").to_string();
+    let refused = said(&sleet_set(&["list", "-"], b"preview-17"));
+    let words =
+        "sleet-set: standard input or output: refused with 3, KIND: the kind of entry 0 isn't 1\n";
+    assert_eq!(refused, (Some(1), String::new(), words.into()));
+    for arguments in [
+        &["make", &file("none.txt"), &file("out.bin")][..],
+        &["list", &file("none.bin")],
+        &["make", "-", &file("no/folder.bin")],
+    ] {
+        let (status, output, words) = said(&sleet_set(arguments, b"a\n"));
+        assert_eq!((status, &output[..]), (Some(1), ""), "{arguments:?}");
+        assert!(
+            words.starts_with("sleet-set: ") && words.contains("/no"),
+            "{words}"
+        );
+    }
+    for arguments in [
+        &[][..],
+        &["make"],
+        &["make", "-"],
+        &["list"],
+        &["list", "-", "-"],
+        &["-"],
+    ] {
+        let (status, output, words) = said(&sleet_set(arguments, b""));
+        assert_eq!((status, &output[..]), (Some(2), ""), "{arguments:?}");
+        assert!(words.contains("usage: sleet-set make"), "{words}");
+    }
+    let (status, output, words) = said(&sleet_set(&["--help"], b""));
+    assert_eq!((status, &words[..]), (Some(0), ""));
+    assert!(output.contains("usage: sleet-set make"), "{output}");
+    let version = concat!("sleet-set ", env!("CARGO_PKG_VERSION"), "\n").to_string();
+    assert_eq!(
+        said(&sleet_set(&["--version"], b"")),
+        (Some(0), version, String::new())
+    );
+}
