@@ -1,4 +1,4 @@
-//! The desk: document 01, "The desk" and "When the desk says no".
+//! The desk: docs/RULES.md, 5 and 7.
 
 use crate::reading::{read, Stop};
 use crate::refusal::Refusal;

@@ -1,6 +1,6 @@
-//! The independent second program, written from document 01 and REPLAY.md alone.
+//! The independent second program, written from docs/RULES.md and docs/FORMATS.md alone.
 //!
-//! The first group of modules is the rules of document 01, the second the
+//! The first group of modules is the rules of docs/RULES.md, the second the
 //! replay script, the third the comparison with another replay program, the
 //! fourth histories of a gate.
 

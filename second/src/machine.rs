@@ -1,4 +1,4 @@
-//! The machines: document 01, "Machines and their tables", from the definition.
+//! The machines: docs/RULES.md, 2, from the definition.
 
 use crate::set::TagSet;
 

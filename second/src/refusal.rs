@@ -1,4 +1,4 @@
-//! The refusals of document 01, "When the desk says no".
+//! The refusals of docs/RULES.md, 7.
 
 use crate::desk::Edition;
 

@@ -1,4 +1,4 @@
-//! Running a replay script and writing its answers: REPLAY.md.
+//! Running a replay script and writing its answers: docs/FORMATS.md.
 
 use crate::desk::{Desk, Serial, State};
 use crate::reading::read_outside;
@@ -8,7 +8,7 @@ use crate::table::{build, Layout, Table};
 use std::fmt::Display;
 use std::io::{self, BufRead, ErrorKind, Write};
 
-/// A line is at most 20,000 bytes. Its end isn't counted (REPLAY.md is silent
+/// A line is at most 20,000 bytes. Its end isn't counted (the format is silent
 /// here).
 pub const LONGEST_LINE: usize = 20_000;
 /// At first 479 slots of 24 numbers are lent.
@@ -56,7 +56,7 @@ impl Replay {
     /// Makes the call of one line (without its end); gives the answer's lines.
     ///
     /// A line that is too long is no call even where it begins with `#`
-    /// (REPLAY.md is silent here).
+    /// (the format is silent here).
     pub fn line(&mut self, line: &[u8]) -> Vec<String> {
         self.lines += 1;
         let too_long = line.len() > LONGEST_LINE;
@@ -74,7 +74,7 @@ impl Replay {
     }
 
     /// The answer where the call is accepted, or the refusal. Its numbers have
-    /// no leading zeros, even where the call's had (REPLAY.md is silent here).
+    /// no leading zeros, even where the call's had (the format is silent here).
     fn answer(&mut self, call: Call) -> Result<Vec<String>, Refusal> {
         let answer = match call {
             Call::Set(set) => {
@@ -164,7 +164,7 @@ impl Replay {
     }
 
     /// A read outside the desk, over the lent table: two lines where it is
-    /// accepted, for `list` begins one of its own (REPLAY.md says only "then"),
+    /// accepted, for `list` begins one of its own (the format says only "then"),
     /// and the refusal's one line where it isn't.
     fn read(
         &self,
@@ -196,7 +196,7 @@ fn numbers<N: Display>(word: &str, numbers: &[N]) -> String {
     line
 }
 
-/// `refused`, its number, and the values document 01 returns with it.
+/// `refused`, its number, and the values that are returned with it.
 fn refused(refusal: Refusal) -> String {
     numbers(&format!("refused {}", refusal.number()), &refusal.values())
 }

@@ -1,4 +1,4 @@
-//! One line of a replay script: REPLAY.md, the grammar and the table of calls.
+//! One line of a replay script: docs/FORMATS.md, the grammar and the table of calls.
 
 use crate::set::write_set;
 use crate::table::Layout;
@@ -172,7 +172,7 @@ fn layout(word: Word) -> Option<Layout> {
 
 /// One word with `x` or `-`: the set is these bytes. One or more quoted words:
 /// one entry of kind 1 for each, whatever its length. A mixture, or several
-/// words with `x` or `-`, is no call (REPLAY.md names neither).
+/// words with `x` or `-`, is no call (the format names neither).
 fn set(words: &[Word]) -> Option<Call> {
     let set = match words {
         [] => return None,
@@ -190,7 +190,7 @@ fn set(words: &[Word]) -> Option<Call> {
 }
 
 /// LAYOUT COUNT ROOM PLACE... BYTES, with one PLACE for each machine. A place
-/// is a 16-bit number, so a larger one is no call (REPLAY.md is silent here).
+/// is a 16-bit number, so a larger one is no call (the format is silent here).
 fn read(words: &[Word]) -> Option<Call> {
     let [word, count, room, places @ .., piece] = words else {
         return None;
@@ -209,7 +209,7 @@ fn read(words: &[Word]) -> Option<Call> {
     })
 }
 
-/// AT stands inside the table buffer, lent or not (REPLAY.md is silent here).
+/// AT stands inside the table buffer, lent or not (the format is silent here).
 fn poke(at: Word, value: Word) -> Option<Call> {
     Some(Call::Poke {
         at: at_most(at, TABLE_BUFFER - 1)?,
@@ -218,7 +218,7 @@ fn poke(at: Word, value: Word) -> Option<Call> {
 }
 
 /// The numbers shown all stand inside the table buffer; none may be asked for,
-/// even just beyond its end (REPLAY.md is silent here).
+/// even just beyond its end (the format is silent here).
 fn peek(at: Word, count: Word) -> Option<Call> {
     let count = at_most(count, MOST_PEEKED)?;
     let at = at_most(at, TABLE_BUFFER - count)?;

@@ -1,4 +1,4 @@
-//! Reading a tag set: document 01, "The tag set".
+//! Reading a tag set: docs/RULES.md, 1.
 
 use crate::refusal::Refusal;
 
@@ -45,7 +45,7 @@ pub fn read_set(bytes: &[u8]) -> Result<TagSet, Refusal> {
 }
 
 /// Reads entry k from the front of `rest`: its payload and what follows it.
-/// The checks stand in the document's order.
+/// The checks stand in the rules' order.
 fn read_entry(k: usize, rest: &[u8]) -> Result<(&[u8], &[u8]), Refusal> {
     let [length_low, length_high, kind_low, kind_high, after @ ..] = rest else {
         return Err(Refusal::Cut { entry: k });

@@ -1,4 +1,4 @@
-//! The tables: document 01, "Machines and their tables".
+//! The tables: docs/RULES.md, 3.
 
 use crate::machine::{bit_of, Machine};
 use crate::refusal::{Refusal, WHOLE_BYTE_MACHINE};

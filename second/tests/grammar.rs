@@ -1,4 +1,4 @@
-//! The replay script: REPLAY.md's example and the corners of its grammar.
+//! The replay script: the format's example and the corners of its grammar.
 
 mod helpers;
 

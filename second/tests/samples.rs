@@ -1,4 +1,4 @@
-//! The bench samples of document 01, by their numbers.
+//! The samples of docs/RULES.md, 10, by their numbers.
 
 mod helpers;
 

@@ -1,4 +1,4 @@
-// The bench program (document 01): feeds input.bin to one ticket under the set of set.bin, and writes every record.
+// The bench program (docs/RULES.md, 9): feeds input.bin to one ticket under the set of set.bin, and writes every record.
 use desk::Desk;
 use desk::OpenAnswer;
 use desk::ReplaceAnswer;

@@ -1,4 +1,4 @@
--- The conditions under which each call is refused, in the document's words; the grounds in their order; and for each number exactly when it
+-- The conditions under which each call is refused, in the rules' words; the grounds in their order; and for each number exactly when it
 -- is given: its condition holds and none earlier in the order does.
 use Prim.Native.Nat.{ℕ, _+_, _<_}
 use mathlib.Core.Bool.{not}

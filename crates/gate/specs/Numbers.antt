@@ -1,4 +1,4 @@
--- The number of each answer in the document's table of refusals, 0 where it is none; and its values: what is returned with a refusal, or what
+-- The number of each answer in the rules' table of refusals, 0 where it is none; and its values: what is returned with a refusal, or what
 -- the call gives. What a replacement and an opening answer is the desk's.
 use Prim.Native.Nat.{ℕ}
 use mathlib.Core.List.{List, [], _∷_}

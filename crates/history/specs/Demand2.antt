@@ -148,7 +148,7 @@ module _ (n k n′ k′ : ℕ) (set run run′ : List ℕ) (ts : List Word) (b :
   pub alike-stop : (turns : List Turn) → TurnsOfBytes turns → one turns .stops ≡ other turns .stops
   alike-stop turns h = from-start turns h .stops
 
--- the two layouts of document 01
+-- the two layouts (docs/RULES.md, 3)
 pub split-slicing : Slicing 1 8
 split-slicing = record { machines = omega arith; byte = refl }
 

@@ -1,4 +1,4 @@
-// One machine: what it sees of a set, the states that it needs, and its slots (document 01, 'Machines and their tables').
+// One machine: what it sees of a set, the states that it needs, and its slots (docs/RULES.md, 2 and 3).
 ghost use mathlib.Core.Path.{_≡_};
 ghost use mathlib.Core.List.{List, map};
 ghost use Prim.Native.Nat.{_<_, _≤_, max};

@@ -1,4 +1,4 @@
--- What is to be believed, in the order of document 01; the laws of it stand under Laws.
+-- What is to be believed, in the order of docs/RULES.md; the laws of it stand under Laws.
 pub mod Refusal
 pub mod Words
 pub mod Machine

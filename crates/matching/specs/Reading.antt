@@ -1,4 +1,4 @@
--- The reading of a piece, over ANY run of numbers, as its numbers say (document 01, 'Reading a piece').
+-- The reading of a piece, over ANY run of numbers, as its numbers say (docs/RULES.md, 4).
 use Prim.Native.Nat.{ℕ, zero, suc, _+_, _/_, _%_, _^_}
 use mathlib.Core.Bool.{Bool, true, false, _&&_}
 use mathlib.Core.List.{List, [], _∷_, map}

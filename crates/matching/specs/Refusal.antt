@@ -1,11 +1,11 @@
--- Refusals in their order (document 01, 'When the desk says no'): each is given exactly if its condition holds and none earlier does.
+-- Refusals in their order (docs/RULES.md, 7): each is given exactly if its condition holds and none earlier does.
 use Prim.Native.Nat.{ℕ, _<_}
 use mathlib.Core.Bool.{Bool, true, false, cond}
 use mathlib.Core.List.{List, [], _∷_}
 use mathlib.Core.Path.{_≡_}
 use lib.ListN.{getD}
 
--- a ground for refusing: its number in the document's table, and whether its condition holds
+-- a ground for refusing: its number in the rules' table, and whether its condition holds
 pub record Ground : Type 0 where
   pub number : ℕ
   pub holds : Bool

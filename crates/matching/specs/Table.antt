@@ -1,4 +1,4 @@
--- Tables: how a lent run of numbers holds the machines of a slicing (document 01, 'Machines and their tables').
+-- Tables: how a lent run of numbers holds the machines of a slicing (docs/RULES.md, 2 and 3).
 use Prim.Native.Nat.{ℕ, zero, suc, _+_, _*_, _/_, _^_, min}
 use mathlib.Core.Bool.{true, false}
 use mathlib.Core.List.{List, [], _∷_, _++_}

@@ -1,4 +1,4 @@
--- Answers as numbers, for C and Rust: the number of a refusal in the document's table and what is returned with it; or 0 and what the call gives.
+-- Answers as numbers, for C and Rust: the number of a refusal in the rules' table and what is returned with it; or 0 and what the call gives.
 use Rattle.reading.specs.declared.Ending.the-variants as E
 use Prim.Native.Nat.{ℕ}
 use mathlib.Core.List.{List, [], _∷_}

@@ -1,4 +1,4 @@
--- When a read is refused: the document's two numbers, in their order.
+-- When a read is refused: the rules' two numbers, in their order.
 use Prim.Native.Nat.{ℕ}
 use mathlib.Core.Bool.{Bool, not}
 use mathlib.Core.List.{List, [], _∷_}

@@ -1,4 +1,4 @@
-// Reading a piece over any table (document 01, 'Reading a piece').
+// Reading a piece over any table (docs/RULES.md, 4).
 mod records;
 mod refusals;
 mod walks;

@@ -1,4 +1,4 @@
--- The bench samples of document 01, together, each by its number; all are computed from the definitions.
+-- The samples of docs/RULES.md, 10, together, each by its number; all are computed from the definitions.
 use Rattle.matching.specs.declared.Stop.the-variants as S
 use Rattle.desk.specs.declared.CloseAnswer.the-variants as C
 use Rattle.desk.specs.declared.FeedAnswer.the-variants as F
@@ -33,7 +33,7 @@ vectorsAfter-hx = vectorsAt 1 10 (split 10 tags) 0 (read 1 10 (split 10 tags) st
 
 -- of the machines and of reading
 pub record OfReading : Type 0 where
-  -- the document's six bytes, 02 00 01 00 68 65, are the set of the one tag "he"; reading them answers one tag, from byte 4 up to byte 6, and that
+  -- the rules' six bytes, 02 00 01 00 68 65, are the set of the one tag "he"; reading them answers one tag, from byte 4 up to byte 6, and that
   -- part of them is "he"
   pub example : setOf he-set ≡ goodSet ((104 ∷ 101 ∷ []) ∷ [])
   pub example-read : setRead (setOf he-set) ≡ record { verdict = Good; tags = record { count = 1; from = 4 ∷ replicate 15 0; to = 6 ∷ replicate 15 0 } }

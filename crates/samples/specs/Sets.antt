@@ -15,7 +15,7 @@ unfoldable pub asSet : List Word → List ℕ
 asSet [] = []
 asSet (t ∷ ts) = (length t ∷ 0 ∷ 1 ∷ 0 ∷ t) ++ asSet ts
 
--- the document's example of a set, 02 00 01 00 68 65: length 2, kind 1, "he"
+-- the rules' example of a set, 02 00 01 00 68 65: length 2, kind 1, "he"
 abbrev pub he-set : List ℕ
 he-set = 2 ∷ 0 ∷ 1 ∷ 0 ∷ 104 ∷ 101 ∷ []
 

@@ -1,4 +1,4 @@
--- When building is refused, and when it is done, in the document's words; Laws.Exact shows that it is exactly then.
+-- When building is refused, and when it is done, in the rules' words; Laws.Exact shows that it is exactly then.
 use Prim.Native.Nat.{_<_, _≤_, ℕ}
 use mathlib.Core.Bool.{cond}
 use mathlib.Core.List.{List, [], _∷_}
@@ -34,7 +34,7 @@ pub record Builds (n k : ℕ) (bytes : List ℕ) (len count : ℕ) : Type 0 wher
   pub counted : count ≡ length tags
   pub enough : Enough n k tags (slotsIn n k len)
 
--- the number and the values that building answers, row by row as the document's table of refusals has them: 1 to 6 where the set is at fault, then 7,
+-- the number and the values that building answers, row by row as the rules' table of refusals has them: 1 to 6 where the set is at fault, then 7,
 -- TABLE, with the machine and the states that it needs; 0 and the number of tags where it is done
 pub data Answers (n k : ℕ) (bytes : List ℕ) (len : ℕ) : ℕ → List ℕ → Type 0 where
   aFault : {number : ℕ} {values : List ℕ} → RefusedAs bytes number values → Answers n k bytes len number values

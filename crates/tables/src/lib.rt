@@ -1,4 +1,4 @@
-// Building tables (document 01, 'Machines and their tables'): one builder for every slicing of a byte.
+// Building tables (docs/RULES.md, 2 and 3): one builder for every slicing of a byte.
 ghost use mathlib.Core.Path.{_≡_};
 ghost use mathlib.Core.Bool.{cond};
 ghost use mathlib.Core.List.{List, _++_};

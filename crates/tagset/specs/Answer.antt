@@ -1,4 +1,4 @@
--- What reading a set answers, and the document's number and values of each fault.
+-- What reading a set answers, and the rules' number and values of each fault.
 use Prim.Native.Nat.{ℕ, _+_, _-_}
 use mathlib.Core.List.{List, [], _∷_, _++_}
 use lib.ListN.{length, replicate, take, drop}

@@ -1,4 +1,4 @@
--- The tag set (document 01, 'The tag set'): a run of entries, each a length and a kind of two bytes, the low byte first, and a payload.
+-- The tag set (docs/RULES.md, 1): a run of entries, each a length and a kind of two bytes, the low byte first, and a payload.
 use Prim.Native.Nat.{ℕ, zero, suc, _+_, _*_}
 use mathlib.Core.Bool.{Bool, true, false, _||_, not}
 use mathlib.Core.List.{List, [], _∷_, _++_}

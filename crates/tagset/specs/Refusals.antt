@@ -1,4 +1,4 @@
--- When a set is refused, in the document's words (document 01, 'The tag set'). Laws.Exact shows that it is refused exactly then.
+-- When a set is refused, in the rules' words (docs/RULES.md, 1). Laws.Exact shows that it is refused exactly then.
 use Prim.Native.Nat.{_+_, _<_, _≤_, suc, ℕ}
 use mathlib.Core.List.{List, [], _++_, _∷_}
 use mathlib.Core.Logic.{_⊎_}
@@ -65,7 +65,7 @@ pub record Accepted (bytes : List ℕ) (ts : List Word) : Type 0 where
   pub passed : Passed bytes (length ts) ts []
   pub distinct : NoRepeats ts
 
--- what a set is refused with, row by row as the document's table of refusals has it: the number, and what is returned with it
+-- what a set is refused with, row by row as the rules' table of refusals has it: the number, and what is returned with it
 pub data RefusedAs (bytes : List ℕ) : ℕ → List ℕ → Type 0 where
   cutAs : {entry : ℕ} → Refused bytes (Cut entry) → RefusedAs bytes 1 (entry ∷ [])
   manyAs : Refused bytes (Many 16) → RefusedAs bytes 2 (16 ∷ [])

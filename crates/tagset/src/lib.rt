@@ -1,4 +1,4 @@
-// Reading a tag set (document 01, 'The tag set').
+// Reading a tag set (docs/RULES.md, 1).
 ghost use mathlib.Core.Path.{_≡_};
 ghost use mathlib.Core.Bool.{_||_};
 ghost use mathlib.Core.List.{List, []};
@@ -66,7 +66,7 @@ fn wrong_length(length: usize) -> bool
     32 < length
 }
 
-// Entry k, which begins at `at`: its checks in the document's order.
+// Entry k, which begins at `at`: its checks in the rules' order.
 fn read_entry(set: &[u8], k: usize, at: usize) -> Entry
     requires { ⌜ at ≤ length (now set) ⌝ }
     ensures { λ r. ⌜ r ≡ placed at (entryOf k (drop at (now (set .entry)))) ⌝ }
@@ -221,7 +221,7 @@ fn distinct_tags(set: &[u8], from: &[usize], to: &[usize]) -> Verdict
     Verdict::Good
 }
 
-// A set of bytes as document 01 has it, from the left.
+// A set of bytes as docs/RULES.md, 1, has it, from the left.
 pub fn read_set(set: &[u8]) -> SetRead
     ensures { λ r. ⌜ r ≡ setRead (setOf (now (set .entry))) ⌝ }
 {

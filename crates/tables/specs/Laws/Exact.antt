@@ -1,4 +1,4 @@
--- Building is refused, and done, exactly when the document says so.
+-- Building is refused, and done, exactly when the rules say so.
 use Rattle.tables.specs.declared.Built.the-variants as B
 use Rattle.tables.specs.declared.Needed.the-variants as N
 use Prim.Native.Nat.{_+_, _<_, _≤_, max, suc, zero, ℕ}
@@ -45,7 +45,7 @@ room-enough : (n s : ℕ) (ts : List Word) (k : ℕ) → Enough n k ts s → roo
 room-enough n s ts k f = enough-iff n s ts k .1 f
 
 module _ (n k : ℕ) (bytes : List ℕ) (len : ℕ) where
-  -- ---- what the document says, the definition does
+  -- ---- what the rules say, the definition does
 
   fault-so : {fault : SetFault} → Refused bytes fault → builtOf n k bytes len ≡ B.Fault fault
   unfolding builtOf
@@ -60,7 +60,7 @@ module _ (n k : ℕ) (bytes : List ℕ) (len : ℕ) where
   unfolding builtOf
   tags-so b = rw (accepted-iff bytes (b .tags) .1 (b .set), room-enough n (slotsIn n k len) (b .tags) k (b .enough), b .counted)
 
-  -- ---- and what the definition does, the document says
+  -- ---- and what the definition does, the rules say
 
   pub data BuiltCase : Built → Type 0 where
     isFault : {fault : SetFault} → Refused bytes fault → BuiltCase (B.Fault fault)

@@ -1,4 +1,4 @@
--- A set is refused, and accepted, exactly when the document says so.
+-- A set is refused, and accepted, exactly when the rules say so.
 use Prim.Native.Nat.{_<_, ℕ}
 use mathlib.Core.List.{List, [], _∷_}
 use mathlib.Core.Logic.{_↔_}
@@ -15,7 +15,7 @@ use Rattle.tagset.specs.Refusals.{Accepted, Fails, Passed, Refused, Refu
 use Rattle.tagset.specs.declared.SetFault.{SetFault}
 use Rattle.tagset.specs.declared.SetFault.the-variants.{Cut, Empty, Kind, Length, Many, Repeat}
 
--- ---- what the document says, the definition does
+-- ---- what the rules say, the definition does
 
 pub some-bytes : (bytes : List ℕ) → 0 < length bytes → setOf bytes ≡ onTags (entriesFrom 17 0 bytes) (distinct [] 0)
 unfolding setOf
@@ -39,7 +39,7 @@ refused-so bytes fault (tagRepeats {n} {ts} {k} h p r) = rw (some-bytes bytes h,
 accepted-so : (bytes : List ℕ) (ts : List Word) → Accepted bytes ts → setOf bytes ≡ goodSet ts
 accepted-so bytes ts a = rw (some-bytes bytes (a .some), passed-all (a .passed), distinct-none ts (a .distinct))
 
--- ---- and what the definition does, the document says
+-- ---- and what the definition does, the rules say
 
 pub data SetCase (bytes : List ℕ) : SetOf → Type 0 where
   isGood : {ts : List Word} → Accepted bytes ts → SetCase bytes (goodSet ts)
