@@ -1,11 +1,13 @@
--- When each answer of `decide` is given.
+-- When each answer of `decide` and of `piece` is given.
+use Rattle.gate.specs.declared.PieceAnswer.the-variants as P
 use Rattle.gate.specs.declared.Verdict.the-variants as Q
 use Prim.Native.Nat.{ℕ}
 use mathlib.Core.Bool.{false}
-use mathlib.Core.Logic.{_↔_}
+use mathlib.Core.Logic.{_↔_, _⊎_}
 use mathlib.Core.Path.{_≡_}
 use Rattle.desk.specs.declared.Edition.{Edition}
 use Rattle.desk.specs.declared.Serial.{Serial}
+use Rattle.gate.specs.declared.PieceAnswer.{PieceAnswer}
 use Rattle.gate.specs.declared.Verdict.{Verdict}
 use Rattle.history.specs.Verdict.{EndsAt}
 use Rattle.matching.specs.Tags.{Tags}
@@ -57,3 +59,13 @@ module _ (w : GateWorld) (s : Serial) where
     pub unread : (answer ≡ Q.Unread) ↔ IsUnread
     pub pass : (answer ≡ Q.Pass) ↔ IsClean
     pub hold : (mask : ℕ) → (answer ≡ Q.Hold mask) ↔ IsTagged mask
+
+  -- there is one, and none was accepted since it began
+  abbrev pub IsCurrent : Type 0
+  IsCurrent = (k : ℕ) × Undecided w s k × NotReplaced w k
+
+  -- a piece, whatever table it is lent: read, or cut after so many bytes, exactly if there is a current approval
+  pub record PieceExactly (answer : PieceAnswer) : Type 0 where
+    pub none : (answer ≡ P.NoTicket) ↔ IsNone
+    pub stale : (e : Edition) → (answer ≡ P.Stale e) ↔ IsStale e
+    pub fed : IsCurrent ↔ ((answer ≡ P.Read) ⊎ ((n : ℕ) × (answer ≡ P.Cut n)))
