@@ -427,7 +427,7 @@ module _ (g : GateWorld) (v : Standing g) where
         go true e false = v
         go true e true = ended (eqb (fed .taken) (length piece)) (ltb-true i 16 e) refl
 
-  standing-step : (act : GateAct) → Standing (gateStep g act)
+  pub standing-step : (act : GateAct) → Standing (gateStep g act)
   standing-step (gateReplace set lent) = standing-replace set lent
   standing-step gateBegin = standing-begin
   standing-step (gatePiece s table piece) = standing-piece s table piece
