@@ -2,19 +2,22 @@
 -- exactly if its case holds.
 use Rattle.gate.specs.declared.PieceAnswer.the-variants as P
 use Rattle.gate.specs.declared.Verdict.the-variants as Q
-use Prim.Native.Nat.{ℕ, _+_, _<_}
+use Prim.Native.Nat.{ℕ, _+_, _<_, _≤_}
 use mathlib.Core.List.{List}
 use mathlib.Core.Logic.{_↔_, inr}
 use mathlib.Core.Path.{_≡_}
 use lib.ListN.{length}
 use Rattle.desk.specs.declared.Serial.{Serial}
-use Rattle.gate.specs.Gate.{decideOf, pieceOf}
+use Rattle.gate.specs.Gate.{beginOf, changeOf, decideOf, pieceOf}
 use Rattle.gate.specs.declared.Gate.{Gate}
 use Rattle.matching.specs.Words.{Word}
-use Rattle.verdicts.specs.Cases.{PieceExactly}
+use Rattle.verdicts.specs.Cases.{BeginExactly, PieceExactly, ReplaceExactly}
 use Rattle.verdicts.specs.Exactly.{over-any-tables}
 use Rattle.verdicts.specs.GateHistory.{GateAct, NotReplaced, Undecided, approvalAt, gateRun, gateStart}
+use Rattle.verdicts.specs.Laws.Beginning.{begins-exactly}
+use Rattle.verdicts.specs.Laws.Held.{held-all}
 use Rattle.verdicts.specs.Laws.Piecing.{pieces, pieces-exactly}
+use Rattle.verdicts.specs.Laws.Replacing.{replaces-exactly}
 use Rattle.verdicts.specs.Laws.Standing.{standing, standing-start}
 use Rattle.verdicts.specs.Laws.Taken.{answers-taken, open-in, part-short, short-part, taken-of-handed}
 use Rattle.verdicts.specs.Taken.{AnswersTaken, OpenIn, TakenOfHanded, takenIn}
@@ -68,3 +71,17 @@ pub hold-is-taken : (acts : List GateAct) (s : Serial) (mask : ℕ) → let w = 
 hold-is-taken acts s mask q =
     let z = over-any-tables acts s .hold mask q in
     (z .0, z .1 .waits, taken-is-handed acts s (z .0) (z .1 .waits) .whole .0 (z .1 .whole))
+
+-- A BEGINNING: NO SET exactly if no replacement was accepted; then SERIAL exactly if 4,294,967,295 approvals were begun; then NO ROOM exactly if
+-- 16 of them are undecided; else the serial one above the number begun
+pub begin-exactly : (acts : List GateAct) → BeginExactly (gateRun gateStart acts) (beginOf (gateRun gateStart acts .gate) .answer)
+begin-exactly acts = begins-exactly (gateRun gateStart acts) (standing acts gateStart standing-start) (held-all acts)
+
+-- A REPLACEMENT: a set fault or TABLE exactly if building answers it; then EDITION exactly if 4,294,967,295 were accepted; else the edition one
+-- above the number accepted, and the number of tags
+pub replace-exactly : (acts : List GateAct) (set : List ℕ) (len : ℕ) → ReplaceExactly (gateRun gateStart acts) set len (changeOf (gateRun gateStart acts .gate) set len .answer)
+replace-exactly acts = replaces-exactly (gateRun gateStart acts) (standing acts gateStart standing-start) (held-all acts)
+
+-- at most 16 tags are in force, so each has its bit in a mask
+pub few-tags : (acts : List GateAct) → length (gateRun gateStart acts .tags) ≤ 16
+few-tags acts = held-all acts .few-tags
