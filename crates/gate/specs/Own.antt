@@ -5,6 +5,8 @@ use mathlib.Core.Bool.{false, true}
 use mathlib.Core.List.{List, [], _∷_, _++_}
 use mathlib.Core.Path.{_≡_, subst, sym}
 use lib.ListN.{length}
+use Rattle.desk.specs.Laws.Good.{good}
+use Rattle.desk.specs.Reached.{Reached}
 use Rattle.desk.specs.Rooms.{isHeld, roomOf, serialOf, ticketIn}
 use Rattle.desk.specs.Shared.{held}
 use Rattle.desk.specs.declared.Desk.{Desk}
@@ -12,6 +14,7 @@ use Rattle.desk.specs.declared.Record.{Record}
 use Rattle.desk.specs.declared.Ticket.{Ticket}
 use Rattle.gate.specs.Bits.{Apart, ofSerial, withBits}
 use Rattle.gate.specs.Feeding.{emptiedOf}
+use Rattle.gate.specs.Laws.Apart.{reached-apart}
 use Rattle.gate.specs.Laws.Own.{all-oldest, noted-free, noted-length, noted-nowhere, noted-own, noted-unread, none-held}
 use Rattle.gate.specs.Noting.{noted, seenIn}
 use Rattle.gate.specs.declared.Gate.{Gate}
@@ -23,6 +26,10 @@ pub record Roomed (g : Gate) (d : Desk) : Type 0 where
   pub rooms : length (d .tickets) ≡ 16
   pub apart : Apart (d .tickets)
   pub most : d .records .count ≤ 256
+
+-- so is a gate with its 16 masks and every desk that the calls make
+pub reached-roomed : (g : Gate) (d : Desk) → length (g .seen) ≡ 16 → Reached d → Roomed g d
+reached-roomed g d w r = record { masks = w; rooms = good r .rooms; apart = reached-apart r; most = good r .count }
 
 -- what is kept for some rooms, before some records were noted and after
 pub record ToTheirOwn (rooms : List Ticket) (before after : List Seen) (records : List Record) : Type 0 where
