@@ -1,0 +1,132 @@
+-- A PIECE MARKS ITS OWN TICKET ONLY: whatever table it is lent, what is kept for every room of another serial is as before. And one feed of it
+-- notes each record that is held with its own, those of earlier feeds of other tickets too.
+use Prim.Native.Nat.{ℕ, zero, suc, _+_, _-_, _<_, _≤_}
+use mathlib.Core.Bool.{Bool, cond, false, not, true}
+use mathlib.Core.List.{List, [], _∷_, _++_, append-nil}
+use mathlib.Core.Path.{_≡_, _∙_, ap, ap₂, refl, subst, sym}
+use native.Mathlib.Decide.{ℕ-discrete}
+use native.Mathlib.Omega.{arith}
+use lib.Dec.{eqb, ltb}
+use lib.ListN.{drop, length, length-set, set}
+use lib.Seq.{getD-set-other}
+use borrow.Author.Tests.{ltb-true, ne-eqb}
+use Rattle.desk.specs.Calls.{closeOf, openOf}
+use Rattle.desk.specs.Feed.{feedOf, readFor}
+use Rattle.desk.specs.Laws.Good.{GoodDesk, good, room-held}
+use Rattle.desk.specs.Laws.Rooms.{for-held, set-other, set-same}
+use Rattle.desk.specs.Laws.Shared.{held-length, held-pushAll, recordsOf-length}
+use Rattle.desk.specs.Laws.TakeMany.{take-many-reached}
+use Rattle.desk.specs.Laws.Views.{Feeds, feed-long, feed-no-place, feed-no-ticket, feed-other-slots, feed-read, feed-stale, feeds}
+use Rattle.desk.specs.Reached.{Reached, byCall, callFeed}
+use Rattle.desk.specs.Rooms.{isHeld, roomOf, serialOf, ticketIn}
+use Rattle.desk.specs.Shared.{held, recordsOf}
+use Rattle.desk.specs.declared.Desk.{Desk}
+use Rattle.desk.specs.declared.Edition.{Edition}
+use Rattle.desk.specs.declared.Feeding.{Feeding}
+use Rattle.desk.specs.declared.Record.{Record}
+use Rattle.desk.specs.declared.Serial.{Serial}
+use Rattle.desk.specs.declared.Ticket.{Ticket}
+use Rattle.gate.specs.Bits.{ofSerial, withBits}
+use Rattle.gate.specs.Feeding.{emptiedOf, fedOn, restOf}
+use Rattle.gate.specs.Gate.{endedBy, pieceBy, pieceOf}
+use Rattle.gate.specs.Noting.{seenIn}
+use Rattle.gate.specs.Own.{ToTheirOwn, emptied-none, emptied-own, reached-roomed}
+use Rattle.gate.specs.declared.Gate.{Gate}
+use Rattle.gate.specs.declared.Seen.{Seen}
+use Rattle.matching.specs.Laws.AnyTable.{read-kept}
+use Rattle.matching.specs.Occurrence.{Occurrence}
+use Rattle.matching.specs.Table.{slotsIn}
+use Rattle.matching.specs.Words.{Word}
+
+-- a gate as its calls make it: 16 masks, a desk that the desk's calls make, and no record held
+pub record Settled (g : Gate) : Type 0 where
+  pub masks : length (g .seen) ≡ 16
+  pub reached : Reached (g .desk)
+  pub none : held (g .desk .records) ≡ []
+
+-- ---- one feed
+
+ofSerial-append : (n : ℕ) (a b : List Record) → ofSerial n (a ++ b) ≡ ofSerial n a ++ ofSerial n b
+unfolding ofSerial
+ofSerial-append n [] b = refl
+ofSerial-append n (r ∷ a) b = go (eqb (r .serial .0) n) (ofSerial-append n a b)
+  where
+    go : (t : Bool) → ofSerial n (a ++ b) ≡ ofSerial n a ++ ofSerial n b
+        → cond t (r ∷ ofSerial n (a ++ b)) (ofSerial n (a ++ b)) ≡ cond t (r ∷ ofSerial n a) (ofSerial n a) ++ ofSerial n b
+    go true ih = ap {B = List Record} (λ (l : List Record). r ∷ l) ih
+    go false ih = ih
+
+ofSerial-none : (n : ℕ) (s : Serial) (e : Edition) (os : List Occurrence) → (s .0 ≡ n → ⊥) → ofSerial n (recordsOf s e os) ≡ []
+unfolding ofSerial
+ofSerial-none n s e [] h = refl
+ofSerial-none n s e (o ∷ os) h = rw (ne-eqb (s .0) n h) (ofSerial-none n s e os h)
+
+module _ (d : Desk) (s : Serial) (table : List ℕ) (piece : Word) (r : Reached d) where
+  abbrev i : ℕ
+  i = roomOf (d .tickets) s
+
+  abbrev after : Desk
+  after = feedOf d s table piece .desk
+
+  -- every room keeps its serial
+  fed-serials : (j : ℕ) → ticketIn (after .tickets) j .serial ≡ ticketIn (d .tickets) j .serial
+  fed-serials j = go _ (feeds d s table piece)
+    where
+      go : (f : Feeding) → Feeds d i table piece f → ticketIn (f .desk .tickets) j .serial ≡ ticketIn (d .tickets) j .serial
+      go f (feed-no-ticket a) = refl
+      go f (feed-stale a b) = refl
+      go f (feed-other-slots a b c) = refl
+      go f (feed-long a b c l) = refl
+      go f (feed-no-place a b c l n) = refl
+      go f (feed-read a b c l) = here (ℕ-discrete j i)
+        where
+          here : Dec (j ≡ i) → ticketIn (f .desk .tickets) j .serial ≡ ticketIn (d .tickets) j .serial
+          here (yes e) =
+              ap (λ (k : ℕ). ticketIn (f .desk .tickets) k .serial) e
+              ∙ ap (λ (t : Ticket). t .serial) (set-same (d .tickets) i _ (omega (arith, a, good r .rooms)))
+              ∙ sym (ap (λ (k : ℕ). ticketIn (d .tickets) k .serial) e)
+          here (no n) = ap (λ (t : Ticket). t .serial) (set-other (d .tickets) i j _ n)
+
+  -- of another serial there are the records that there were
+  fed-others : (n : ℕ) → (n ≡ s .0 → ⊥) → ofSerial n (held (after .records)) ≡ ofSerial n (held (d .records))
+  fed-others n other = go _ (feeds d s table piece)
+    where
+      go : (f : Feeding) → Feeds d i table piece f → ofSerial n (held (f .desk .records)) ≡ ofSerial n (held (d .records))
+      go f (feed-no-ticket a) = refl
+      go f (feed-stale a b) = refl
+      go f (feed-other-slots a b c) = refl
+      go f (feed-long a b c l) = refl
+      go f (feed-no-place a b c l m) = refl
+      go f (feed-read a b c l) =
+          let t = ticketIn (d .tickets) i in
+          let found = readFor d t table piece .found in
+          let k = read-kept 1 (slotsIn 1 8 (length table)) table (t .place) (t .taken) (256 - d .records .count) piece in
+          let its : t .serial .0 ≡ s .0 = for-held s t (room-held d s (good r) a) .1 in
+          ap (ofSerial n) (held-pushAll (d .records) (recordsOf (t .serial) (t .edition) found) (good r .ring)
+          (omega (arith, recordsOf-length (t .serial) (t .edition) found, k .fits, good r .count)))
+          ∙ ofSerial-append n (held (d .records)) (recordsOf (t .serial) (t .edition) found)
+          ∙ ap (λ (l : List Record). ofSerial n (held (d .records)) ++ l) (ofSerial-none n (t .serial) (t .edition) found (λ q. other (sym q ∙ its)))
+          ∙ append-nil (ofSerial n (held (d .records)))
+
+module _ (g : Gate) (s : Serial) (table : List ℕ) (rest : Word) (masks : length (g .seen) ≡ 16) (r : Reached (g .desk)) where
+  -- one feed of what is left: the records then held are those held before and those of this feed, and each goes to its own
+  pub rest-own : ToTheirOwn (g .desk .tickets) (g .seen) (restOf g s table rest .gate .seen) (held (feedOf (g .desk) s table rest .desk .records))
+  rest-own =
+      let d = feedOf (g .desk) s table rest .desk in
+      let o = emptied-own g d (reached-roomed g d masks (byCall r (callFeed s table rest))) in
+      let same = fed-serials (g .desk) s table rest r in
+      record {
+        own = λ i h.
+            o .own i (subst (λ (n : Serial). not (eqb (n .0) 0) ≡ true) (sym (same i)) h)
+            ∙ ap (λ (n : Serial). withBits (seenIn (g .seen) i .mask) (ofSerial (n .0) (held (d .records)))) (same i);
+        free = λ i h. o .free i (subst (λ (n : Serial). not (eqb (n .0) 0) ≡ false) (sym (same i)) h);
+        unread = o .unread;
+        kept = o .kept;
+      }
+
+  -- for a room of another serial: only the bits of its records that were held before this feed
+  pub rest-others : (i : ℕ) → isHeld (ticketIn (g .desk .tickets) i) ≡ true → (ticketIn (g .desk .tickets) i .serial .0 ≡ s .0 → ⊥)
+      → seenIn (restOf g s table rest .gate .seen) i .mask ≡ withBits (seenIn (g .seen) i .mask) (ofSerial (ticketIn (g .desk .tickets) i .serial .0) (held (g .desk .records)))
+  rest-others i h n =
+      rest-own .own i h
+      ∙ ap (λ (l : List Record). withBits (seenIn (g .seen) i .mask) l) (fed-others (g .desk) s table rest r (ticketIn (g .desk .tickets) i .serial .0) n)
