@@ -33,6 +33,7 @@ use Rattle.gate.specs.Noting.{seenIn}
 use Rattle.gate.specs.Own.{ToTheirOwn, emptied-none, emptied-own, reached-roomed}
 use Rattle.gate.specs.declared.Gate.{Gate}
 use Rattle.gate.specs.declared.Seen.{Seen}
+use Rattle.gate.specs.declared.feeding.Fed.{Fed}
 use Rattle.matching.specs.Laws.AnyTable.{read-kept}
 use Rattle.matching.specs.Occurrence.{Occurrence}
 use Rattle.matching.specs.Table.{slotsIn}
@@ -130,3 +131,91 @@ module _ (g : Gate) (s : Serial) (table : List ℕ) (rest : Word) (masks : lengt
   rest-others i h n =
       rest-own .own i h
       ∙ ap (λ (l : List Record). withBits (seenIn (g .seen) i .mask) l) (fed-others (g .desk) s table rest r (ticketIn (g .desk .tickets) i .serial .0) n)
+
+-- ---- a whole piece
+
+-- what each feed keeps, the whole keeps
+fed-keeps : (P : Gate → Type 0) (s : Serial) (table : List ℕ) (piece : Word) → ((x : Gate) (rest : Word) → P x → P (restOf x s table rest .gate)) → (most : ℕ) (g : Gate) (from : ℕ)
+    → P g → P (fedOn most g s table piece from .gate)
+unfolding fedOn
+fed-keeps P s table piece f zero g from p = p
+fed-keeps P s table piece f (suc most) g from p =
+    go (ltb from (length piece)) (eqb (next .taken) 0) (fed-keeps P s table piece f most (next .gate) (from + next .taken) (f g (drop from piece) p))
+  where
+    next : Fed
+    next = restOf g s table (drop from piece)
+
+    go : (a b : Bool) → P (fedOn most (next .gate) s table piece (from + next .taken) .gate)
+        → P (cond a (cond b (record { gate = next .gate; taken = from }) (fedOn most (next .gate) s table piece (from + next .taken))) (record { gate = g; taken = from }) .gate)
+    go true true q = f g (drop from piece) p
+    go true false q = q
+    go false b q = p
+
+settled-rest : (g : Gate) (s : Serial) (table : List ℕ) (rest : Word) → Settled g → Settled (restOf g s table rest .gate)
+settled-rest g s table rest k =
+    let d = feedOf (g .desk) s table rest .desk in
+    let r : Reached d = byCall (k .reached) (callFeed s table rest) in
+    record {
+      masks = rest-own g s table rest (k .masks) (k .reached) .kept ∙ k .masks;
+      reached = take-many-reached d 1024 r;
+      none = emptied-none g d (good r .count) .0;
+    }
+
+-- the rooms of g other than that of a serial: kept for them in x as in g, and each under its serial still
+record Untouched (g : Gate) (s : Serial) (x : Gate) : Type 0 where
+  settled : Settled x
+  serials : (i : ℕ) → ticketIn (x .desk .tickets) i .serial ≡ ticketIn (g .desk .tickets) i .serial
+  same : (i : ℕ) → (ticketIn (g .desk .tickets) i .serial .0 ≡ s .0 → ⊥) → seenIn (x .seen) i ≡ seenIn (g .seen) i
+
+untouched-rest : (g : Gate) (s : Serial) (table : List ℕ) (x : Gate) (rest : Word) → Untouched g s x → Untouched g s (restOf x s table rest .gate)
+unfolding withBits ofSerial
+untouched-rest g s table x rest u = record {
+  settled = settled-rest x s table rest (u .settled);
+  serials = λ i. ap (λ (l : List Ticket). ticketIn l i .serial) (emptied-none x d (good r .count) .1) ∙ fed-serials (x .desk) s table rest (u .settled .reached) i ∙ u .serials i;
+  same = λ i n. one i (λ q. n (sym (ap (λ (m : Serial). m .0) (u .serials i)) ∙ q)) ∙ u .same i n;
+}
+  where
+    d : Desk
+    d = feedOf (x .desk) s table rest .desk
+
+    r : Reached d
+    r = byCall (u .settled .reached) (callFeed s table rest)
+
+    one : (i : ℕ) → (ticketIn (x .desk .tickets) i .serial .0 ≡ s .0 → ⊥) → seenIn (restOf x s table rest .gate .seen) i ≡ seenIn (x .seen) i
+    one i n = go (isHeld (ticketIn (x .desk .tickets) i)) refl
+      where
+        go : (b : Bool) → isHeld (ticketIn (x .desk .tickets) i) ≡ b → seenIn (restOf x s table rest .gate .seen) i ≡ seenIn (x .seen) i
+        go true h =
+            let m : seenIn (restOf x s table rest .gate .seen) i .mask ≡ seenIn (x .seen) i .mask =
+            rest-others x s table rest (u .settled .masks) (u .settled .reached) i h n
+            ∙ ap (λ (l : List Record). withBits (seenIn (x .seen) i .mask) (ofSerial (ticketIn (x .desk .tickets) i .serial .0) l)) (u .settled .none) in
+            let v = rest-own x s table rest (u .settled .masks) (u .settled .reached) .unread i in
+            λ z. record { mask = m z; unread = v z }
+        go false h = rest-own x s table rest (u .settled .masks) (u .settled .reached) .free i h
+
+-- a piece, whatever table it is lent: for every room that another serial has, all is kept as before
+pub piece-others : (g : Gate) (s : Serial) (table : List ℕ) (piece : Word) → Settled g → (i : ℕ) → (ticketIn (g .desk .tickets) i .serial .0 ≡ s .0 → ⊥)
+    → seenIn (pieceOf g s table piece .gate .seen) i ≡ seenIn (g .seen) i
+unfolding pieceOf
+piece-others g s table piece k i n = go (ltb room 16) (eqb (ticketIn (g .desk .tickets) room .edition .0) (g .desk .edition .0)) refl
+  where
+    room : ℕ
+    room = roomOf (g .desk .tickets) s
+
+    fed : Fed
+    fed = fedOn (length piece) g s table piece 0
+
+    all : Untouched g s (fed .gate)
+    all = fed-keeps (Untouched g s) s table piece (untouched-rest g s table) (length piece) g 0 (record { settled = k; serials = λ j. refl; same = λ j m. refl })
+
+    ended : (b : Bool) → room < 16 → seenIn (endedBy (fed .gate) room (fed .taken) b .gate .seen) i ≡ seenIn (g .seen) i
+    ended true h = all .same i n
+    ended false h =
+        getD-set-other (fed .gate .seen) room i _ (record { mask = 0; unread = 1 })
+        (λ e. n (ap (λ (j : ℕ). ticketIn (g .desk .tickets) j .serial .0) e ∙ for-held s (ticketIn (g .desk .tickets) room) (room-held (g .desk) s (good (k .reached)) h) .1))
+        ∙ all .same i n
+
+    go : (a b : Bool) → ltb room 16 ≡ a → seenIn (pieceBy g s room (ticketIn (g .desk .tickets) room) table piece a b .gate .seen) i ≡ seenIn (g .seen) i
+    go false b h = refl
+    go true false h = refl
+    go true true h = ended (eqb (fed .taken) (length piece)) (ltb-true room 16 h)
