@@ -1,38 +1,45 @@
 -- A PIECE MARKS ITS OWN TICKET ONLY: whatever table it is lent, what is kept for every room of another serial is as before. And one feed of it
 -- notes each record that is held with its own, those of earlier feeds of other tickets too.
-use Prim.Native.Nat.{ℕ, zero, suc, _+_, _-_, _<_, _≤_}
+use Prim.Native.Nat.{ℕ, zero, suc, _+_, _-_, _<_}
 use mathlib.Core.Bool.{Bool, cond, false, not, true}
 use mathlib.Core.List.{List, [], _∷_, _++_, append-nil}
-use mathlib.Core.Path.{_≡_, _∙_, ap, ap₂, refl, subst, sym}
+use mathlib.Core.Path.{_≡_, _∙_, ap, refl, subst, sym}
 use native.Mathlib.Decide.{ℕ-discrete}
 use native.Mathlib.Omega.{arith}
 use lib.Dec.{eqb, ltb}
-use lib.ListN.{drop, length, length-set, set}
+use lib.ListN.{drop, length, length-set}
 use lib.Seq.{getD-set-other}
 use borrow.Author.Tests.{ltb-true, ne-eqb}
-use Rattle.desk.specs.Calls.{closeOf, openOf}
+use Rattle.desk.specs.Calls.{openOf}
 use Rattle.desk.specs.Feed.{feedOf, readFor}
-use Rattle.desk.specs.Laws.Good.{GoodDesk, good, room-held}
+use Rattle.desk.specs.Laws.Good.{good, room-held}
 use Rattle.desk.specs.Laws.Rooms.{for-held, set-other, set-same}
-use Rattle.desk.specs.Laws.Shared.{held-length, held-pushAll, recordsOf-length}
+use Rattle.desk.specs.Laws.Shared.{held-pushAll, recordsOf-length}
 use Rattle.desk.specs.Laws.TakeMany.{take-many-reached}
+use Rattle.desk.specs.Laws.Views.{Closes, close-done, close-no-ticket, closes}
+use Rattle.desk.specs.Laws.Views.{Opens, open-done, open-no-room, open-no-set, open-serial-end, opens}
+use Rattle.desk.specs.Laws.Views.{Replaces, replace-done, replace-edition-end, replace-fault, replace-table, replaces}
 use Rattle.desk.specs.Laws.Views.{Feeds, feed-long, feed-no-place, feed-no-ticket, feed-other-slots, feed-read, feed-stale, feeds}
-use Rattle.desk.specs.Reached.{Reached, byCall, callFeed}
-use Rattle.desk.specs.Rooms.{isHeld, roomOf, serialOf, ticketIn}
-use Rattle.desk.specs.Shared.{held, recordsOf}
+use Rattle.desk.specs.Reached.{Reached, byCall, callClose, callFeed, callOpen, callReplace, fromNew}
+use Rattle.desk.specs.Rooms.{isHeld, roomOf, ticketIn}
+use Rattle.desk.specs.Shared.{held, recordsOf, round}
+use Rattle.desk.specs.declared.Closing.{Closing}
 use Rattle.desk.specs.declared.Desk.{Desk}
 use Rattle.desk.specs.declared.Edition.{Edition}
 use Rattle.desk.specs.declared.Feeding.{Feeding}
+use Rattle.desk.specs.declared.OpenAnswer.{OpenAnswer}
+use Rattle.desk.specs.declared.OpenAnswer.the-variants as O
+use Rattle.desk.specs.declared.Opening.{Opening}
 use Rattle.desk.specs.declared.Record.{Record}
+use Rattle.desk.specs.declared.Replacing.{Replacing}
 use Rattle.desk.specs.declared.Serial.{Serial}
 use Rattle.desk.specs.declared.Ticket.{Ticket}
 use Rattle.gate.specs.Bits.{ofSerial, withBits}
-use Rattle.gate.specs.Feeding.{emptiedOf, fedOn, restOf}
-use Rattle.gate.specs.Gate.{endedBy, pieceBy, pieceOf}
-use Rattle.gate.specs.Noting.{seenIn}
+use Rattle.gate.specs.Feeding.{fedOn, restOf}
+use Rattle.gate.specs.Gate.{beginOf, changeOf, decideBy, decideOf, endedBy, newGate, pieceBy, pieceOf}
+use Rattle.gate.specs.Noting.{begunSeen, seenIn, unseen}
 use Rattle.gate.specs.Own.{ToTheirOwn, emptied-none, emptied-own, reached-roomed}
 use Rattle.gate.specs.declared.Gate.{Gate}
-use Rattle.gate.specs.declared.Seen.{Seen}
 use Rattle.gate.specs.declared.feeding.Fed.{Fed}
 use Rattle.matching.specs.Laws.AnyTable.{read-kept}
 use Rattle.matching.specs.Occurrence.{Occurrence}
@@ -219,3 +226,71 @@ piece-others g s table piece k i n = go (ltb room 16) (eqb (ticketIn (g .desk .t
     go false b h = refl
     go true false h = refl
     go true true h = ended (eqb (fed .taken) (length piece)) (ltb-true room 16 h)
+
+-- ---- a new gate is settled, and each call leaves it so
+
+pub settled-new : Settled newGate
+unfolding round
+settled-new = record { masks = refl; reached = fromNew; none = refl }
+
+pub settled-change : (g : Gate) (bytes run : List ℕ) → Settled g → Settled (changeOf g bytes (length run) .gate)
+unfolding changeOf
+settled-change g bytes run k =
+    record { masks = k .masks; reached = byCall (k .reached) (callReplace bytes run); none = ap held (go _ (replaces (g .desk) bytes (length run))) ∙ k .none }
+  where
+    go : (r : Replacing) → Replaces (g .desk) bytes (length run) r → r .desk .records ≡ g .desk .records
+    go r (replace-fault fault e) = refl
+    go r (replace-table machine needs e) = refl
+    go r (replace-edition-end count e l) = refl
+    go r (replace-done count e l) = refl
+
+pub settled-begin : (g : Gate) → Settled g → Settled (beginOf g .gate)
+unfolding beginOf
+settled-begin g k =
+    record { masks = wide (openOf (g .desk) .answer) ∙ k .masks; reached = byCall (k .reached) callOpen; none = ap held (go _ (opens (g .desk))) ∙ k .none }
+  where
+    wide : (a : OpenAnswer) → length (begunSeen (openOf (g .desk) .desk) (g .seen) a) ≡ length (g .seen)
+    wide (O.Opened s) = length-set (g .seen) (roomOf (openOf (g .desk) .desk .tickets) s) unseen
+    wide O.NoSet = refl
+    wide O.SerialEnd = refl
+    wide O.NoRoom = refl
+
+    go : (r : Opening) → Opens (g .desk) r → r .desk .records ≡ g .desk .records
+    go r (open-no-set a) = refl
+    go r (open-serial-end a b) = refl
+    go r (open-no-room a b c) = refl
+    go r (open-done a b i e h) = refl
+
+pub settled-piece : (g : Gate) (s : Serial) (table : List ℕ) (piece : Word) → Settled g → Settled (pieceOf g s table piece .gate)
+unfolding pieceOf
+settled-piece g s table piece k = go (ltb room 16) (eqb (ticketIn (g .desk .tickets) room .edition .0) (g .desk .edition .0))
+  where
+    room : ℕ
+    room = roomOf (g .desk .tickets) s
+
+    fed : Fed
+    fed = fedOn (length piece) g s table piece 0
+
+    all : Settled (fed .gate)
+    all = fed-keeps Settled s table piece (λ x rest p. settled-rest x s table rest p) (length piece) g 0 k
+
+    ended : (b : Bool) → Settled (endedBy (fed .gate) room (fed .taken) b .gate)
+    ended true = all
+    ended false = record { masks = length-set (fed .gate .seen) room _ ∙ all .masks; reached = all .reached; none = all .none }
+
+    go : (a b : Bool) → Settled (pieceBy g s room (ticketIn (g .desk .tickets) room) table piece a b .gate)
+    go false b = k
+    go true false = k
+    go true true = ended (eqb (fed .taken) (length piece))
+
+pub settled-decide : (g : Gate) (s : Serial) → Settled g → Settled (decideOf g s .gate)
+unfolding decideOf
+settled-decide g s k = go (ltb (roomOf (g .desk .tickets) s) 16)
+  where
+    same : (r : Closing) → Closes (g .desk) s r → r .desk .records ≡ g .desk .records
+    same r (close-no-ticket h) = refl
+    same r (close-done i e h) = refl
+
+    go : (a : Bool) → Settled (decideBy g s (roomOf (g .desk .tickets) s) a .gate)
+    go false = k
+    go true = record { masks = k .masks; reached = byCall (k .reached) (callClose s); none = ap held (same _ (closes (g .desk) s)) ∙ k .none }
