@@ -1,10 +1,11 @@
 -- A refused call of the gate changes nothing at all, whatever the gate, and a piece of no bytes changes nothing either.
-use Prim.Native.Nat.{ℕ}
+use Prim.Native.Nat.{ℕ, _<_}
 use mathlib.Core.Bool.{Bool, cond, false, true}
 use mathlib.Core.List.{List, []}
 use mathlib.Core.Path.{_≡_, ap, ap₂, refl}
 use lib.Dec.{eqb, ltb}
 use lib.ListN.{length}
+use borrow.Author.Tests.{eq-eqb, lt-ltb}
 use Rattle.desk.specs.Calls.{openOf}
 use Rattle.desk.specs.Numbers.{openNumber, replaceNumber}
 use Rattle.desk.specs.Replace.{replacedRun}
@@ -20,6 +21,7 @@ use Rattle.gate.specs.Gate.{beginOf, changeOf, decideBy, decideOf, ended
 use Rattle.gate.specs.Noting.{begunSeen, seenIn}
 use Rattle.gate.specs.Numbers.{pieceNumber, verdictNumber}
 use Rattle.gate.specs.declared.Gate.{Gate}
+use Rattle.gate.specs.declared.PieceAnswer.the-variants as P
 use Rattle.gate.specs.declared.Seen.{Seen}
 use Rattle.gate.specs.declared.Verdict.the-variants as Q
 use Rattle.matching.specs.Words.{Word}
@@ -106,3 +108,9 @@ piece-empty g s table = go (ltb i 16) (eqb (ticketIn (g .desk .tickets) i .editi
     go false b = refl
     go true false = refl
     go true true = refl
+
+-- and for a ticket of the edition in force it is read
+pub piece-empty-read : (g : Gate) (s : Serial) (table : List ℕ) → roomOf (g .desk .tickets) s < 16
+    → ticketIn (g .desk .tickets) (roomOf (g .desk .tickets) s) .edition .0 ≡ g .desk .edition .0 → pieceOf g s table [] .answer ≡ P.Read
+unfolding pieceOf fedOn
+piece-empty-read g s table h e = rw (lt-ltb _ 16 h, eq-eqb _ _ e) refl
