@@ -1,16 +1,27 @@
--- When each answer of `decide` is given.
+-- When each answer of `decide`, of `piece`, of `begin` and of `replace` is given.
+use Rattle.desk.specs.declared.OpenAnswer.the-variants as O
+use Rattle.desk.specs.declared.ReplaceAnswer.the-variants as R
+use Rattle.gate.specs.declared.PieceAnswer.the-variants as P
 use Rattle.gate.specs.declared.Verdict.the-variants as Q
-use Prim.Native.Nat.{ℕ}
+use Prim.Native.Nat.{ℕ, suc, _<_}
 use mathlib.Core.Bool.{false}
-use mathlib.Core.Logic.{_↔_}
+use mathlib.Core.List.{List}
+use mathlib.Core.Logic.{_↔_, _⊎_}
 use mathlib.Core.Path.{_≡_}
+use lib.ListN.{length}
 use Rattle.desk.specs.declared.Edition.{Edition}
+use Rattle.desk.specs.declared.OpenAnswer.{OpenAnswer}
+use Rattle.desk.specs.declared.ReplaceAnswer.{ReplaceAnswer}
 use Rattle.desk.specs.declared.Serial.{Serial}
+use Rattle.gate.specs.declared.PieceAnswer.{PieceAnswer}
 use Rattle.gate.specs.declared.Verdict.{Verdict}
 use Rattle.history.specs.Verdict.{EndsAt}
 use Rattle.matching.specs.Tags.{Tags}
 use Rattle.matching.specs.Words.{Word}
-use Rattle.verdicts.specs.GateHistory.{GateWorld, NotReplaced, Readable, Replaced, Undecided, approvalAt}
+use Rattle.tables.specs.Refusals.{Builds, TooFewSlots}
+use Rattle.tagset.specs.Refusals.{Refused}
+use Rattle.tagset.specs.declared.SetFault.{SetFault}
+use Rattle.verdicts.specs.GateHistory.{GateWorld, NotReplaced, Readable, Replaced, Undecided, approvalAt, undecidedOf}
 use Rattle.verdicts.specs.Mask.{maskOf}
 
 -- no tag ends anywhere in the bytes
@@ -57,3 +68,30 @@ module _ (w : GateWorld) (s : Serial) where
     pub unread : (answer ≡ Q.Unread) ↔ IsUnread
     pub pass : (answer ≡ Q.Pass) ↔ IsClean
     pub hold : (mask : ℕ) → (answer ≡ Q.Hold mask) ↔ IsTagged mask
+
+  -- there is one, and none was accepted since it began
+  abbrev pub IsCurrent : Type 0
+  IsCurrent = (k : ℕ) × Undecided w s k × NotReplaced w k
+
+  -- a piece, whatever table it is lent: read, or cut after so many bytes, exactly if there is a current approval
+  pub record PieceExactly (answer : PieceAnswer) : Type 0 where
+    pub none : (answer ≡ P.NoTicket) ↔ IsNone
+    pub stale : (e : Edition) → (answer ≡ P.Stale e) ↔ IsStale e
+    pub fed : IsCurrent ↔ ((answer ≡ P.Read) ⊎ ((n : ℕ) × (answer ≡ P.Cut n)))
+
+-- a beginning: refused exactly where no replacement was accepted; then where the serials are used up; then where 16 approvals are undecided,
+-- so that the room of a decided one serves again; else the serial one above the number begun
+pub record BeginExactly (w : GateWorld) (answer : OpenAnswer) : Type 0 where
+  pub no-set : (answer ≡ O.NoSet) ↔ (w .accepted ≡ 0)
+  pub serial-end : (answer ≡ O.SerialEnd) ↔ ((0 < w .accepted) × (length (w .approvals) ≡ 4294967295))
+  pub no-room : (answer ≡ O.NoRoom) ↔ ((0 < w .accepted) × (length (w .approvals) < 4294967295) × (undecidedOf (w .approvals) ≡ 16))
+  pub opened : (s : Serial) → (answer ≡ O.Opened s)
+      ↔ ((0 < w .accepted) × (length (w .approvals) < 4294967295) × (undecidedOf (w .approvals) < 16) × (s .0 ≡ suc (length (w .approvals))))
+
+-- a replacement: a set fault or TABLE exactly where building answers it; then EDITION where the editions are used up; else the edition one
+-- above the number accepted, and the number of tags
+pub record ReplaceExactly (w : GateWorld) (set : List ℕ) (len : ℕ) (answer : ReplaceAnswer) : Type 0 where
+  pub fault : (x : SetFault) → (answer ≡ R.Fault x) ↔ Refused set x
+  pub table : (machine states : ℕ) → (answer ≡ R.Table machine states) ↔ TooFewSlots 1 8 set len machine states
+  pub edition-end : (answer ≡ R.EditionEnd) ↔ ((count : ℕ) × Builds 1 8 set len count × (w .accepted ≡ 4294967295))
+  pub replaced : (e : Edition) (count : ℕ) → (answer ≡ R.Replaced e count) ↔ (Builds 1 8 set len count × (w .accepted < 4294967295) × (e .0 ≡ suc (w .accepted)))

@@ -33,10 +33,10 @@ heldIn Q.Unread = 0
 heldIn Q.NoTicket = 0
 
 module _ (w : GateWorld) (s : Serial) (numbered : (k : ℕ) → k < length (w .approvals) → approvalAt w k .serial ≡ suc k) where
-  same : (P : ℕ → Type 0) (j k : ℕ) → Undecided w s j → Undecided w s k → P j → P k
+  pub same : (P : ℕ → Type 0) (j k : ℕ) → Undecided w s j → Undecided w s k → P j → P k
   same P j k x y = subst P (let e : j ≡ k = omega (arith, numbered j (x .inside), numbered k (y .inside), x .serial, y .serial) in e)
 
-  stale-current : (j k : ℕ) → Undecided w s j → Replaced w j → Undecided w s k → NotReplaced w k → ⊥
+  pub stale-current : (j k : ℕ) → Undecided w s j → Replaced w j → Undecided w s k → NotReplaced w k → ⊥
   stale-current j k x p y q = omega (arith, same (λ n. Replaced w n) j k x y p, q)
 
   unread-whole : (j k : ℕ) → Undecided w s j → approvalAt w j .whole ≡ false → Undecided w s k → approvalAt w k .whole ≡ true → ⊥

@@ -46,7 +46,7 @@ module _ (g : GateWorld) (v : Standing g) where
       go (sits c h x) = record { room = h; kept = x }
 
   -- a serial that has a room is that of an undecided approval
-  waiting : (s : Serial) → roomOf (g .gate .desk .tickets) s < 16 → (k : ℕ) × Undecided g s k
+  pub waiting : (s : Serial) → roomOf (g .gate .desk .tickets) s < 16 → (k : ℕ) × Undecided g s k
   waiting s h = go (s .0) refl
     where
       go : (n : ℕ) → s .0 ≡ n → (k : ℕ) × Undecided g s k

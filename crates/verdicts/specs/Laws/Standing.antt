@@ -8,9 +8,9 @@ use mathlib.Core.Path.{_≡_, _∙_, refl, sym, ap, subst}
 use native.Mathlib.Nat.{le-of-eq, le-trans}
 use native.Mathlib.Omega.{arith}
 use lib.Dec.{eqb, ltb}
-use lib.ListN.{length, length-set, set}
+use lib.ListN.{length, length-append, length-set, set}
 use lib.Seq.{getD-set-other, getD-set-same}
-use borrow.Author.Tests.{ltb-true}
+use borrow.Author.Tests.{eqb-false, eqb-true, ltb-true}
 use Rattle.desk.specs.Laws.Good.{good}
 use Rattle.desk.specs.Laws.Rooms.{firstRoom-holds, for-held, free-held, held-for, new-held}
 use Rattle.desk.specs.Laws.Views.{Closes, Opens, Replaces, close-done, close-no-ticket, closes, open-done, open-no-room, open-no-set, open-serial-end, opens, replace-done, replace-edition-end, replace-fault, replace-table, replaces}
@@ -29,7 +29,7 @@ use Rattle.gate.specs.Noting.{begunSeen, seenIn, unseen}
 use Rattle.gate.specs.declared.Seen.{Seen}
 use Rattle.gate.specs.declared.feeding.Fed.{Fed}
 use Rattle.history.specs.Laws.Invariant.{Stranger, stranger-less}
-use Rattle.history.specs.Laws.Numbers.{differ}
+use Rattle.history.specs.Laws.Numbers.{differ, lower}
 use Rattle.history.specs.Laws.Seats.{Unique, for-other, has-room, nobody-new, room-for, room-kept, seat-gone, seat-new, ticket-kept, unique-new, unique-set}
 use Rattle.history.specs.Laws.Snoc.{snoc-each, snoc-length}
 use Rattle.matching.specs.Laws.Bools.{is-false, not-both}
@@ -37,6 +37,7 @@ use Rattle.matching.specs.Words.{Word}
 use Rattle.verdicts.specs.GateHistory.{Approval, GateAct, GateWorld, approvalAt, begunWith, decidedWith, gateBegin, gateDecide, gatePiece, gateReplace, gateRun, gateStart, gateStep, handedCut, handedWhole, handedWith, newApproval, noApproval, onApproval, replacedWith, settled, withApprovals}
 use Rattle.verdicts.specs.Laws.Alike.{Alike, fed-alike, same-unique}
 use Rattle.verdicts.specs.Laws.Approvals.{on-each, on-length, verdict-settles}
+use Rattle.verdicts.specs.Laws.Counted.{FedCounted, fed-counted}
 use Rattle.verdicts.specs.Laws.Masks.{nothingSeen, rooms-apart}
 
 -- what a room keeps for an approval: the ticket is of the edition that the count of replacements was, and unread is 0 while it is whole
@@ -50,6 +51,26 @@ pub data Sits (rooms : List Ticket) (seen : List Seen) (p : Approval) : Type 0 w
   sits : p .decided ≡ false → roomOf rooms (serialOf (p .serial)) < 16
       → Kept (ticketIn rooms (roomOf rooms (serialOf (p .serial)))) (seenIn seen (roomOf rooms (serialOf (p .serial)))) p → Sits rooms seen p
 
+-- a count of bytes taken: all that were handed in while it is whole, and else fewer
+pub record Tally (n : ℕ) (p : Approval) : Type 0 where
+  pub all : p .whole ≡ true → n ≡ length (p .handed)
+  pub part : p .whole ≡ false → n < length (p .handed)
+
+-- the ticket of an approval that is not decided counts so
+abbrev pub Counts : List Ticket → Approval → Type 0
+Counts rooms p = p .decided ≡ false → Tally (ticketIn rooms (roomOf rooms (serialOf (p .serial))) .taken) p
+
+pub tally-most : (n : ℕ) (p : Approval) → Tally n p → n ≤ length (p .handed)
+tally-most n p c = go (p .whole) refl
+  where
+    go : (x : Bool) → p .whole ≡ x → n ≤ length (p .handed)
+    go true e = le-of-eq (c .all e)
+    go false e = omega (arith, c .part e)
+
+room-in : {rooms : List Ticket} {seen : List Seen} {p : Approval} → Sits rooms seen p → p .decided ≡ false → roomOf rooms (serialOf (p .serial)) < 16
+room-in (stood c h) d = absurd (not-both c d)
+room-in (sits c h k) d = h
+
 pub record Standing (g : GateWorld) : Type 0 where
   pub reached : Reached (g .gate .desk)
   pub wide : length (g .gate .seen) ≡ 16
@@ -58,6 +79,7 @@ pub record Standing (g : GateWorld) : Type 0 where
   pub numbered : (k : ℕ) → k < length (g .approvals) → approvalAt g k .serial ≡ suc k
   pub upto : (k : ℕ) → k < length (g .approvals) → approvalAt g k .accepted ≤ g .accepted
   pub seats : (k : ℕ) → k < length (g .approvals) → Sits (g .gate .desk .tickets) (g .gate .seen) (approvalAt g k)
+  pub counts : (k : ℕ) → k < length (g .approvals) → Counts (g .gate .desk .tickets) (approvalAt g k)
   pub strangers : (s : Serial) → Stranger (length (g .approvals)) (s .0) → 16 ≤ roomOf (g .gate .desk .tickets) s
   pub unique : Unique (g .gate .desk .tickets)
 
@@ -70,6 +92,7 @@ standing-start = record {
   numbered = λ k h. absurd (omega arith);
   upto = λ k h. absurd (omega arith);
   seats = λ k h. absurd (omega arith);
+  counts = λ k h. absurd (omega arith);
   strangers = λ s h. nobody-new s;
   unique = unique-new;
 }
@@ -99,6 +122,7 @@ module _ (g : GateWorld) (v : Standing g) where
         numbered = v .numbered;
         upto = λ k h. omega (arith, v .upto k h);
         seats = v .seats;
+        counts = v .counts;
         strangers = v .strangers;
         unique = v .unique;
       }
@@ -168,6 +192,14 @@ module _ (g : GateWorld) (v : Standing g) where
       read = ap (λ (x : Seen). eqb (x .unread) 0) (getD-set-same (g .gate .seen) (roomOf rooms2 s) unseen nothingSeen (omega (arith, seated, hi, v .wide)));
     })
 
+    old-counts : (p : Approval) → (p .serial ≡ s .0 → ⊥) → Sits rooms (g .gate .seen) p → Counts rooms p → Counts rooms2 p
+    old-counts p ne x c d =
+        let n = serialOf (p .serial) in
+        subst (λ (y : Ticket). Tally (y .taken) p) (sym (ticket-kept rooms rooms-wide i t hi n (was-free n) (not-its n ne) (room-in x d))) (c d)
+
+    its-counts : Counts rooms2 new
+    its-counts d = record { all = λ e. ap (λ (x : Ticket). x .taken) (seat-new rooms rooms-wide i t hi s mine unknown .1); part = λ e. differ cc }
+
     strange : (n : Serial) → Stranger (length (g .approvals ++ new ∷ [])) (n .0) → n .0 ≡ s .0 → ⊥
     strange n (inl e) q = omega (arith, e, q)
     strange n (inr e) q = omega (arith, e, q, count, number)
@@ -185,6 +217,8 @@ module _ (g : GateWorld) (v : Standing g) where
       upto = snoc-each (g .approvals) new noApproval (λ k p. p .accepted ≤ g .accepted) (v .upto) (omega arith);
       seats = snoc-each (g .approvals) new noApproval (λ k p. Sits rooms2 seen2 p)
           (λ k h. old (approvalAt g k) (λ e. omega (arith, e, v .numbered k h, h, number)) (v .seats k h)) its;
+      counts = snoc-each (g .approvals) new noApproval (λ k p. Counts rooms2 p)
+          (λ k h. old-counts (approvalAt g k) (λ e. omega (arith, e, v .numbered k h, h, number)) (v .seats k h) (v .counts k h)) its-counts;
       strangers = λ n h. le-trans (v .strangers n (stranger-less (length (g .approvals)) (length (g .approvals ++ new ∷ [])) (n .0) (omega (arith, count)) h))
           (le-of-eq (sym (stays n (strange n h))));
       unique = unique-set rooms rooms-wide i t hi (v .unique) (λ n j ne a b.
@@ -224,6 +258,9 @@ module _ (g : GateWorld) (v : Standing g) where
         seats = on-each (s .0) settled (g .approvals) (λ j p. Sits (set rooms k freeTicket) (g .gate .seen) p)
             (λ j z e. stood refl (subst (λ (n : ℕ). 16 ≤ roomOf (set rooms k freeTicket) (serialOf n)) (sym e) gone))
             (λ j z e. other (approvalAt g j) e (v .seats j z));
+        counts = on-each (s .0) settled (g .approvals) (λ j p. Counts (set rooms k freeTicket) p)
+            (λ j z e d. differ cc)
+            (λ j z e. other-counts (approvalAt g j) e (v .seats j z) (v .counts j z));
         strangers = λ n z. (let q = v .strangers n (subst (λ (c : ℕ). Stranger c (n .0)) (on-length (s .0) settled (g .approvals)) z) in le-trans q (le-of-eq (sym (stays n (λ e. apart n e q)))));
         unique = unique-set rooms rooms-wide k freeTicket hk (v .unique) (λ n j ne a b. not-both b refl);
       }
@@ -253,6 +290,11 @@ module _ (g : GateWorld) (v : Standing g) where
                 read = ap (λ (j : ℕ). eqb (seenIn (g .gate .seen) j .unread) 0) r ∙ y .read;
               })
 
+          other-counts : (p : Approval) → (p .serial ≡ s .0 → ⊥) → Sits rooms (g .gate .seen) p → Counts rooms p → Counts (set rooms k freeTicket) p
+          other-counts p ne x c d =
+              let n = serialOf (p .serial) in
+              subst (λ (y : Ticket). Tally (y .taken) p) (sym (ticket-kept rooms rooms-wide k freeTicket hk n (not-its n ne) refl (room-in x d))) (c d)
+
       go : (x : Bool) → ltb (roomOf (g .gate .desk .tickets) s) 16 ≡ x
           → Standing (decidedWith g s (decideBy (g .gate) s i x .gate) (decideBy (g .gate) s i x .answer))
       go false e = v
@@ -280,6 +322,39 @@ module _ (g : GateWorld) (v : Standing g) where
           read = ap (λ (j : ℕ). eqb (seenIn (fed .gate .seen) j .unread) 0) r ∙ ap (λ (j : ℕ). eqb j 0) (a .unreads (roomOf rooms (serialOf (p .serial)))) ∙ k .read;
         })
 
+    c : FedCounted (g .gate) s piece 0 fed
+    c = fed-counted (length piece) (g .gate) s table piece 0 rooms-wide
+
+    -- the count of another's ticket, and that of its own
+    fed-counts : (p : Approval) → (p .serial ≡ s .0 → ⊥) → Sits rooms (g .gate .seen) p → Counts rooms p → Counts (fed .gate .desk .tickets) p
+    fed-counts p ne x y d =
+        let n = serialOf (p .serial) in
+        let same : ticketIn (fed .gate .desk .tickets) (roomOf (fed .gate .desk .tickets) n) .taken ≡ ticketIn rooms (roomOf rooms n) .taken =
+        ap (λ (j : ℕ). ticketIn (fed .gate .desk .tickets) j .taken) (a .same .rooms n) ∙ c .counted .others (roomOf rooms n) (rooms-apart rooms rooms-wide n s ne (room-in x d)) in
+        subst (λ (m : ℕ). Tally m p) (sym same) (y d)
+
+    own-count : (p : Approval) → p .serial ≡ s .0
+        → ticketIn (fed .gate .desk .tickets) (roomOf (fed .gate .desk .tickets) (serialOf (p .serial))) .taken ≡ ticketIn rooms (roomOf rooms (serialOf (p .serial))) .taken + fed .taken
+    own-count p e =
+        let n = serialOf (p .serial) in
+        let at : roomOf rooms n ≡ i = ap (λ (m : ℕ). roomOf rooms (serialOf m)) e in
+        ap (λ (j : ℕ). ticketIn (fed .gate .desk .tickets) j .taken) (a .same .rooms n ∙ at)
+        ∙ omega (arith, c .counted .own, c .total, ap (λ (j : ℕ). ticketIn rooms j .taken) at)
+
+    whole-counts : fed .taken ≡ length piece → (p : Approval) → p .serial ≡ s .0 → Counts rooms p → Counts (fed .gate .desk .tickets) (handedWhole piece p)
+    whole-counts z p e y d = record {
+      all = λ w. omega (arith, own-count p e, y d .all w, z, length-append (p .handed) piece);
+      part = λ w. omega (arith, own-count p e, y d .part w, z, length-append (p .handed) piece);
+    }
+
+    cut-counts : (fed .taken ≡ length piece → ⊥) → (p : Approval) → p .serial ≡ s .0 → Counts rooms p → Counts (fed .gate .desk .tickets) (handedCut piece p)
+    cut-counts z p e y d =
+        let few : fed .taken < length piece = lower _ _ (c .most (omega arith)) z in
+        record {
+          all = λ w. differ cc;
+          part = λ w. omega (arith, own-count p e, tally-most _ p (y d), few, length-append (p .handed) piece);
+        }
+
     whole-sits : (seen : List Seen) (p : Approval) → Sits (fed .gate .desk .tickets) seen p → Sits (fed .gate .desk .tickets) seen (handedWhole piece p)
     whole-sits seen p (stood c h) = stood c h
     whole-sits seen p (sits c h k) = sits c h (record { edition = k .edition; read = k .read })
@@ -288,8 +363,9 @@ module _ (g : GateWorld) (v : Standing g) where
     handed : (seen : List Seen) (f : Approval → Approval) → length seen ≡ 16 → ((p : Approval) → f p .serial ≡ p .serial) → ((p : Approval) → f p .accepted ≡ p .accepted)
         → ((p : Approval) → p .serial ≡ s .0 → Sits rooms (g .gate .seen) p → Sits (fed .gate .desk .tickets) seen (f p))
         → ((p : Approval) → (p .serial ≡ s .0 → ⊥) → Sits rooms (g .gate .seen) p → Sits (fed .gate .desk .tickets) seen p)
+        → ((p : Approval) → p .serial ≡ s .0 → Counts rooms p → Counts (fed .gate .desk .tickets) (f p))
         → Standing (withApprovals g (record { desk = fed .gate .desk; seen = seen }) (onApproval (s .0) f (g .approvals)))
-    handed seen f wide serial accepted hit miss = record {
+    handed seen f wide serial accepted hit miss count = record {
       reached = a .reached (v .reached);
       wide = wide;
       editions = ap (λ (e : Edition). e .0) (a .same .edition) ∙ v .editions;
@@ -297,6 +373,8 @@ module _ (g : GateWorld) (v : Standing g) where
       numbered = on-each (s .0) f (g .approvals) (λ j p. p .serial ≡ suc j) (λ j z e. serial (approvalAt g j) ∙ v .numbered j z) (λ j z e. v .numbered j z);
       upto = on-each (s .0) f (g .approvals) (λ j p. p .accepted ≤ g .accepted) (λ j z e. rw (accepted (approvalAt g j)) (v .upto j z)) (λ j z e. v .upto j z);
       seats = on-each (s .0) f (g .approvals) (λ j p. Sits (fed .gate .desk .tickets) seen p) (λ j z e. hit (approvalAt g j) e (v .seats j z)) (λ j z e. miss (approvalAt g j) e (v .seats j z));
+      counts = on-each (s .0) f (g .approvals) (λ j p. Counts (fed .gate .desk .tickets) p) (λ j z e. count (approvalAt g j) e (v .counts j z))
+          (λ j z e. fed-counts (approvalAt g j) e (v .seats j z) (v .counts j z));
       strangers = λ n z. rw (a .same .rooms n) (v .strangers n (subst (λ (c : ℕ). Stranger c (n .0)) (on-length (s .0) f (g .approvals)) z));
       unique = same-unique (a .same) (v .unique);
     }
@@ -304,11 +382,11 @@ module _ (g : GateWorld) (v : Standing g) where
     fed-wide : length (fed .gate .seen) ≡ 16
     fed-wide = a .wide ∙ v .wide
 
-    read : Standing (withApprovals g (fed .gate) (onApproval (s .0) (handedWhole piece) (g .approvals)))
-    read = handed (fed .gate .seen) (handedWhole piece) fed-wide (λ p. refl) (λ p. refl) (λ p e x. whole-sits (fed .gate .seen) p (fed-sits p x)) (λ p e x. fed-sits p x)
+    read : fed .taken ≡ length piece → Standing (withApprovals g (fed .gate) (onApproval (s .0) (handedWhole piece) (g .approvals)))
+    read z = handed (fed .gate .seen) (handedWhole piece) fed-wide (λ p. refl) (λ p. refl) (λ p e x. whole-sits (fed .gate .seen) p (fed-sits p x)) (λ p e x. fed-sits p x) (whole-counts z)
 
-    cut : i < 16 → Standing (withApprovals g (record { desk = fed .gate .desk; seen = cutIn (fed .gate .seen) i }) (onApproval (s .0) (handedCut piece) (g .approvals)))
-    cut h = handed (cutIn (fed .gate .seen) i) (handedCut piece) (length-set (fed .gate .seen) i _ ∙ fed-wide) (λ p. refl) (λ p. refl) (λ p e x. hit p e (fed-sits p x)) (λ p e x. miss p e (fed-sits p x))
+    cut : i < 16 → (fed .taken ≡ length piece → ⊥) → Standing (withApprovals g (record { desk = fed .gate .desk; seen = cutIn (fed .gate .seen) i }) (onApproval (s .0) (handedCut piece) (g .approvals)))
+    cut h z = handed (cutIn (fed .gate .seen) i) (handedCut piece) (length-set (fed .gate .seen) i _ ∙ fed-wide) (λ p. refl) (λ p. refl) (λ p e x. hit p e (fed-sits p x)) (λ p e x. miss p e (fed-sits p x)) (cut-counts z)
       where
         room : roomOf (fed .gate .desk .tickets) s ≡ i
         room = a .same .rooms s
@@ -338,18 +416,18 @@ module _ (g : GateWorld) (v : Standing g) where
     unfolding pieceOf
     standing-piece = go (ltb i 16) refl (eqb (ticketIn rooms i .edition .0) (g .gate .desk .edition .0))
       where
-        ended : (x : Bool) → i < 16
+        ended : (x : Bool) → i < 16 → eqb (fed .taken) (length piece) ≡ x
             → Standing (handedWith g s piece (endedBy (fed .gate) i (fed .taken) x .gate) (endedBy (fed .gate) i (fed .taken) x .answer))
-        ended true h = read
-        ended false h = cut h
+        ended true h e = read (eqb-true (fed .taken) (length piece) e)
+        ended false h e = cut h (eqb-false (fed .taken) (length piece) e)
 
         go : (x : Bool) → ltb i 16 ≡ x → (y : Bool)
             → Standing (handedWith g s piece (pieceBy (g .gate) s i (ticketIn rooms i) table piece x y .gate) (pieceBy (g .gate) s i (ticketIn rooms i) table piece x y .answer))
         go false e y = v
         go true e false = v
-        go true e true = ended (eqb (fed .taken) (length piece)) (ltb-true i 16 e)
+        go true e true = ended (eqb (fed .taken) (length piece)) (ltb-true i 16 e) refl
 
-  standing-step : (act : GateAct) → Standing (gateStep g act)
+  pub standing-step : (act : GateAct) → Standing (gateStep g act)
   standing-step (gateReplace set lent) = standing-replace set lent
   standing-step gateBegin = standing-begin
   standing-step (gatePiece s table piece) = standing-piece s table piece

@@ -1,0 +1,87 @@
+-- What each call but `decide` answers, over every history of the gate's calls and whatever tables the pieces were lent: each answer is given
+-- exactly if its case holds.
+use Rattle.gate.specs.declared.PieceAnswer.the-variants as P
+use Rattle.gate.specs.declared.Verdict.the-variants as Q
+use Prim.Native.Nat.{ℕ, _+_, _<_, _≤_}
+use mathlib.Core.List.{List}
+use mathlib.Core.Logic.{_↔_, inr}
+use mathlib.Core.Path.{_≡_}
+use lib.ListN.{length}
+use Rattle.desk.specs.declared.Serial.{Serial}
+use Rattle.gate.specs.Gate.{beginOf, changeOf, decideOf, pieceOf}
+use Rattle.gate.specs.declared.Gate.{Gate}
+use Rattle.matching.specs.Words.{Word}
+use Rattle.verdicts.specs.Cases.{BeginExactly, PieceExactly, ReplaceExactly}
+use Rattle.verdicts.specs.Exactly.{over-any-tables}
+use Rattle.verdicts.specs.GateHistory.{GateAct, NotReplaced, Undecided, approvalAt, gateRun, gateStart}
+use Rattle.verdicts.specs.Laws.Beginning.{begins-exactly}
+use Rattle.verdicts.specs.Laws.Held.{held-all}
+use Rattle.verdicts.specs.Laws.Piecing.{pieces, pieces-exactly}
+use Rattle.verdicts.specs.Laws.Replacing.{replaces-exactly}
+use Rattle.verdicts.specs.Laws.Standing.{standing, standing-start}
+use Rattle.verdicts.specs.Laws.Taken.{answers-taken, open-in, part-short, short-part, taken-of-handed}
+use Rattle.verdicts.specs.Taken.{AnswersTaken, OpenIn, TakenOfHanded, takenIn}
+
+-- A PIECE: NO TICKET exactly if no undecided approval has the serial, and STALE, with its edition, exactly if a replacement was accepted since it
+-- began, as when it is decided; else it is read, or cut
+pub piece-exactly : (acts : List GateAct) (s : Serial) (table : List ℕ) (piece : Word)
+    → PieceExactly (gateRun gateStart acts) s (pieceOf (gateRun gateStart acts .gate) s table piece .answer)
+piece-exactly acts s table piece =
+    let w = gateRun gateStart acts in
+    let v = standing acts gateStart standing-start in
+    pieces-exactly w s (v .numbered) (pieceOf (w .gate) s table piece .answer) (pieces w v s table piece)
+
+-- over any gate and any table, of a serial with a ticket of the edition in force: answered Read exactly if the ticket counts the whole piece
+-- more, and Cut exactly with the fewer bytes that it counts more
+pub piece-counts : (g : Gate) (s : Serial) → OpenIn g s → (table : List ℕ) (piece : Word) → AnswersTaken g s piece (pieceOf g s table piece)
+piece-counts = answers-taken
+
+-- THE NUMBER OF A CUT, after any history: fewer than the piece has, and as many as the ticket counts more
+pub cut-number : (acts : List GateAct) (s : Serial) (table : List ℕ) (piece : Word) (n : ℕ) → let g = gateRun gateStart acts .gate in
+    pieceOf g s table piece .answer ≡ P.Cut n → (n < length piece) × (takenIn (pieceOf g s table piece .gate) s ≡ takenIn g s + n)
+cut-number acts s table piece n q =
+    let w = gateRun gateStart acts in
+    let z = piece-exactly acts s table piece .fed .1 (inr (n, q)) in
+    answers-taken (w .gate) s (open-in w (standing acts gateStart standing-start) s (z .0) (z .1) (z .2)) table piece .cut n .0 q
+
+-- TAKEN IS HANDED: after any history the ticket of an undecided approval counts no more bytes than were handed in, and all of them exactly if
+-- each piece was answered Read
+pub taken-is-handed : (acts : List GateAct) (s : Serial) (k : ℕ) → Undecided (gateRun gateStart acts) s k → TakenOfHanded (gateRun gateStart acts) s k
+taken-is-handed acts s k u = taken-of-handed (gateRun gateStart acts) (standing acts gateStart standing-start) s k u
+
+-- so Unread is answered exactly if the ticket counts fewer bytes than were handed in, and Pass or Hold only if it counts every one
+pub unread-is-short : (acts : List GateAct) (s : Serial) → let w = gateRun gateStart acts in
+    (decideOf (w .gate) s .answer ≡ Q.Unread) ↔ ((k : ℕ) × Undecided w s k × NotReplaced w k × (takenIn (w .gate) s < length (approvalAt w k .handed)))
+unread-is-short acts s =
+    let w = gateRun gateStart acts in
+    let v = standing acts gateStart standing-start in
+    let u = over-any-tables acts s .unread in (
+      λ q. (let z = u .0 q in (z .0, z .1, z .2, part-short w v s (z .0) (z .1) (z .3))),
+      λ z. u .1 (z .0, z .1, z .2, short-part w v s (z .0) (z .1) (z .3)),
+    )
+
+pub pass-is-taken : (acts : List GateAct) (s : Serial) → let w = gateRun gateStart acts in
+    decideOf (w .gate) s .answer ≡ Q.Pass → (k : ℕ) × Undecided w s k × (takenIn (w .gate) s ≡ length (approvalAt w k .handed))
+pass-is-taken acts s q =
+    let z = over-any-tables acts s .pass q in
+    (z .0, z .1 .waits, taken-is-handed acts s (z .0) (z .1 .waits) .whole .0 (z .1 .whole))
+
+pub hold-is-taken : (acts : List GateAct) (s : Serial) (mask : ℕ) → let w = gateRun gateStart acts in
+    decideOf (w .gate) s .answer ≡ Q.Hold mask → (k : ℕ) × Undecided w s k × (takenIn (w .gate) s ≡ length (approvalAt w k .handed))
+hold-is-taken acts s mask q =
+    let z = over-any-tables acts s .hold mask q in
+    (z .0, z .1 .waits, taken-is-handed acts s (z .0) (z .1 .waits) .whole .0 (z .1 .whole))
+
+-- A BEGINNING: NO SET exactly if no replacement was accepted; then SERIAL exactly if 4,294,967,295 approvals were begun; then NO ROOM exactly if
+-- 16 of them are undecided; else the serial one above the number begun
+pub begin-exactly : (acts : List GateAct) → BeginExactly (gateRun gateStart acts) (beginOf (gateRun gateStart acts .gate) .answer)
+begin-exactly acts = begins-exactly (gateRun gateStart acts) (standing acts gateStart standing-start) (held-all acts)
+
+-- A REPLACEMENT: a set fault or TABLE exactly if building answers it; then EDITION exactly if 4,294,967,295 were accepted; else the edition one
+-- above the number accepted, and the number of tags
+pub replace-exactly : (acts : List GateAct) (set : List ℕ) (len : ℕ) → ReplaceExactly (gateRun gateStart acts) set len (changeOf (gateRun gateStart acts .gate) set len .answer)
+replace-exactly acts = replaces-exactly (gateRun gateStart acts) (standing acts gateStart standing-start) (held-all acts)
+
+-- at most 16 tags are in force, so each has its bit in a mask
+pub few-tags : (acts : List GateAct) → length (gateRun gateStart acts .tags) ≤ 16
+few-tags acts = held-all acts .few-tags
