@@ -10,17 +10,20 @@ use lib.ListN.{length}
 use Rattle.desk.specs.declared.Serial.{Serial}
 use Rattle.gate.specs.Gate.{beginOf, changeOf, decideOf, pieceOf}
 use Rattle.gate.specs.declared.Gate.{Gate}
-use Rattle.matching.specs.Words.{Word}
+use Rattle.matching.specs.Words.{Below, Word}
 use Rattle.verdicts.specs.Cases.{BeginExactly, PieceExactly, ReplaceExactly}
 use Rattle.verdicts.specs.Exactly.{over-any-tables}
-use Rattle.verdicts.specs.GateHistory.{GateAct, NotReplaced, Undecided, approvalAt, gateRun, gateStart}
+use Rattle.verdicts.specs.GateHistory.{AsLeft, GateAct, NotReplaced, Undecided, approvalAt, gateRun, gateStart}
 use Rattle.verdicts.specs.Laws.Beginning.{begins-exactly}
+use Rattle.verdicts.specs.Laws.Came.{came-start}
+use Rattle.verdicts.specs.Laws.CamePiece.{came}
 use Rattle.verdicts.specs.Laws.Held.{held-all}
 use Rattle.verdicts.specs.Laws.Piecing.{pieces, pieces-exactly}
 use Rattle.verdicts.specs.Laws.Replacing.{replaces-exactly}
 use Rattle.verdicts.specs.Laws.Standing.{standing, standing-start}
 use Rattle.verdicts.specs.Laws.Taken.{answers-taken, open-in, part-short, short-part, taken-of-handed}
-use Rattle.verdicts.specs.Taken.{AnswersTaken, OpenIn, TakenOfHanded, takenIn}
+use Rattle.verdicts.specs.Laws.Within.{answers-within}
+use Rattle.verdicts.specs.Taken.{AnswersTaken, AnswersWithin, OpenIn, TakenOfHanded, takenIn}
 
 -- A PIECE: NO TICKET exactly if no undecided approval has the serial, and STALE, with its edition, exactly if a replacement was accepted since it
 -- began, as when it is decided; else it is read, or cut
@@ -71,6 +74,14 @@ pub hold-is-taken : (acts : List GateAct) (s : Serial) (mask : ℕ) → let w = 
 hold-is-taken acts s mask q =
     let z = over-any-tables acts s .hold mask q in
     (z .0, z .1 .waits, taken-is-handed acts s (z .0) (z .1 .waits) .whole .0 (z .1 .whole))
+
+-- over tables as left, a piece for a current approval is read whole exactly if its ticket then counts no more than 4,294,967,295 bytes, and is
+-- else cut before its first byte
+pub piece-as-left : (acts : List GateAct) → AsLeft gateStart acts → (s : Serial) (k : ℕ) → let w = gateRun gateStart acts in
+    Undecided w s k → NotReplaced w k → (piece : Word) → Below 256 piece → AnswersWithin (w .gate) s piece (pieceOf (w .gate) s (w .table) piece .answer)
+piece-as-left acts l s k u n =
+    let w = gateRun gateStart acts in
+    answers-within w (came acts gateStart l came-start) s (open-in w (standing acts gateStart standing-start) s k u n)
 
 -- A BEGINNING: NO SET exactly if no replacement was accepted; then SERIAL exactly if 4,294,967,295 approvals were begun; then NO ROOM exactly if
 -- 16 of them are undecided; else the serial one above the number begun

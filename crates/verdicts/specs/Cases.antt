@@ -37,11 +37,12 @@ module _ (w : GateWorld) (s : Serial) where
   abbrev pub IsStale : Edition → Type 0
   IsStale e = (k : ℕ) × Undecided w s k × Replaced w k × (e .0 ≡ approvalAt w k .accepted)
 
-  -- there is one, none was accepted since it began, and not every byte handed in was taken
+  -- there is one, none was accepted since it began, and not every byte handed in was taken: its ticket counts fewer (`unread-is-short` in
+  -- Calls.antt)
   abbrev pub IsUnread : Type 0
   IsUnread = (k : ℕ) × Undecided w s k × NotReplaced w k × (approvalAt w k .whole ≡ false)
 
-  -- there is one, none was accepted since it began, and every byte handed in was taken
+  -- there is one, none was accepted since it began, and every byte handed in was taken: its ticket counts them all (`taken-is-handed` there)
   abbrev pub IsRead : Type 0
   IsRead = (k : ℕ) × Readable w s k
 

@@ -8,6 +8,7 @@ use lib.ListN.{length}
 use Rattle.desk.specs.Rooms.{roomOf, ticketIn}
 use Rattle.desk.specs.declared.Serial.{Serial}
 use Rattle.gate.specs.declared.Gate.{Gate}
+use Rattle.gate.specs.declared.PieceAnswer.{PieceAnswer}
 use Rattle.gate.specs.declared.Piecing.{Piecing}
 use Rattle.matching.specs.Words.{Word}
 use Rattle.verdicts.specs.GateHistory.{GateWorld, approvalAt}
@@ -31,3 +32,8 @@ pub record AnswersTaken (g : Gate) (s : Serial) (piece : Word) (r : Piecing) : T
 pub record TakenOfHanded (w : GateWorld) (s : Serial) (k : ℕ) : Type 0 where
   pub most : takenIn (w .gate) s ≤ length (approvalAt w k .handed)
   pub whole : (approvalAt w k .whole ≡ true) ↔ (takenIn (w .gate) s ≡ length (approvalAt w k .handed))
+
+-- a piece by what the count would come to: all of it is taken if that is no more than 4,294,967,295, and else none of it
+pub record AnswersWithin (g : Gate) (s : Serial) (piece : Word) (answer : PieceAnswer) : Type 0 where
+  pub read : (answer ≡ P.Read) ↔ (takenIn g s + length piece ≤ 4294967295)
+  pub cut : (n : ℕ) → (answer ≡ P.Cut n) ↔ ((n ≡ 0) × (4294967295 < takenIn g s + length piece))

@@ -27,7 +27,7 @@ use Rattle.verdicts.specs.Laws.Deciding.{Seated, seated}
 use Rattle.verdicts.specs.Laws.Standing.{Standing, Tally, tally-most}
 use Rattle.verdicts.specs.Taken.{AnswersTaken, OpenIn, TakenOfHanded, takenIn}
 
-abbrev cutAfter : PieceAnswer → ℕ
+abbrev pub cutAfter : PieceAnswer → ℕ
 cutAfter (P.Cut n) = n
 cutAfter P.Read = 0
 cutAfter P.NoTicket = 0

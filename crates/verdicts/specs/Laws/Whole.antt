@@ -18,8 +18,10 @@ use Rattle.desk.specs.declared.Edition.{Edition}
 use Rattle.desk.specs.declared.Feeding.{Feeding}
 use Rattle.desk.specs.declared.Serial.{Serial}
 use Rattle.gate.specs.Feeding.{fedOn, restOf}
+use Rattle.gate.specs.Laws.Feeding.{fed-idle}
 use Rattle.gate.specs.declared.Gate.{Gate}
 use Rattle.gate.specs.declared.Seen.{Seen}
+use Rattle.gate.specs.declared.feeding.Fed.{Fed}
 use Rattle.history.specs.History.{Account, Act, AllBytes, World, accountAt, grown, noAccount, run, start}
 use Rattle.history.specs.Laws.Accounts.{onSerial-length}
 use Rattle.history.specs.Laws.Feeding.{agrees}
@@ -77,6 +79,29 @@ open-on acts b seen s taken g more same o f =
           (ap (λ (i : ℕ). ticketIn (g .desk .tickets) i .edition .0) (same .rooms s)
           ∙ ap (λ (e : Edition). e .0) (same .editions (roomOf (w .desk .tickets) s)) ∙ f .current ∙ ap (λ (e : Edition). e .0) (sym (same .edition)));
     }
+
+-- where the bytes are too many, none is taken
+pub long-none : (acts : List Act) → AllBytes acts → (seen : List Seen) (s : Serial) (piece : Word) (k : ℕ) → k < length (run start acts .accounts) → s .0 ≡ suc k
+    → 4294967295 < length (accountAt (run start acts) k .bytes) + length piece
+    → fedOn (length piece) (record { desk = run start acts .desk; seen = seen }) s (run start acts .table) piece 0 .taken ≡ 0
+unfolding fedOn
+long-none acts b seen s [] k h e long = refl
+long-none acts b seen s (c ∷ rest) k h e long =
+    ap (λ (x : Fed). x .taken) (fed-idle (length rest) g s (w .table) (c ∷ rest) 0 (omega arith) (none _ (feeds (w .desk) s (w .table) (c ∷ rest))))
+  where
+    w : World
+    w = run start acts
+
+    g : Gate
+    g = record { desk = run start acts .desk; seen = seen }
+
+    none : (r : Feeding) → Feeds (w .desk) (roomOf (w .desk .tickets) s) (w .table) (c ∷ rest) r → takenBy (r .answer) ≡ 0
+    none r (feed-no-ticket a) = refl
+    none r (feed-stale a q) = refl
+    none r (feed-other-slots a q n) = refl
+    none r (feed-no-place a q l m n) = refl
+    none r (feed-long a q l m) = refl
+    none r (feed-read a q l m) = absurd (omega (arith, m, long, agrees w (sound acts b .inv) s k h e a .taken))
 
 pub fed-all : (most : ℕ) (acts : List Act) → AllBytes acts → (seen : List Seen) → Joined seen (run start acts) → (s : Serial) (d : Desk) (table : List ℕ) (piece : Word) (from : ℕ)
     → run start acts .desk ≡ d → run start acts .table ≡ table → Below 256 piece → from ≤ length piece → length piece ≤ from + most
