@@ -140,7 +140,7 @@ enum {
     SLEET_UNREAD = 4      /* bytes handed in were not taken: begin anew, from its first byte */
 };
 
-/* Names as the documents write them: CUT to NOTHING, ALL to DAMAGED, PASS to UNREAD. */
+/* Names as docs/RULES.md writes them: CUT to NOTHING, ALL to DAMAGED, PASS to UNREAD. */
 static inline const char *sleet_refusal_name(uint64_t refusal)
 {
     static const char *const names[] = {
@@ -425,6 +425,8 @@ typedef struct sleet_pieced {
     uint32_t edition; /* STALE: that under which it began */
 } sleet_pieced;
 
+/* An accepted call is no verdict: HOLD, TOO_OLD and UNREAD are accepted too. Let through what has
+   SLEET_PASS, and nothing else. */
 typedef struct sleet_decided {
     uint64_t refusal; /* NO_TICKET */
     uint64_t verdict; /* SLEET_PASS, SLEET_HOLD, SLEET_TOO_OLD, SLEET_UNREAD; 0 where refused */
