@@ -24,7 +24,7 @@ use Rattle.gate.specs.Noting.{seenIn}
 use Rattle.gate.specs.declared.Gate.{Gate}
 use Rattle.history.specs.Laws.Seats.{Unique}
 use Rattle.matching.specs.Words.{Word}
-use Rattle.verdicts.specs.Laws.Masks.{noted-length, noted-unread}
+use Rattle.gate.specs.Laws.Own.{noted-length, noted-unread}
 
 -- two desks whose rooms have the same serials and editions
 pub record SameRooms (d e : Desk) : Type 0 where

@@ -29,7 +29,7 @@ use Rattle.verdicts.specs.Laws.Came.{Came, Match, gateOf}
 use Rattle.verdicts.specs.Laws.Deciding.{Seated, maskIn, seated}
 use Rattle.verdicts.specs.Laws.Each.{Each, each-at, each-length}
 use Rattle.verdicts.specs.Laws.Mask.{mask-bit, number-lt, same-bits}
-use Rattle.verdicts.specs.Laws.Masks.{masked}
+use Rattle.gate.specs.Bits.{withBits}
 use Rattle.verdicts.specs.Laws.Onward.{Joined}
 use Rattle.verdicts.specs.Laws.Standing.{Standing}
 use Rattle.verdicts.specs.Mask.{carried, maskOf}
@@ -100,7 +100,7 @@ module _ (acts : List Act) (b : AllBytes acts) (accepted : ℕ) (seen : List See
         subst (λ (c : Word). EndsAt (w .tags) c (y .tag .0) (y .end)) bytes-are
         (record-has-tag acts b s k ticket y (subst (λ (l : List Record). List·Memᴰ y l) (sym out-only) (z .0)) (z .1) .1)
 
-    mask-is : mask ≡ masked 0 rs
+    mask-is : mask ≡ withBits 0 rs
     mask-is = j .masks s (seat .room)
 
     there : (n : ℕ) → mask / 2 ^ n % 2 ≡ 1 → (e : ℕ) × EndsAt (w .tags) bytes n e
