@@ -12,7 +12,8 @@ mod engine;
 mod engines;
 mod english;
 mod figures;
-// The archive's functions over slices, as the Rust crate has them.
+// The archive's functions over slices, as the Rust crate has them; not all of them are called here.
+#[allow(dead_code)]
 #[path = "../../rust/src/raw.rs"]
 mod gateway;
 mod goals;
