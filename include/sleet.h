@@ -432,6 +432,7 @@ typedef struct sleet_decided {
     uint64_t verdict; /* SLEET_PASS, SLEET_HOLD, SLEET_TOO_OLD, SLEET_UNREAD; 0 where refused */
     uint64_t mask;    /* HOLD: bit i for tag i of the set in force */
     uint32_t edition; /* TOO_OLD: that under which it began */
+    size_t taken;     /* bytes that were read for it: let no other number of bytes through */
 } sleet_decided;
 
 /* Makes it a new one: edition 0, no set, no approval. One of zeros, as a static one is, is new too. */
@@ -463,9 +464,10 @@ SLEET_LOOK static inline sleet_begun sleet_begin(sleet_gateway *gateway)
 }
 
 /* The next piece of an approval, of any length; a tag may lie across pieces. Refused: NO_TICKET,
-   STALE. What it answers need not be looked at: the decision knows it too. Null with a length above
-   0 is a piece that nobody can read: none of it is taken, so the approval can't pass. */
-static inline sleet_pieced sleet_piece(sleet_gateway *gateway, uint32_t serial, const uint8_t *piece,
+   STALE. Look at NO_TICKET: no approval has this serial, so nobody read the piece, and no decision
+   knows of it. All else that a piece answers, the decision of its serial knows too. Null with a
+   length above 0 is a piece that nobody can read: none of it is taken, so the approval can't pass. */
+SLEET_LOOK static inline sleet_pieced sleet_piece(sleet_gateway *gateway, uint32_t serial, const uint8_t *piece,
                                        size_t piece_length)
 {
     /* over a table of no numbers, which is never that of the replacement, no byte is taken */
@@ -486,12 +488,14 @@ static inline sleet_pieced sleet_piece(sleet_gateway *gateway, uint32_t serial, 
    NO_TICKET for ever. Refused: NO_TICKET. */
 SLEET_LOOK static inline sleet_decided sleet_decide(sleet_gateway *gateway, uint32_t serial)
 {
+    sleet_answer before = sleet_desk_state(gateway->gate.desk, serial);
     sleet_gate_reply r = sleet_gate_decide(gateway->gate, serial);
-    sleet_decided said = {r.answer.refusal, SLEET_NO_VERDICT, 0, 0};
+    sleet_decided said = {r.answer.refusal, SLEET_NO_VERDICT, 0, 0, 0};
     gateway->gate = r.gate;
     if (said.refusal != SLEET_ACCEPTED)
         return said;
     said.verdict = r.answer.a;
+    said.taken = before.c;
     if (said.verdict == SLEET_HOLD)
         said.mask = r.answer.b;
     if (said.verdict == SLEET_TOO_OLD)

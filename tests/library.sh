@@ -37,14 +37,14 @@ int main() {
     sleet_tags tags = sleet_tags_none();
     if (!sleet_tags_add(&tags, "he", 2) || sleet_change(&gateway, tags.bytes, tags.length).tags != 1) return 1;
     uint32_t serial = sleet_begin(&gateway).serial;
-    sleet_piece(&gateway, serial, reinterpret_cast<const uint8_t *>("she"), 3);
+    if (!sleet_piece(&gateway, serial, reinterpret_cast<const uint8_t *>("she"), 3).whole) return 1;
     return sleet_decide(&gateway, serial).verdict != SLEET_HOLD;
 }' >"$out/in-cpp.cpp"
 "$CXX" -std=c++11 $warnings "$out/in-cpp.cpp" $flags -o "$out/in-cpp"
 $RUN "$out/in-cpp"
 
 note 'an answer that says what nothing else says cannot be ignored without a warning'
-for ignored in 'sleet_decide(&g, 1)' 'sleet_change(&g, 0, 0)' 'sleet_tags_add(&t, "he", 2)' 'sleet_set_add(t.bytes, 580, 0, "he", 2)'; do
+for ignored in 'sleet_decide(&g, 1)' 'sleet_piece(&g, 1, 0, 0)' 'sleet_change(&g, 0, 0)' 'sleet_tags_add(&t, "he", 2)' 'sleet_set_add(t.bytes, 580, 0, "he", 2)'; do
   echo "#include <sleet.h>
 void ignore(void); sleet_gateway g; sleet_tags t; void ignore(void) { $ignored; }" >"$out/ignored.c"
   if "$CC" -std=c11 $warnings -I "$out/include" -c "$out/ignored.c" -o "$out/ignored.o" 2>"$out/ignored.txt"; then

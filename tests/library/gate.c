@@ -47,9 +47,10 @@ static void hand(uint32_t serial, const char *text)
 
 static void verdict(const char *what, uint32_t serial, uint64_t wanted, uint64_t mask, uint32_t edition)
 {
+    size_t taken = sleet_state(&g.gate.desk, serial).taken;
     sleet_decided said = sleet_decide(&g, serial);
     need(what, said.refusal == SLEET_ACCEPTED && said.verdict == wanted && said.mask == mask &&
-                   said.edition == edition);
+                   said.edition == edition && said.taken == taken);
 }
 
 static void no_ticket(const char *what, uint32_t serial)
