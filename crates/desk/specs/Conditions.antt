@@ -9,9 +9,7 @@ use lib.Dec.{eqb, ltb}
 use lib.ListN.{length}
 use Rattle.matching.specs.Refusal.{Ground, _if_}
 use Rattle.matching.specs.Words.{Word}
-use Rattle.matching.specs.Table.{slotsIn}
-use Rattle.tables.specs.Building.{builtNumber, builtOf}
-use Rattle.tables.specs.Refusals.{Answers, Builds}
+use Rattle.tables.specs.Building.{builtNumber}
 use Rattle.desk.specs.Rooms.{serialOf, editionOf, ticketIn, roomOf, ticketsHeld}
 use Rattle.desk.specs.Shared.{held}
 use Rattle.desk.specs.Numbers.{replaceNumber, replaceValues, openNumber, feedNumber, closeNumber, takeNumber}
@@ -28,6 +26,7 @@ use Rattle.desk.specs.declared.FeedAnswer.{FeedAnswer}
 use Rattle.desk.specs.declared.CloseAnswer.{CloseAnswer}
 use Rattle.desk.specs.declared.TakeAnswer.{TakeAnswer}
 use Rattle.desk.specs.declared.TakeAnswer.the-variants as K
+use Rattle.desk.specs.Layout.{DeskAnswers, DeskBuilds, Fits, Lent, Sizes, deskBuilt, lentFits, sizesOf}
 
 -- no set was ever accepted
 abbrev pub NoSet : Desk → Type 0
@@ -58,8 +57,8 @@ abbrev pub Current : Desk → Serial → Type 0
 Current d s = ticketOf d s .edition .0 ≡ d .edition .0
 
 -- the lent table has the slot count of the last replacement
-abbrev pub SameSlots : Desk → List ℕ → Type 0
-SameSlots d table = slotsIn 1 8 (length table) ≡ d .slots
+abbrev pub SameSlots : Desk → Lent → Type 0
+SameSlots d table = Fits (sizesOf table) (d .slots)
 
 -- the bytes taken and the piece pass 4,294,967,295
 abbrev pub TooLong : Desk → Serial → Word → Type 0
@@ -75,11 +74,11 @@ abbrev pub openGrounds : Desk → List Ground
 openGrounds d = (9 if eqb (d .edition .0) 0) ∷ (10 if eqb (d .serial .0) 4294967295) ∷ (11 if eqb (ticketsHeld (d .tickets)) 16) ∷ []
 
 -- a table of another slot count is a stop and no refusal, so it has number 0; but it comes before LONG
-abbrev pub feedGrounds : Desk → Serial → List ℕ → Word → List Ground
+abbrev pub feedGrounds : Desk → Serial → Lent → Word → List Ground
 feedGrounds d s table piece =
     (12 if not (ltb (roomOf (d .tickets) s) 16))
     ∷ (13 if not (eqb (ticketOf d s .edition .0) (d .edition .0)))
-    ∷ (0 if not (eqb (slotsIn 1 8 (length table)) (d .slots)))
+    ∷ (0 if not (lentFits (sizesOf table) (d .slots)))
     ∷ (14 if ltb 4294967295 (ticketOf d s .taken + length piece))
     ∷ []
 
@@ -90,8 +89,8 @@ abbrev pub takeGrounds : Desk → List Ground
 takeGrounds d = (16 if eqb (d .records .count) 0) ∷ []
 
 -- what building refuses, and then the largest edition
-abbrev pub replaceGrounds : Desk → List ℕ → ℕ → List Ground
-replaceGrounds d bytes len = (builtNumber (builtOf 1 8 bytes len) if not (eqb (builtNumber (builtOf 1 8 bytes len)) 0)) ∷ (8 if eqb (d .edition .0) 4294967295) ∷ []
+abbrev pub replaceGrounds : Desk → List ℕ → Sizes → List Ground
+replaceGrounds d bytes len = (builtNumber (deskBuilt bytes len) if not (eqb (builtNumber (deskBuilt bytes len)) 0)) ∷ (8 if eqb (d .edition .0) 4294967295) ∷ []
 
 -- ---- each number, exactly
 
@@ -103,7 +102,7 @@ pub record OpenExact (d : Desk) (a : OpenAnswer) : Type 0 where
   pub opened : (s : Serial) → (a ≡ O.Opened s) ↔ ((NoSet d → ⊥) × (LastSerial d → ⊥) × (AllHeld d → ⊥) × (s ≡ serialOf (d .serial .0 + 1)))
 
 -- feed: 12, 13, then a table of another slot count, then 14
-pub record FeedExact (d : Desk) (s : Serial) (table : List ℕ) (piece : Word) (a : FeedAnswer) : Type 0 where
+pub record FeedExact (d : Desk) (s : Serial) (table : Lent) (piece : Word) (a : FeedAnswer) : Type 0 where
   pub no-ticket : (feedNumber a ≡ 12) ↔ (HasRoom d s → ⊥)
   pub stale : (feedNumber a ≡ 13) ↔ (HasRoom d s × (Current d s → ⊥))
   pub long : (feedNumber a ≡ 14) ↔ (HasRoom d s × Current d s × SameSlots d table × TooLong d s piece)
@@ -119,7 +118,7 @@ pub record TakeExact (d : Desk) (a : TakeAnswer) : Type 0 where
   pub taken : (r : Record) → (a ≡ K.Taken r) ↔ ((rest : List Record) × (held (d .records) ≡ r ∷ rest))
 
 -- replace: set faults and TABLE with their values, as building gives them; then 8; else the next edition and the number of tags
-pub record ReplaceExact (d : Desk) (bytes : List ℕ) (len : ℕ) (a : ReplaceAnswer) : Type 0 where
-  pub building : (n : ℕ) (values : List ℕ) → 0 < n → n < 8 → ((replaceNumber a ≡ n) × (replaceValues a ≡ values)) ↔ Answers 1 8 bytes len n values
-  pub last-edition : (replaceNumber a ≡ 8) ↔ (((count : ℕ) × Builds 1 8 bytes len count) × LastEdition d)
-  pub replaced : (e : Edition) (count : ℕ) → (a ≡ R.Replaced e count) ↔ (Builds 1 8 bytes len count × (LastEdition d → ⊥) × (e ≡ editionOf (d .edition .0 + 1)))
+pub record ReplaceExact (d : Desk) (bytes : List ℕ) (len : Sizes) (a : ReplaceAnswer) : Type 0 where
+  pub building : (n : ℕ) (values : List ℕ) → 0 < n → n < 8 → ((replaceNumber a ≡ n) × (replaceValues a ≡ values)) ↔ DeskAnswers bytes len n values
+  pub last-edition : (replaceNumber a ≡ 8) ↔ (((count : ℕ) × DeskBuilds bytes len count) × LastEdition d)
+  pub replaced : (e : Edition) (count : ℕ) → (a ≡ R.Replaced e count) ↔ (DeskBuilds bytes len count × (LastEdition d → ⊥) × (e ≡ editionOf (d .edition .0 + 1)))

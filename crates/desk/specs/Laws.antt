@@ -1,4 +1,5 @@
 -- The laws of the desk's definitions.
+pub mod Layout
 pub mod Rooms
 pub mod Faults
 pub mod Shared

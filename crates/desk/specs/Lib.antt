@@ -1,4 +1,5 @@
 -- What the desk's calls answer and leave.
+pub mod Layout
 pub mod Rooms
 pub mod Wanted
 pub mod Shared

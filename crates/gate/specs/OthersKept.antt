@@ -41,9 +41,8 @@ use Rattle.gate.specs.Noting.{begunSeen, seenIn, unseen}
 use Rattle.gate.specs.Own.{ToTheirOwn, emptied-none, emptied-own, reached-roomed}
 use Rattle.gate.specs.declared.Gate.{Gate}
 use Rattle.gate.specs.declared.feeding.Fed.{Fed}
-use Rattle.matching.specs.Laws.AnyTable.{read-kept}
+use Rattle.desk.specs.Laws.Layout.{desk-kept}
 use Rattle.matching.specs.Occurrence.{Occurrence}
-use Rattle.matching.specs.Table.{slotsIn}
 use Rattle.matching.specs.Words.{Word}
 
 -- a gate as its calls make it: 16 masks, a desk that the desk's calls make, and no record held
@@ -108,7 +107,7 @@ module _ (d : Desk) (s : Serial) (table : List ℕ) (piece : Word) (r : Reached 
       go f (feed-read a b c l) =
           let t = ticketIn (d .tickets) i in
           let found = readFor d t table piece .found in
-          let k = read-kept 1 (slotsIn 1 8 (length table)) table (t .place) (t .taken) (256 - d .records .count) piece in
+          let k = desk-kept (d .slots) table (t .place) (t .taken) (256 - d .records .count) piece in
           let its : t .serial .0 ≡ s .0 = for-held s t (room-held d s (good r) a) .1 in
           ap (ofSerial n) (held-pushAll (d .records) (recordsOf (t .serial) (t .edition) found) (good r .ring)
           (omega (arith, recordsOf-length (t .serial) (t .edition) found, k .fits, good r .count)))

@@ -40,7 +40,6 @@ use Rattle.history.specs.Laws.Given.{Given, given-all, given-run}
 use Rattle.history.specs.Laws.Numbers.{differ, lower}
 use Rattle.history.specs.Laws.Ordered.{found-ordered}
 use Rattle.history.specs.Serials.{NeverOrClosed, Serials, closedBy, downFrom, noSerials, serialsAfter, serialsOf}
-use Rattle.matching.specs.Laws.AnyTable.{read-kept}
 use Rattle.matching.specs.Occurrence.{Occurrence, Ordered}
 use Rattle.matching.specs.Reading.{Outcome, allBelow, read}
 use Rattle.matching.specs.Table.{slotsIn}
@@ -48,6 +47,8 @@ use Rattle.matching.specs.Words.{Word}
 use Rattle.reading.specs.Outside.{readBy, readOf, readTo}
 use lib.Dec.{ltb}
 use mathlib.Core.Bool.{Bool, false, true}
+use Rattle.desk.specs.Layout.{Lent, sizesOf}
+use Rattle.desk.specs.Laws.Layout.{desk-kept}
 
 -- NO SERIAL TWICE: those that openings have answered are 1, 2, .. up to the desk's last serial, in order
 pub serials-in-order : (calls : List Call) → serialsOf noSerials calls .given ≡ downFrom (serialsOf noSerials calls .desk .serial .0)
@@ -65,7 +66,7 @@ no-room-iff x g s = (g .has-not s, λ z. go z (decLe 16 (roomOf (x .desk .ticket
 -- a close of a serial, and a feed of it over any table, are NO TICKET exactly if it was never given or is closed
 pub record NoTicketIff (x : Serials) (s : Serial) : Type 0 where
   pub close : (closeOf (x .desk) s .answer ≡ C.NoTicket) ↔ NeverOrClosed x s
-  pub feed : (table : List ℕ) (piece : Word) → (feedOf (x .desk) s table piece .answer ≡ F.NoTicket) ↔ NeverOrClosed x s
+  pub feed : (table : Lent) (piece : Word) → (feedOf (x .desk) s table piece .answer ≡ F.NoTicket) ↔ NeverOrClosed x s
 
 -- NO TICKET, exactly, after every history of calls
 pub no-ticket-iff : (calls : List Call) (s : Serial) → NoTicketIff (serialsOf noSerials calls) s
@@ -94,7 +95,7 @@ still-closed (c ∷ calls) x s m = still-closed calls (serialsAfter x c) s (one 
     one callTake = m
 
 -- a closed serial is NO TICKET for ever: after any more calls a feed of it, over any table, and a close of it are refused so, and change nothing
-pub closed-for-ever : (calls more : List Call) (s : Serial) → List·Memᴰ s (serialsOf noSerials calls .closed) → (table : List ℕ) (piece : Word)
+pub closed-for-ever : (calls more : List Call) (s : Serial) → List·Memᴰ s (serialsOf noSerials calls .closed) → (table : Lent) (piece : Word)
     → (feedOf (serialsOf (serialsOf noSerials calls) more .desk) s table piece ≡ record { desk = serialsOf (serialsOf noSerials calls) more .desk; answer = F.NoTicket })
     × (closeOf (serialsOf (serialsOf noSerials calls) more .desk) s ≡ record { desk = serialsOf (serialsOf noSerials calls) more .desk; answer = C.NoTicket })
 closed-for-ever calls more s m table piece =
@@ -184,7 +185,7 @@ HeldAfter d (callFeed s table piece) =
 HeldAfter d (callClose s) = held (afterCall d (callClose s) .records) ≡ held (d .records)
 HeldAfter d callTake = handedOut (takeOf d .answer) ++ held (afterCall d callTake .records) ≡ held (d .records)
 
-feed-held : (d : Desk) → Reached d → (s : Serial) (table : List ℕ) (piece : Word) → HeldAfter d (callFeed s table piece)
+feed-held : (d : Desk) → Reached d → (s : Serial) (table : Lent) (piece : Word) → HeldAfter d (callFeed s table piece)
 feed-held d r s table piece = go _ (feeds d s table piece)
   where
     t : Ticket
@@ -199,10 +200,10 @@ feed-held d r s table piece = go _ (feeds d s table piece)
     go x (feed-no-place h e l m n) = ([], tt, sym (append-nil (held (d .records))))
     go x (feed-read h e l m) =
         let q = readFor d t table piece in
-        let k = read-kept 1 (slotsIn 1 8 (length table)) table (t .place) (t .taken) (256 - d .records .count) piece in
+        let k = desk-kept (d .slots) table (t .place) (t .taken) (256 - d .records .count) piece in
         let g = good r in (
           q .found,
-          found-ordered 1 (slotsIn 1 8 (length table)) table (t .place) (t .taken) (256 - d .records .count) piece,
+          k .ordered,
           held-pushAll (d .records) (recordsOf (t .serial) (t .edition) (q .found)) (g .ring) (omega (arith, k .fits, recordsOf-length (t .serial) (t .edition) (q .found), g .count))
               ∙ λ i. held (d .records) ++ recordsOf (record { 0 = for-held s t (room-held d s g h) .1 i }) (t .edition) (q .found),
         )
@@ -210,9 +211,9 @@ feed-held d r s table piece = go _ (feeds d s table piece)
 -- OLDEST FIRST, of every desk that calls have made, whatever tables its feeds were lent: a taking hands out the oldest of all records held, and
 -- none is lost or changes its place
 pub oldest-first : {d : Desk} → Reached d → (c : Call) → HeldAfter d c
-oldest-first {d} r (callReplace set run) = go _ (replaces d set (length run))
+oldest-first {d} r (callReplace set run) = go _ (replaces d set (sizesOf run))
   where
-    go : (x : Replacing) → Replaces d set (length run) x → held (x .desk .records) ≡ held (d .records)
+    go : (x : Replacing) → Replaces d set (sizesOf run) x → held (x .desk .records) ≡ held (d .records)
     go x (replace-fault fault e) = refl
     go x (replace-table machine short e) = refl
     go x (replace-edition-end count e h) = refl

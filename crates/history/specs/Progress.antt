@@ -23,8 +23,8 @@ use Rattle.history.specs.Laws.Feeding.{force, read-due}
 use Rattle.history.specs.Laws.Invariant.{Inv, given}
 use Rattle.history.specs.Laws.LedgerSteps.{sound}
 use Rattle.history.specs.Laws.Numbers.{differ}
-use Rattle.matching.specs.Laws.Expected.{expected-advances}
 use Rattle.matching.specs.Words.{Below, Word}
+use Rattle.desk.specs.Laws.Layout.{desk-advances}
 
 -- a ticket that the desk shows as open has a room and is of the edition in force
 open-has : (d : Desk) (s : Serial) (e : Edition) (n : ℕ) → stateOf d s ≡ A.Open e n
@@ -64,7 +64,7 @@ takes-a-byte acts b s room current empty c piece bytes not-long = go _ (feeds d 
         let g = given w v s h in
         let a = accountAt w (g .0) in
         rw (read-due w v s (g .0) (g .1) (g .2) h e (c ∷ piece) bytes)
-        (expected-advances 1 8 (a .tags) c piece (a .bytes) (length (a .bytes)) (256 - d .records .count) (omega (arith, v .kept (g .0) (g .1) .lawful .few, empty)))
+        (desk-advances (a .tags) c piece (a .bytes) (length (a .bytes)) (256 - d .records .count) (omega (arith, v .kept (g .0) (g .1) .lawful .few, empty)))
 
 -- PROGRESS
 pub progress : (acts : List Act) → AllBytes acts → (s : Serial) (e : Edition) (n : ℕ) → stateOf (run start acts .desk) s ≡ A.Open e n → run start acts .desk .records .count ≡ 0

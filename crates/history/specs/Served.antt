@@ -16,6 +16,7 @@ use Rattle.desk.specs.declared.FeedAnswer.{FeedAnswer}
 use Rattle.desk.specs.declared.Serial.{Serial}
 use Rattle.history.specs.History.{Account, Act, Order, World, actClose, actFeed, actOpen, actReplace, actTake, run, start, step}
 use Rattle.matching.specs.Words.{Word}
+use Rattle.desk.specs.Layout.{sizesOf}
 
 -- calls to come, which may go by what the calls before them have left
 abbrev pub Script : Type 0
@@ -82,7 +83,7 @@ serving cut w = servedAll (w .orders) cut 0 (w .accounts) start
 
 -- whether a call goes through; FULL and DAMAGED are stops and no refusals
 abbrev pub accepts : World → Act → Type 0
-accepts w (actReplace set run) = replaceNumber (replaceOf (w .desk) set (length run) .answer) ≡ 0
+accepts w (actReplace set run) = replaceNumber (replaceOf (w .desk) set (sizesOf run) .answer) ≡ 0
 accepts w actOpen = openNumber (openOf (w .desk) .answer) ≡ 0
 accepts w (actFeed s piece) = feedNumber (feedOf (w .desk) s (w .table) piece .answer) ≡ 0
 accepts w (actClose s) = closeNumber (closeOf (w .desk) s .answer) ≡ 0

@@ -38,15 +38,16 @@ use Rattle.history.specs.Laws.Steps.{inv-step}
 use Rattle.matching.specs.Laws.Bools.{is-false}
 use Rattle.matching.specs.Laws.Words.{eqb-eq}
 use Rattle.matching.specs.Words.{Below, Word}
+use Rattle.desk.specs.Layout.{Lent, sizesOf}
 
 -- what the desk says of a ticket that is older than the set: it is stale with its edition and its bytes taken, or closed if it was closed; a feed is refused, over every table; and
 -- while it is stale it can be closed
 pub record Older (w : World) (a : Account) : Type 0 where
   pub stale-state : a .closed ≡ false → stateOf (w .desk) (serialOf (a .serial)) ≡ A.Stale (editionOf (a .edition)) (length (a .bytes))
   pub closed-state : a .closed ≡ true → stateOf (w .desk) (serialOf (a .serial)) ≡ A.Closed
-  pub stale-feed : a .closed ≡ false → (table : List ℕ) (piece : Word)
+  pub stale-feed : a .closed ≡ false → (table : Lent) (piece : Word)
       → feedOf (w .desk) (serialOf (a .serial)) table piece ≡ record { desk = w .desk; answer = F.Stale (editionOf (a .edition)) }
-  pub closed-feed : a .closed ≡ true → (table : List ℕ) (piece : Word) → feedOf (w .desk) (serialOf (a .serial)) table piece ≡ record { desk = w .desk; answer = F.NoTicket }
+  pub closed-feed : a .closed ≡ true → (table : Lent) (piece : Word) → feedOf (w .desk) (serialOf (a .serial)) table piece ≡ record { desk = w .desk; answer = F.NoTicket }
   pub stale-close : a .closed ≡ false → closeOf (w .desk) (serialOf (a .serial)) .answer ≡ C.Closed
   pub closed-close : a .closed ≡ true → closeOf (w .desk) (serialOf (a .serial)) ≡ record { desk = w .desk; answer = C.NoTicket }
 
@@ -58,7 +59,7 @@ module _ (w : World) (v : Inv w) (k : ℕ) (hk : k < length (w .accounts)) where
   s = serialOf (a .serial)
 
   -- a closed serial is refused by feed and close, over every table
-  closed-feed-is : a .closed ≡ true → (table : List ℕ) (piece : Word) → feedOf (w .desk) s table piece ≡ record { desk = w .desk; answer = F.NoTicket }
+  closed-feed-is : a .closed ≡ true → (table : Lent) (piece : Word) → feedOf (w .desk) s table piece ≡ record { desk = w .desk; answer = F.NoTicket }
   closed-feed-is c table piece = no-room-feed (w .desk) s table piece (closed-room w v k hk c)
 
   closed-close-is : a .closed ≡ true → closeOf (w .desk) s ≡ record { desk = w .desk; answer = C.NoTicket }
@@ -71,7 +72,7 @@ module _ (w : World) (v : Inv w) (k : ℕ) (hk : k < length (w .accounts)) where
       go r (close-no-ticket h) = absurd (omega (arith, h, open-room w v k hk c .0))
       go r (close-done i e h) = refl
 
-  stale-feed-is : a .closed ≡ false → a .edition < w .edition → (table : List ℕ) (piece : Word)
+  stale-feed-is : a .closed ≡ false → a .edition < w .edition → (table : Lent) (piece : Word)
       → feedOf (w .desk) s table piece ≡ record { desk = w .desk; answer = F.Stale (editionOf (a .edition)) }
   stale-feed-is c old table piece = go _ (feeds (w .desk) s table piece)
     where
@@ -116,9 +117,9 @@ pub record AllOlder (w v : World) (e : Edition) : Type 0 where
 
 -- EVERY OPEN TICKET BECOMES STALE: where a replacement is accepted, each ticket from before it is of an edition below the new one, and is stale
 -- then, or closed if it was closed
-pub replaced-all-stale : (acts : List Act) → AllBytes acts → (set table : List ℕ) → Below 256 set → (e : Edition) (count : ℕ)
-    → replaceOf (run start acts .desk) set (length table) .answer ≡ R.Replaced e count → AllOlder (run start acts) (step (run start acts) (actReplace set table)) e
-replaced-all-stale acts b set table c e count = go _ (replaces (w .desk) set (length table)) (inv-step w (actReplace set table) c v)
+pub replaced-all-stale : (acts : List Act) → AllBytes acts → (set : List ℕ) (table : Lent) → Below 256 set → (e : Edition) (count : ℕ)
+    → replaceOf (run start acts .desk) set (sizesOf table) .answer ≡ R.Replaced e count → AllOlder (run start acts) (step (run start acts) (actReplace set table)) e
+replaced-all-stale acts b set table c e count = go _ (replaces (w .desk) set (sizesOf table)) (inv-step w (actReplace set table) c v)
   where
     w : World
     w = run start acts
@@ -129,7 +130,7 @@ replaced-all-stale acts b set table c e count = go _ (replaces (w .desk) set (le
     number : {x : Edition} {m : ℕ} → R.Replaced x m ≡ R.Replaced e count → x .0 ≡ e .0
     number q = cc
 
-    go : (r : Replacing) → Replaces (w .desk) set (length table) r → Inv (replacing w set table (r .desk) (r .answer)) → r .answer ≡ R.Replaced e count
+    go : (r : Replacing) → Replaces (w .desk) set (sizesOf table) r → Inv (replacing w set table (r .desk) (r .answer)) → r .answer ≡ R.Replaced e count
         → AllOlder w (replacing w set table (r .desk) (r .answer)) e
     go r (replace-fault fault p) i q = differ cc
     go r (replace-table machine short p) i q = differ cc
@@ -161,7 +162,7 @@ after-a-replacement acts more b c k h old =
 
 -- NO TICKET, exactly: after any history a feed of a serial, over any table, is refused so exactly if no opening answered the serial or its ticket
 -- was closed
-pub no-ticket-feed : (acts : List Act) → AllBytes acts → (s : Serial) (table : List ℕ) (piece : Word)
+pub no-ticket-feed : (acts : List Act) → AllBytes acts → (s : Serial) (table : Lent) (piece : Word)
     → (feedOf (run start acts .desk) s table piece .answer ≡ F.NoTicket) ↔ Gone (run start acts) s
 no-ticket-feed acts b s table piece =
     let w = run start acts in

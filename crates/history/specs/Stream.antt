@@ -37,6 +37,7 @@ use Rattle.history.specs.Laws.Taking.{stream-takes}
 use Rattle.matching.specs.Laws.Occurrences.{occurrencesBy-append}
 use Rattle.matching.specs.Occurrence.{occurrences, occurrencesBy, occurrencesFrom, tagsEnding}
 use Rattle.matching.specs.Words.{Below, Word}
+use Rattle.desk.specs.Layout.{sizesOf}
 
 -- what a call adds to the stream: records of its serial, if it is a feed, and else none
 abbrev pub AddedBy : Act → List Record → Type 0
@@ -78,9 +79,9 @@ adds-feeds w v s piece b = go _ (feeds (w .desk) s (w .table) piece)
         }
 
 adds : (w : World) → Inv w → (a : Act) → OfBytes a → Adds w (step w a) a
-adds w v (actReplace set run) b = go _ (replaces (w .desk) set (length run))
+adds w v (actReplace set run) b = go _ (replaces (w .desk) set (sizesOf run))
   where
-    go : (r : Replacing) → Replaces (w .desk) set (length run) r → Adds w (replacing w set run (r .desk) (r .answer)) (actReplace set run)
+    go : (r : Replacing) → Replaces (w .desk) set (sizesOf run) r → Adds w (replacing w set run (r .desk) (r .answer)) (actReplace set run)
     go r (replace-fault fault e) = quiet w _ _ refl refl
     go r (replace-table machine short e) = quiet w _ _ refl refl
     go r (replace-edition-end count e h) = quiet w _ _ refl refl
@@ -163,9 +164,9 @@ even-feeds w v s piece b e = go _ (feeds (w .desk) s (w .table) piece)
 
 even-step : (w : World) → Inv w → (a : Act) → OfBytes a → Even w → Even (step w a)
 unfolding occurrencesIn occurrencesBy
-even-step w v (actReplace set run) b e = go _ (replaces (w .desk) set (length run))
+even-step w v (actReplace set run) b e = go _ (replaces (w .desk) set (sizesOf run))
   where
-    go : (r : Replacing) → Replaces (w .desk) set (length run) r → Even (replacing w set run (r .desk) (r .answer))
+    go : (r : Replacing) → Replaces (w .desk) set (sizesOf run) r → Even (replacing w set run (r .desk) (r .answer))
     go r (replace-fault fault q) = e
     go r (replace-table machine short q) = e
     go r (replace-edition-end count q h) = e

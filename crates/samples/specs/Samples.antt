@@ -26,6 +26,7 @@ use Rattle.tables.specs.Building.{builtOf, tableOf}
 use Rattle.tagset.specs.Answer.{along, cutAt, setRead, tagsLie}
 use Rattle.tagset.specs.Grammar.{distinct, entriesFrom, entryOf, goodSet, badSet, setOf}
 use Rattle.tagset.specs.declared.Verdict.the-variants.{Good}
+use Rattle.desk.specs.Layout.{deskBuilt, deskRead, deskSlots, deskTable, lentFits, placeIn}
 
 -- after "hx" each bit machine is in a state: that state's vector, as the table has it, for machines 0 to 7
 abbrev pub vectorsAfter-hx : List ℕ
@@ -110,6 +111,7 @@ pub samples : Samples
 unfolding asSet singles same among ends indexOf withWord withPrefixes withTags prefixes states longest next walk vectorBy vector slice reduced anded
     spot laid slot slots built roomFrom numbersWhere tagsEnding occurAt occurrencesBy nexts vectorsAt onesOf flagged allBelow halted tookByte stepped readBy tableStep read
     entryOf entriesFrom distinct setOf along tagsLie setRead cutAt builtOf tableOf firstRoom pushAll openOf closeOf takeOf replaceOf replacedRun feedOf onSerial run round
+    Rattle.desk.specs.Layout.startPlace deskSlots lentFits placeIn deskRead deskBuilt deskTable
 samples = record {
   of-reading = record {
     example = refl;

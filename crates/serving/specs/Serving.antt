@@ -11,8 +11,9 @@ use Rattle.matching.specs.Words.{Word}
 use Rattle.writing.specs.Buffer.{Buffer, Puts}
 use Rattle.serving.specs.Lines.{linesOf}
 use Rattle.serving.specs.declared.Fed.{Fed}
+use Rattle.desk.specs.Layout.{Lent}
 
-module _ (s : Serial) (table : List ℕ) (d : Desk) (rest : Word) where
+module _ (s : Serial) (table : Lent) (d : Desk) (rest : Word) where
   -- one feed of what is left of a piece, and the taking of every record: the bytes taken, the lines of the records, and the desk then.
   -- A list of 1,024 numbers has room for the 256 records that a desk can hold
   abbrev pub restTaken : ℕ
@@ -29,7 +30,7 @@ module _ (s : Serial) (table : List ℕ) (d : Desk) (rest : Word) where
     pub taken : r .taken ≡ restTaken
     pub lines : Puts before restLines after
 
-module _ (s : Serial) (table : List ℕ) where
+module _ (s : Serial) (table : Lent) where
   -- one feed after another: the desk then, the lines of the records taken meanwhile, and the bytes taken
   pub data Served : Desk → Word → Desk → List ℕ → ℕ → Type 0 where
     all-taken : {d : Desk} → Served d [] d [] 0

@@ -18,7 +18,7 @@ use Rattle.gate.specs.declared.Verdict.{Verdict}
 use Rattle.history.specs.Verdict.{EndsAt}
 use Rattle.matching.specs.Tags.{Tags}
 use Rattle.matching.specs.Words.{Word}
-use Rattle.tables.specs.Refusals.{Builds, TooFewSlots}
+use Rattle.desk.specs.Layout.{DeskBuilds, DeskShort}
 use Rattle.tagset.specs.Refusals.{Refused}
 use Rattle.tagset.specs.declared.SetFault.{SetFault}
 use Rattle.verdicts.specs.GateHistory.{GateWorld, NotReplaced, Readable, Replaced, Undecided, approvalAt, undecidedOf}
@@ -93,6 +93,6 @@ pub record BeginExactly (w : GateWorld) (answer : OpenAnswer) : Type 0 where
 -- above the number accepted, and the number of tags
 pub record ReplaceExactly (w : GateWorld) (set : List ℕ) (len : ℕ) (answer : ReplaceAnswer) : Type 0 where
   pub fault : (x : SetFault) → (answer ≡ R.Fault x) ↔ Refused set x
-  pub table : (machine states : ℕ) → (answer ≡ R.Table machine states) ↔ TooFewSlots 1 8 set len machine states
-  pub edition-end : (answer ≡ R.EditionEnd) ↔ ((count : ℕ) × Builds 1 8 set len count × (w .accepted ≡ 4294967295))
-  pub replaced : (e : Edition) (count : ℕ) → (answer ≡ R.Replaced e count) ↔ (Builds 1 8 set len count × (w .accepted < 4294967295) × (e .0 ≡ suc (w .accepted)))
+  pub table : (machine states : ℕ) → (answer ≡ R.Table machine states) ↔ DeskShort set len machine states
+  pub edition-end : (answer ≡ R.EditionEnd) ↔ ((count : ℕ) × DeskBuilds set len count × (w .accepted ≡ 4294967295))
+  pub replaced : (e : Edition) (count : ℕ) → (answer ≡ R.Replaced e count) ↔ (DeskBuilds set len count × (w .accepted < 4294967295) × (e .0 ≡ suc (w .accepted)))

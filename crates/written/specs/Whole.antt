@@ -35,6 +35,7 @@ use Rattle.serving.specs.Serving.{Served, ServedAll, all-taken, no-piece, none-
 use Rattle.tagset.specs.Grammar.{goodSet, setOf}
 use Rattle.written.specs.Laws.Acts.{Comes, rest-comes-by, served-comes}
 use Rattle.written.specs.Occurrences.{Begun, accountOf, begun, writes-the-occurrences}
+use Rattle.desk.specs.Layout.{Lent, sizesOf}
 
 -- a history in which the one ticket is open and has taken these bytes, and no record is held
 pub record Ready (ts : List Word) (before : Word) (acts : List Act) : Type 0 where
@@ -92,7 +93,7 @@ parts-length : (before piece : Word) (t : ℕ) → t ≤ length piece → length
 parts-length before piece t h = omega (arith, length-append before (take t piece), length-take-le t piece h, length-drop t piece)
 
 -- a piece that isn't LONG is taken whole
-whole : {ts : List Word} {before : Word} (acts : List Act) {table : List ℕ} {d e : Desk} {piece : Word} {lines : List ℕ} {n : ℕ} → Ready ts before acts
+whole : {ts : List Word} {before : Word} (acts : List Act) {table : Lent} {d e : Desk} {piece : Word} {lines : List ℕ} {n : ℕ} → Ready ts before acts
     → run start acts .desk ≡ d → run start acts .table ≡ table → Below 256 piece → length before + length piece ≤ 4294967295
     → Served (serialOf 1) table d piece e lines n → n ≡ length piece
 whole acts ready at lent below few all-taken = refl
@@ -110,7 +111,7 @@ whole {before = before} acts {table} {d} {piece = piece} ready at lent below few
     let rest = whole (acts ++ c .acts) (ready-on ready c) (ap (λ (x : World). x .desk) same ∙ c .desk-is) (ap (λ (x : World). x .table) same ∙ c .table-is ∙ lent) (below-rest t piece below) left more in
     omega (arith, rest, part, length-drop t piece)
 
-whole-input : {ts : List Word} {before : Word} (acts : List Act) {table : List ℕ} {d e : Desk} {pieces : List Word} {lines : List ℕ} {bytes : Word} → Ready ts before acts
+whole-input : {ts : List Word} {before : Word} (acts : List Act) {table : Lent} {d e : Desk} {pieces : List Word} {lines : List ℕ} {bytes : Word} → Ready ts before acts
     → run start acts .desk ≡ d → run start acts .table ≡ table → AllBelow 256 pieces → length before + length (joined pieces) ≤ 4294967295
     → ServedAll (serialOf 1) table d pieces e lines bytes → bytes ≡ joined pieces
 unfolding joined
@@ -127,9 +128,9 @@ whole-input {before = before} acts ready at lent below few (one-piece {piece = p
     ap (λ (x : Word). x ++ bytes) all ∙ ap (λ (x : Word). piece ++ x) rest
 
 -- so bench writes the occurrences in the whole input
-pub whole-input-written : (set lent : List ℕ) (ts : List Word) (edition : Edition) (count : ℕ) (pieces : List Word) (e : Desk) (lines : List ℕ) (bytes : Word)
-    → Below 256 set → setOf set ≡ goodSet ts → replaceOf newDesk set (length lent) .answer ≡ R.Replaced edition count → AllBelow 256 pieces → length (joined pieces) ≤ 4294967295
-    → ServedAll (serialOf 1) (replacedRun newDesk set lent) (openOf (replaceOf newDesk set (length lent) .desk) .desk) pieces e lines bytes
+pub whole-input-written : (set : List ℕ) (lent : Lent) (ts : List Word) (edition : Edition) (count : ℕ) (pieces : List Word) (e : Desk) (lines : List ℕ) (bytes : Word)
+    → Below 256 set → setOf set ≡ goodSet ts → replaceOf newDesk set (sizesOf lent) .answer ≡ R.Replaced edition count → AllBelow 256 pieces → length (joined pieces) ≤ 4294967295
+    → ServedAll (serialOf 1) (replacedRun newDesk set lent) (openOf (replaceOf newDesk set (sizesOf lent) .desk) .desk) pieces e lines bytes
     → (bytes ≡ joined pieces) × (lines ≡ linesOf (recordsOf (serialOf 1) (editionOf 1) (occurrences ts (joined pieces))))
 unfolding run
 whole-input-written set lent ts edition count pieces e lines bytes below tags accepted small few served = (
@@ -138,7 +139,7 @@ whole-input-written set lent ts edition count pieces e lines bytes below tags ac
       ∙ ap (λ (x : Word). linesOf (recordsOf (serialOf 1) (editionOf 1) (occurrences ts x))) taken,
 )
   where
-    b : Begun ts (run start (actReplace set lent ∷ actOpen ∷ [])) (openOf (replaceOf newDesk set (length lent) .desk) .desk) (replacedRun newDesk set lent)
+    b : Begun ts (run start (actReplace set lent ∷ actOpen ∷ [])) (openOf (replaceOf newDesk set (sizesOf lent) .desk) .desk) (replacedRun newDesk set lent)
     b = begun set lent ts edition count tags accepted
 
     ready : Ready ts [] (actReplace set lent ∷ actOpen ∷ [])

@@ -6,18 +6,18 @@ use native.Mathlib.Nat.{min-le-right}
 use native.Mathlib.Omega.{arith}
 use lib.ListN.{length}
 use Rattle.desk.specs.Feed.{feedOf, takenBy}
+use Rattle.desk.specs.Laws.Layout.{desk-kept}
 use Rattle.desk.specs.Laws.Views.{Feeds, feeds, feed-no-ticket, feed-stale, feed-other-slots, feed-long, feed-no-place, feed-read}
+use Rattle.desk.specs.Layout.{Lent}
 use Rattle.desk.specs.Rooms.{ticketIn, roomOf}
 use Rattle.desk.specs.TakeMany.{takeManyOf}
 use Rattle.desk.specs.declared.Desk.{Desk}
 use Rattle.desk.specs.declared.Feeding.{Feeding}
 use Rattle.desk.specs.declared.Serial.{Serial}
 use Rattle.desk.specs.declared.TakingMany.{TakingMany}
-use Rattle.matching.specs.Laws.AnyTable.{read-kept}
-use Rattle.matching.specs.Table.{slotsIn}
 use Rattle.matching.specs.Words.{Word}
 
-pub fed-at-most : (d : Desk) (s : Serial) (table : List ℕ) (piece : Word) → takenBy (feedOf d s table piece .answer) ≤ length piece
+pub fed-at-most : (d : Desk) (s : Serial) (table : Lent) (piece : Word) → takenBy (feedOf d s table piece .answer) ≤ length piece
 fed-at-most d s table piece = go (roomOf (d .tickets) s) _ (feeds d s table piece)
   where
     go : (i : ℕ) (r : Feeding) → Feeds d i table piece r → takenBy (r .answer) ≤ length piece
@@ -26,7 +26,7 @@ fed-at-most d s table piece = go (roomOf (d .tickets) s) _ (feeds d s table piec
     go i r (feed-other-slots a b e) = omega arith
     go i r (feed-long a b e f) = omega arith
     go i r (feed-no-place a b e f g) = omega arith
-    go i r (feed-read a b e f) = read-kept 1 (slotsIn 1 8 (length table)) table (ticketIn (d .tickets) i .place) (ticketIn (d .tickets) i .taken) _ piece .part
+    go i r (feed-read a b e f) = desk-kept (d .slots) table (ticketIn (d .tickets) i .place) (ticketIn (d .tickets) i .taken) _ piece .part
 
 -- a list of 1,024 numbers has room for 256 records
 pub at-most-held : (d : Desk) (t : TakingMany) (list : List ℕ) → 1024 ≡ length list → t ≡ takeManyOf d (length list) → t .count ≤ 256

@@ -31,13 +31,12 @@ use Rattle.desk.specs.declared.StateAnswer.{StateAnswer}
 use Rattle.desk.specs.declared.Taking.{Taking}
 use Rattle.desk.specs.declared.Ticket.{Ticket}
 use Rattle.matching.specs.Laws.Bools.{and-l, and-r}
-use Rattle.matching.specs.Reading.{allBelow}
-use Rattle.matching.specs.Table.{slotsIn}
 use Rattle.matching.specs.Words.{Word}
 use Rattle.matching.specs.declared.Stop.the-variants.{Damaged}
-use Rattle.tables.specs.Building.{builtOf}
 use Rattle.tables.specs.declared.Built.{Built}
 use Rattle.tagset.specs.declared.SetFault.{SetFault}
+use Rattle.desk.specs.Layout.{Fits, Lent, Sizes, deskBuilt, deskSlots, lentFits, placeIn, sizesOf}
+use Rattle.desk.specs.Laws.Layout.{fits-not, fits-so}
 
 abbrev pub Not : {A : Type 0} → A → A → Type 0
 Not a b = a ≡ b → ⊥
@@ -88,54 +87,54 @@ takes d = go _ refl
     go true p = take-nothing (eqb-true _ _ p)
     go false p = take-oldest (pos _ (eqb-false _ _ p))
 
-pub data Replaces (d : Desk) (bytes : List ℕ) (len : ℕ) : Replacing → Type 0 where
-  replace-fault : (fault : SetFault) → builtOf 1 8 bytes len ≡ B.Fault fault → Replaces d bytes len (record { desk = d; answer = R.Fault fault })
-  replace-table : (machine needs : ℕ) → builtOf 1 8 bytes len ≡ B.Table machine needs → Replaces d bytes len (record { desk = d; answer = R.Table machine needs })
-  replace-edition-end : (count : ℕ) → builtOf 1 8 bytes len ≡ B.Tags count → d .edition .0 ≡ 4294967295
+pub data Replaces (d : Desk) (bytes : List ℕ) (len : Sizes) : Replacing → Type 0 where
+  replace-fault : (fault : SetFault) → deskBuilt bytes len ≡ B.Fault fault → Replaces d bytes len (record { desk = d; answer = R.Fault fault })
+  replace-table : (machine needs : ℕ) → deskBuilt bytes len ≡ B.Table machine needs → Replaces d bytes len (record { desk = d; answer = R.Table machine needs })
+  replace-edition-end : (count : ℕ) → deskBuilt bytes len ≡ B.Tags count → d .edition .0 ≡ 4294967295
       → Replaces d bytes len (record { desk = d; answer = R.EditionEnd })
-  replace-done : (count : ℕ) → builtOf 1 8 bytes len ≡ B.Tags count → Not (d .edition .0) 4294967295
-      → Replaces d bytes len (record { desk = underNext d (slotsIn 1 8 len); answer = R.Replaced (editionOf (d .edition .0 + 1)) count })
+  replace-done : (count : ℕ) → deskBuilt bytes len ≡ B.Tags count → Not (d .edition .0) 4294967295
+      → Replaces d bytes len (record { desk = underNext d (deskSlots bytes len); answer = R.Replaced (editionOf (d .edition .0 + 1)) count })
 
-pub replaces : (d : Desk) (bytes : List ℕ) (len : ℕ) → Replaces d bytes len (replaceOf d bytes len)
+pub replaces : (d : Desk) (bytes : List ℕ) (len : Sizes) → Replaces d bytes len (replaceOf d bytes len)
 unfolding replaceOf
 replaces d bytes len = go _ _ refl refl
   where
-    go : (b : Built) (e : Bool) → builtOf 1 8 bytes len ≡ b → eqb (d .edition .0) 4294967295 ≡ e → Replaces d bytes len (replaceBy d (slotsIn 1 8 len) b e)
+    go : (b : Built) (e : Bool) → deskBuilt bytes len ≡ b → eqb (d .edition .0) 4294967295 ≡ e → Replaces d bytes len (replaceBy d (deskSlots bytes len) b e)
     go (B.Fault fault) e p q = replace-fault fault p
     go (B.Table machine needs) e p q = replace-table machine needs p
     go (B.Tags count) true p q = replace-edition-end count p (eqb-true _ _ q)
     go (B.Tags count) false p q = replace-done count p (eqb-false _ _ q)
 
 -- by the room that the serial has
-pub data Feeds (d : Desk) (i : ℕ) (table : List ℕ) (piece : Word) : Feeding → Type 0 where
+pub data Feeds (d : Desk) (i : ℕ) (table : Lent) (piece : Word) : Feeding → Type 0 where
   feed-no-ticket : 16 ≤ i → Feeds d i table piece (record { desk = d; answer = F.NoTicket })
   feed-stale : i < 16 → Not (ticketIn (d .tickets) i .edition .0) (d .edition .0)
       → Feeds d i table piece (record { desk = d; answer = F.Stale (ticketIn (d .tickets) i .edition) })
-  feed-other-slots : i < 16 → ticketIn (d .tickets) i .edition .0 ≡ d .edition .0 → Not (slotsIn 1 8 (length table)) (d .slots)
+  feed-other-slots : i < 16 → ticketIn (d .tickets) i .edition .0 ≡ d .edition .0 → (Fits (sizesOf table) (d .slots) → ⊥)
       → Feeds d i table piece (record { desk = d; answer = F.Fed 0 0 Damaged })
-  feed-long : i < 16 → ticketIn (d .tickets) i .edition .0 ≡ d .edition .0 → slotsIn 1 8 (length table) ≡ d .slots
+  feed-long : i < 16 → ticketIn (d .tickets) i .edition .0 ≡ d .edition .0 → Fits (sizesOf table) (d .slots)
       → 4294967295 < ticketIn (d .tickets) i .taken + length piece → Feeds d i table piece (record { desk = d; answer = F.Long })
-  feed-no-place : i < 16 → ticketIn (d .tickets) i .edition .0 ≡ d .edition .0 → slotsIn 1 8 (length table) ≡ d .slots
-      → ticketIn (d .tickets) i .taken + length piece ≤ 4294967295 → allBelow (slotsIn 1 8 (length table)) (ticketIn (d .tickets) i .place) ≡ false
+  feed-no-place : i < 16 → ticketIn (d .tickets) i .edition .0 ≡ d .edition .0 → Fits (sizesOf table) (d .slots)
+      → ticketIn (d .tickets) i .taken + length piece ≤ 4294967295 → placeIn (sizesOf table) (d .slots) (ticketIn (d .tickets) i .place) ≡ false
       → Feeds d i table piece (record { desk = d; answer = F.Fed 0 0 Damaged })
-  feed-read : i < 16 → ticketIn (d .tickets) i .edition .0 ≡ d .edition .0 → slotsIn 1 8 (length table) ≡ d .slots
+  feed-read : i < 16 → ticketIn (d .tickets) i .edition .0 ≡ d .edition .0 → Fits (sizesOf table) (d .slots)
       → ticketIn (d .tickets) i .taken + length piece ≤ 4294967295
       → Feeds d i table piece (fedBy d i (ticketIn (d .tickets) i) (readFor d (ticketIn (d .tickets) i) table piece))
 
-pub feeds-in : (d : Desk) (i : ℕ) (table : List ℕ) (piece : Word) → Feeds d i table piece (feedIn d i table piece)
+pub feeds-in : (d : Desk) (i : ℕ) (table : Lent) (piece : Word) → Feeds d i table piece (feedIn d i table piece)
 feeds-in d i table piece = go _ _ _ _ _ refl refl refl refl refl
   where
-    go : (a b c e f : Bool) → ltb i 16 ≡ a → eqb (ticketIn (d .tickets) i .edition .0) (d .edition .0) ≡ b → eqb (slotsIn 1 8 (length table)) (d .slots) ≡ c
-        → ltb 4294967295 (ticketIn (d .tickets) i .taken + length piece) ≡ e → allBelow (slotsIn 1 8 (length table)) (ticketIn (d .tickets) i .place) ≡ f
+    go : (a b c e f : Bool) → ltb i 16 ≡ a → eqb (ticketIn (d .tickets) i .edition .0) (d .edition .0) ≡ b → lentFits (sizesOf table) (d .slots) ≡ c
+        → ltb 4294967295 (ticketIn (d .tickets) i .taken + length piece) ≡ e → placeIn (sizesOf table) (d .slots) (ticketIn (d .tickets) i .place) ≡ f
         → Feeds d i table piece (feedBy d i (ticketIn (d .tickets) i) table piece a b c e f)
     go false b c e f p q r u z = feed-no-ticket (ltb-false _ _ p)
     go true false c e f p q r u z = feed-stale (ltb-true _ _ p) (eqb-false _ _ q)
-    go true true false e f p q r u z = feed-other-slots (ltb-true _ _ p) (eqb-true _ _ q) (eqb-false _ _ r)
-    go true true true true f p q r u z = feed-long (ltb-true _ _ p) (eqb-true _ _ q) (eqb-true _ _ r) (ltb-true _ _ u)
-    go true true true false false p q r u z = feed-no-place (ltb-true _ _ p) (eqb-true _ _ q) (eqb-true _ _ r) (ltb-false _ _ u) z
-    go true true true false true p q r u z = feed-read (ltb-true _ _ p) (eqb-true _ _ q) (eqb-true _ _ r) (ltb-false _ _ u)
+    go true true false e f p q r u z = feed-other-slots (ltb-true _ _ p) (eqb-true _ _ q) (fits-not _ _ r)
+    go true true true true f p q r u z = feed-long (ltb-true _ _ p) (eqb-true _ _ q) (fits-so _ _ r) (ltb-true _ _ u)
+    go true true true false false p q r u z = feed-no-place (ltb-true _ _ p) (eqb-true _ _ q) (fits-so _ _ r) (ltb-false _ _ u) z
+    go true true true false true p q r u z = feed-read (ltb-true _ _ p) (eqb-true _ _ q) (fits-so _ _ r) (ltb-false _ _ u)
 
-pub feeds : (d : Desk) (s : Serial) (table : List ℕ) (piece : Word) → Feeds d (roomOf (d .tickets) s) table piece (feedOf d s table piece)
+pub feeds : (d : Desk) (s : Serial) (table : Lent) (piece : Word) → Feeds d (roomOf (d .tickets) s) table piece (feedOf d s table piece)
 unfolding feedOf
 feeds d s table piece = feeds-in d (roomOf (d .tickets) s) table piece
 

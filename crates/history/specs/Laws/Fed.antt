@@ -24,11 +24,11 @@ use Rattle.history.specs.Laws.Accounts.{onSerial-length, recordsFor-appe
 use Rattle.history.specs.Laws.Feeding.{agrees, live, mine, read-done}
 use Rattle.history.specs.Laws.Invariant.{Inv, Kept, Stranger, changed-each, wide}
 use Rattle.history.specs.Laws.Seats.{Agrees, Seat, for-other, seat-kept, seat-same, seated, unique-set}
-use Rattle.matching.specs.Laws.Expected.{Done}
 use Rattle.matching.specs.Laws.Occurrences.{occurrencesBy-append}
 use Rattle.matching.specs.Occurrence.{Occurrence, occurrences, occurrencesFrom, tagsEnding}
 use Rattle.matching.specs.Reading.{Outcome}
 use Rattle.matching.specs.Words.{Below, Word}
+use Rattle.desk.specs.Laws.Layout.{DeskDone}
 
 pub below-append : (m : ℕ) (x y : Word) → Below m x → Below m y → Below m (x ++ y)
 below-append m [] y hx hy = hy
@@ -72,7 +72,7 @@ module _ (w : World) (v : Inv w) (s : Serial) (k : ℕ) (hk : k < length (w .acc
   abbrev after : World
   after = withAccounts w (fedBy (w .desk) i t r .desk) (onSerial (s .0) (grown more) (w .accounts))
 
-  done : Done 1 8 (a .tags) (a .bytes) (length (a .bytes)) (256 - w .desk .records .count) piece r
+  done : DeskDone (a .tags) (a .bytes) (length (a .bytes)) (256 - w .desk .records .count) piece r
   done = read-done w v s k hk ek hi same piece b
 
   fit : Agrees t a

@@ -20,8 +20,8 @@ use Rattle.history.specs.Laws.Invariant.{InForce, Inv, Kept, Stranger, s
 use Rattle.history.specs.Laws.Seats.{Agrees, Seat, for-other, has-room, room-kept, seat-kept, seat-new, seated, unique-set}
 use Rattle.history.specs.Laws.Snoc.{snoc-each, snoc-length}
 use Rattle.matching.specs.Laws.Bools.{is-false, not-both}
-use Rattle.matching.specs.Laws.Built.{placeAfter-start}
 use Rattle.matching.specs.Occurrence.{occurrencesBy}
+use Rattle.desk.specs.Laws.Layout.{start-after}
 
 module _ (w : World) (v : Inv w) (i : ℕ) (ei : i ≡ freeRoom (w .desk .tickets)) (hi : i < 16) (some : w .desk .edition .0 ≡ 0 → ⊥) (p : Reached (openedIn (w .desk) i)) where
   abbrev rooms : List Ticket
@@ -110,7 +110,7 @@ module _ (w : World) (v : Inv w) (i : ℕ) (ei : i ≡ freeRoom (w .desk .ticket
       new-seat =
           let s = seat-new rooms (wide w v) i ticket hi serial mine unseen in
           seated refl (omega (arith, s .0)) (subst (λ (x : Ticket). Agrees x new) (sym (s .1))
-          (record { edition = sym (v .edition); taken = refl; place = sym (placeAfter-start 1 (w .tags) 0 8) }))
+          (record { edition = sym (v .edition); taken = refl; place = sym (start-after (w .tags)) }))
 
 pub inv-opens : (w : World) → Inv w → Inv (step w actOpen)
 inv-opens w v = go _ (opens (w .desk)) (byCall (v .reached) callOpen)

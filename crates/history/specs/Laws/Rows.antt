@@ -30,21 +30,28 @@ use Rattle.tables.specs.Laws.Left.{done, left-length}
 use Rattle.tagset.specs.Grammar.{goodSet}
 use Rattle.tagset.specs.Laws.Places.{tags-of}
 
--- what a reading has done is as demanded
-pub done-demanded : (n k : ℕ) (ts : List Word) (v piece : Word) (room : ℕ) (r : Outcome) → Done n k ts v (length v) room piece r → Demanded ts v piece room r
-done-demanded n k ts v piece room r d = go (d .stopped)
+-- a reading that stopped so, and found these, is as demanded
+pub demanded : (ts : List Word) (v piece : Word) (room : ℕ) (r : Outcome) → r .found ≡ occurrencesFrom ts v (length v) (take (r .taken) piece) → length (r .found) ≤ room
+    → ((r .stop ≡ S.All) × (r .taken ≡ length piece))
+    ⊎ ((r .stop ≡ S.Full) × (r .taken < length piece) × (room < length (r .found) + length (tagsEnding ts (v ++ take (suc (r .taken)) piece))))
+    → Demanded ts v piece room r
+demanded ts v piece room r found fits stopped = go stopped
   where
     go : ((r .stop ≡ S.All) × (r .taken ≡ length piece))
         ⊎ ((r .stop ≡ S.Full) × (r .taken < length piece) × (room < length (r .found) + length (tagsEnding ts (v ++ take (suc (r .taken)) piece))))
         → Demanded ts v piece room r
     go (inl q) =
-        let f : r .found ≡ occurrencesFrom ts v (length v) piece = d .found ∙ ap (occurrencesFrom ts v (length v)) (take-all (r .taken) piece (le-of-eq (sym (q .1)))) in
+        let f : r .found ≡ occurrencesFrom ts v (length v) piece = found ∙ ap (occurrencesFrom ts v (length v)) (take-all (r .taken) piece (le-of-eq (sym (q .1)))) in
         subst (Demanded ts v piece room) (λ i. record { taken = sym (q .1) i; place = r .place; stop = sym (q .0) i; found = sym f i })
-        (tookAll (r .place) (subst (λ (l : List Occurrence). length l ≤ room) f (d .fits)))
+        (tookAll (r .place) (subst (λ (l : List Occurrence). length l ≤ room) f fits))
     go (inr q) =
-        subst (Demanded ts v piece room) (λ i. record { taken = r .taken; place = r .place; stop = sym (q .0) i; found = sym (d .found) i })
-        (stoppedFull (r .place) (r .taken) (q .1) (subst (λ (l : List Occurrence). length l ≤ room) (d .found) (d .fits))
-        (subst (λ (l : List Occurrence). room < length l + length (tagsEnding ts (v ++ take (suc (r .taken)) piece))) (d .found) (q .2)))
+        subst (Demanded ts v piece room) (λ i. record { taken = r .taken; place = r .place; stop = sym (q .0) i; found = sym found i })
+        (stoppedFull (r .place) (r .taken) (q .1) (subst (λ (l : List Occurrence). length l ≤ room) found fits)
+        (subst (λ (l : List Occurrence). room < length l + length (tagsEnding ts (v ++ take (suc (r .taken)) piece))) found (q .2)))
+
+-- what a reading has done is as demanded
+pub done-demanded : (n k : ℕ) (ts : List Word) (v piece : Word) (room : ℕ) (r : Outcome) → Done n k ts v (length v) room piece r → Demanded ts v piece room r
+done-demanded n k ts v piece room r d = demanded ts v piece room r (d .found) (d .fits) (d .stopped)
 
 -- a row of readings that goes on from the place after v
 abbrev pub rowAfter : ℕ → ℕ → List ℕ → List ℕ → List Word → Word → List Turn → Row

@@ -20,9 +20,11 @@ use Rattle.writing.specs.Buffer.{Buffer, Puts}
 use Rattle.writing.specs.Laws.Waiting.{put-none, put-then}
 use Rattle.serving.specs.Serving.{FeedsPiece, FeedsRest, Served, all-taken, none-taken, restDesk, restLines, restTaken, some-taken}
 use Rattle.serving.specs.declared.Fed.{Fed}
+use Rattle.desk.specs.Layout.{Lent}
+use Rattle.desk.specs.Laws.Layout.{desk-kept}
 
 -- the parts of a feed of what is left, together
-pub rest-fed : (s : Serial) (table : List ℕ) (d : Desk) (rest : Word) (before after : Buffer) (f : Feeding) (t : TakingMany) (list filled : List ℕ) (used count : ℕ)
+pub rest-fed : (s : Serial) (table : Lent) (d : Desk) (rest : Word) (before after : Buffer) (f : Feeding) (t : TakingMany) (list filled : List ℕ) (used count : ℕ)
     → f ≡ feedOf d s table rest → 1024 ≡ length list → t ≡ takeManyOf (f .desk) (length list)
     → filled ≡ listTaken (f .desk) list (manyOf (f .desk) (length list)) → count ≡ takenBy (f .answer)
     → Puts before (recordLines (t .count) filled) after
@@ -44,11 +46,11 @@ rest-fed s table d rest before after f t list filled used count fed long many ta
         ∙ ap (λ (x : Feeding). linesOf (oldest (manyOf (x .desk) 1024) (x .desk .records))) fed
 
 -- what is left of a piece, as a part of its slice
-pub left-fed : {s : Serial} {table : List ℕ} {now : Desk} (piece : Word) (from : ℕ) {between after : Buffer} {r : Fed}
+pub left-fed : {s : Serial} {table : Lent} {now : Desk} (piece : Word) (from : ℕ) {between after : Buffer} {r : Fed}
     → FeedsRest s table now (take (length piece - from) (drop from piece)) between r after → FeedsRest s table now (drop from piece) between r after
 left-fed piece from fed = rw (take-all (length piece - from) (drop from piece) (simp length-drop (omega arith))) at fed
 
-module _ (s : Serial) (table : List ℕ) (d : Desk) (piece : Word) (before : Buffer) where
+module _ (s : Serial) (table : Lent) (d : Desk) (piece : Word) (before : Buffer) where
   -- a piece that is served so far: its lines wait, and whatever the rest of it comes to, so does the whole
   pub record SoFar (now : Desk) (from : ℕ) (after : Buffer) : Type 0 where
     pub within : from ≤ length piece
@@ -103,7 +105,7 @@ module _ (s : Serial) (table : List ℕ) (d : Desk) (piece : Word) (before : Buf
   }
 
 -- a piece is served in one way
-module _ (s : Serial) (table : List ℕ) where
+module _ (s : Serial) (table : Lent) where
   pub served-once : {d e f : Desk} {rest : Word} {a b : List ℕ} {m n : ℕ} → Served s table d rest e a m → Served s table d rest f b n → (e ≡ f) × (a ≡ b) × (m ≡ n)
   served-once all-taken all-taken = (refl, refl, refl)
   served-once all-taken (none-taken some none) = absurd (omega arith)

@@ -19,6 +19,7 @@ use Rattle.history.specs.Laws.Takings.{below-rest, bytes-append, emptied, fed-a
 use Rattle.matching.specs.Words.{AllBelow, Below, Word}
 use Rattle.serving.specs.Lines.{linesOf, recordLine}
 use Rattle.serving.specs.Serving.{Served, ServedAll, all-taken, no-piece, none-taken, one-piece, restDesk, restLines, restTaken, some-taken}
+use Rattle.desk.specs.Layout.{Lent}
 
 -- a history from a world in which bytes are taken for a ticket: the desk then, and the lines of the records handed out
 pub record Comes (w : World) (s : Serial) (taken : Word) (e : Desk) (lines : List ℕ) : Type 0 where
@@ -74,7 +75,7 @@ lines-append (r ∷ a) b =
     ap (λ (l : List ℕ). line ++ l) (lines-append a b) ∙ sym (append-assoc line (linesOf a) (linesOf b))
 
 -- what a feed of the rest comes to, by the desk and the table that it meets
-pub rest-comes-by : (w : World) (s : Serial) (table : List ℕ) (d : Desk) (rest : Word) → w .desk ≡ d → w .table ≡ table → Below 256 rest
+pub rest-comes-by : (w : World) (s : Serial) (table : Lent) (d : Desk) (rest : Word) → w .desk ≡ d → w .table ≡ table → Below 256 rest
     → Comes w s (take (restTaken s table d rest) rest) (restDesk s table d rest) (restLines s table d rest)
 rest-comes-by w s table d rest at lent below = rw (← at, ← lent) (rest-comes w s rest below)
 
@@ -119,7 +120,7 @@ comes-none w s at = record {
   empty = λ r none. ap (λ (x : Desk). x .records .count) (sym at) ∙ none;
 }
 
-pub served-comes : (w : World) (s : Serial) {table : List ℕ} {d e : Desk} {piece : Word} {lines : List ℕ} {n : ℕ} → w .desk ≡ d → w .table ≡ table → Below 256 piece
+pub served-comes : (w : World) (s : Serial) {table : Lent} {d e : Desk} {piece : Word} {lines : List ℕ} {n : ℕ} → w .desk ≡ d → w .table ≡ table → Below 256 piece
     → Served s table d piece e lines n → Comes w s (take n piece) e lines
 served-comes w s at lent below all-taken = comes-none w s at
 served-comes w s {table} {d} {piece = piece} at lent below (none-taken some none) =
@@ -130,7 +131,7 @@ served-comes w s {table} {d} {piece = piece} at lent below (some-taken {e = e} {
     subst (λ (x : Word). Comes w s x e (restLines s table d piece ++ lines)) (sym (take-add t n piece))
     (comes-then w s (take t piece) (take n (drop t piece)) c (served-comes (run w (c .acts)) s (c .desk-is) (c .table-is ∙ lent) (below-rest t piece below) more))
 
-pub all-comes : (w : World) (s : Serial) {table : List ℕ} {d e : Desk} {pieces : List Word} {lines : List ℕ} {bytes : Word} → w .desk ≡ d → w .table ≡ table
+pub all-comes : (w : World) (s : Serial) {table : Lent} {d e : Desk} {pieces : List Word} {lines : List ℕ} {bytes : Word} → w .desk ≡ d → w .table ≡ table
     → AllBelow 256 pieces → ServedAll s table d pieces e lines bytes → Comes w s bytes e lines
 all-comes w s at lent below no-piece = comes-none w s at
 all-comes w s at lent below (one-piece served more) =
