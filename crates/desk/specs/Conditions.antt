@@ -9,7 +9,6 @@ use lib.Dec.{eqb, ltb}
 use lib.ListN.{length}
 use Rattle.matching.specs.Refusal.{Ground, _if_}
 use Rattle.matching.specs.Words.{Word}
-use Rattle.tables.specs.Building.{builtNumber}
 use Rattle.desk.specs.Rooms.{serialOf, editionOf, ticketIn, roomOf, ticketsHeld}
 use Rattle.desk.specs.Shared.{held}
 use Rattle.desk.specs.Numbers.{replaceNumber, replaceValues, openNumber, feedNumber, closeNumber, takeNumber}
@@ -26,7 +25,9 @@ use Rattle.desk.specs.declared.FeedAnswer.{FeedAnswer}
 use Rattle.desk.specs.declared.CloseAnswer.{CloseAnswer}
 use Rattle.desk.specs.declared.TakeAnswer.{TakeAnswer}
 use Rattle.desk.specs.declared.TakeAnswer.the-variants as K
-use Rattle.desk.specs.Layout.{DeskAnswers, DeskBuilds, Fits, Lent, Sizes, deskBuilt, lentFits, sizesOf}
+use Rattle.desk.specs.Layout.{DeskAnswers, DeskBuilds, Fits, Lent, lentFits, Order, Sizes, sizesOf}
+use Rattle.desk.specs.Limits.{mostTickets}
+use Rattle.matching.specs.Limits.{largest}
 
 -- no set was ever accepted
 abbrev pub NoSet : Desk → Type 0
@@ -34,19 +35,19 @@ NoSet d = d .edition .0 ≡ 0
 
 -- the largest serial is given
 abbrev pub LastSerial : Desk → Type 0
-LastSerial d = d .serial .0 ≡ 4294967295
+LastSerial d = d .serial .0 ≡ largest
 
 -- 16 tickets are open or stale
 abbrev pub AllHeld : Desk → Type 0
-AllHeld d = ticketsHeld (d .tickets) ≡ 16
+AllHeld d = ticketsHeld (d .tickets) ≡ mostTickets
 
 -- the edition is the largest
 abbrev pub LastEdition : Desk → Type 0
-LastEdition d = d .edition .0 ≡ 4294967295
+LastEdition d = d .edition .0 ≡ largest
 
 -- a ticket with this serial, open or stale, has a room
 abbrev pub HasRoom : Desk → Serial → Type 0
-HasRoom d s = roomOf (d .tickets) s < 16
+HasRoom d s = roomOf (d .tickets) s < mostTickets
 
 -- that ticket
 abbrev pub ticketOf : Desk → Serial → Ticket
@@ -62,7 +63,7 @@ SameSlots d table = Fits (sizesOf table) (d .slots)
 
 -- the bytes taken and the piece pass 4,294,967,295
 abbrev pub TooLong : Desk → Serial → Word → Type 0
-TooLong d s piece = 4294967295 < ticketOf d s .taken + length piece
+TooLong d s piece = largest < ticketOf d s .taken + length piece
 
 -- the list is empty
 abbrev pub NoneHeld : Desk → Type 0
@@ -71,26 +72,22 @@ NoneHeld d = d .records .count ≡ 0
 -- ---- the grounds for refusing each call, in their order
 
 abbrev pub openGrounds : Desk → List Ground
-openGrounds d = (9 if eqb (d .edition .0) 0) ∷ (10 if eqb (d .serial .0) 4294967295) ∷ (11 if eqb (ticketsHeld (d .tickets)) 16) ∷ []
+openGrounds d = (9 if eqb (d .edition .0) 0) ∷ (10 if eqb (d .serial .0) largest) ∷ (11 if eqb (ticketsHeld (d .tickets)) mostTickets) ∷ []
 
 -- a table of another slot count is a stop and no refusal, so it has number 0; but it comes before LONG
 abbrev pub feedGrounds : Desk → Serial → Lent → Word → List Ground
 feedGrounds d s table piece =
-    (12 if not (ltb (roomOf (d .tickets) s) 16))
+    (12 if not (ltb (roomOf (d .tickets) s) mostTickets))
     ∷ (13 if not (eqb (ticketOf d s .edition .0) (d .edition .0)))
     ∷ (0 if not (lentFits (sizesOf table) (d .slots)))
-    ∷ (14 if ltb 4294967295 (ticketOf d s .taken + length piece))
+    ∷ (14 if ltb largest (ticketOf d s .taken + length piece))
     ∷ []
 
 abbrev pub closeGrounds : Desk → Serial → List Ground
-closeGrounds d s = (12 if not (ltb (roomOf (d .tickets) s) 16)) ∷ []
+closeGrounds d s = (12 if not (ltb (roomOf (d .tickets) s) mostTickets)) ∷ []
 
 abbrev pub takeGrounds : Desk → List Ground
 takeGrounds d = (16 if eqb (d .records .count) 0) ∷ []
-
--- what building refuses, and then the largest edition
-abbrev pub replaceGrounds : Desk → List ℕ → Sizes → List Ground
-replaceGrounds d bytes len = (builtNumber (deskBuilt bytes len) if not (eqb (builtNumber (deskBuilt bytes len)) 0)) ∷ (8 if eqb (d .edition .0) 4294967295) ∷ []
 
 -- ---- each number, exactly
 
@@ -101,11 +98,12 @@ pub record OpenExact (d : Desk) (a : OpenAnswer) : Type 0 where
   pub no-room : (openNumber a ≡ 11) ↔ ((NoSet d → ⊥) × (LastSerial d → ⊥) × AllHeld d)
   pub opened : (s : Serial) → (a ≡ O.Opened s) ↔ ((NoSet d → ⊥) × (LastSerial d → ⊥) × (AllHeld d → ⊥) × (s ≡ serialOf (d .serial .0 + 1)))
 
--- feed: 12, 13, then a table of another slot count, then 14
+-- feed: 12, 13, then a table of another slot count, which is a stop and no refusal, then 14; else none: `feed-reads` says what is answered then
 pub record FeedExact (d : Desk) (s : Serial) (table : Lent) (piece : Word) (a : FeedAnswer) : Type 0 where
   pub no-ticket : (feedNumber a ≡ 12) ↔ (HasRoom d s → ⊥)
   pub stale : (feedNumber a ≡ 13) ↔ (HasRoom d s × (Current d s → ⊥))
   pub long : (feedNumber a ≡ 14) ↔ (HasRoom d s × Current d s × SameSlots d table × TooLong d s piece)
+  pub fed : (feedNumber a ≡ 0) ↔ (HasRoom d s × Current d s × (SameSlots d table → TooLong d s piece → ⊥))
 
 -- close: 12; a stale ticket is closed like any
 pub record CloseExact (d : Desk) (s : Serial) (a : CloseAnswer) : Type 0 where
@@ -118,7 +116,7 @@ pub record TakeExact (d : Desk) (a : TakeAnswer) : Type 0 where
   pub taken : (r : Record) → (a ≡ K.Taken r) ↔ ((rest : List Record) × (held (d .records) ≡ r ∷ rest))
 
 -- replace: set faults and TABLE with their values, as building gives them; then 8; else the next edition and the number of tags
-pub record ReplaceExact (d : Desk) (bytes : List ℕ) (len : Sizes) (a : ReplaceAnswer) : Type 0 where
-  pub building : (n : ℕ) (values : List ℕ) → 0 < n → n < 8 → ((replaceNumber a ≡ n) × (replaceValues a ≡ values)) ↔ DeskAnswers bytes len n values
-  pub last-edition : (replaceNumber a ≡ 8) ↔ (((count : ℕ) × DeskBuilds bytes len count) × LastEdition d)
-  pub replaced : (e : Edition) (count : ℕ) → (a ≡ R.Replaced e count) ↔ (DeskBuilds bytes len count × (LastEdition d → ⊥) × (e ≡ editionOf (d .edition .0 + 1)))
+pub record ReplaceExact (d : Desk) (order : Order) (len : Sizes) (a : ReplaceAnswer) : Type 0 where
+  pub building : (n : ℕ) (values : List ℕ) → 0 < n → n < 8 → ((replaceNumber a ≡ n) × (replaceValues a ≡ values)) ↔ DeskAnswers order len n values
+  pub last-edition : (replaceNumber a ≡ 8) ↔ (((count : ℕ) × DeskBuilds order len count) × LastEdition d)
+  pub replaced : (e : Edition) (count : ℕ) → (a ≡ R.Replaced e count) ↔ (DeskBuilds order len count × (LastEdition d → ⊥) × (e ≡ editionOf (d .edition .0 + 1)))

@@ -16,10 +16,12 @@ use Rattle.desk.specs.declared.Feeding.{Feeding}
 use Rattle.desk.specs.declared.FeedAnswer.{FeedAnswer}
 use Rattle.desk.specs.declared.FeedAnswer.the-variants as F
 use Rattle.desk.specs.Layout.{Lent, deskRead, lentFits, placeIn, sizesOf}
+use Rattle.desk.specs.Limits.{mostRecords, mostTickets}
+use Rattle.matching.specs.Limits.{largest}
 
 -- the reading of a piece for a ticket, into the room that the list has left
 abbrev pub readFor : Desk → Ticket → Lent → Word → Outcome
-readFor d t table piece = deskRead (d .slots) table (t .place) (t .taken) (256 - d .records .count) piece
+readFor d t table piece = deskRead (d .slots) table (t .place) (t .taken) (mostRecords - d .records .count) piece
 
 -- the ticket after a reading
 abbrev pub readOn : Ticket → Outcome → Ticket
@@ -51,10 +53,10 @@ readIn d i t table piece = feedBy d i t table piece true true true false (placeI
 abbrev pub feedIn : Desk → ℕ → Lent → Word → Feeding
 feedIn d i table piece =
     feedBy d i (ticketIn (d .tickets) i) table piece
-    (ltb i 16)
+    (ltb i mostTickets)
     (eqb (ticketIn (d .tickets) i .edition .0) (d .edition .0))
     (lentFits (sizesOf table) (d .slots))
-    (ltb 4294967295 (ticketIn (d .tickets) i .taken + length piece))
+    (ltb largest (ticketIn (d .tickets) i .taken + length piece))
     (placeIn (sizesOf table) (d .slots) (ticketIn (d .tickets) i .place))
 
 unfoldable pub feedOf : Desk → Serial → Lent → Word → Feeding

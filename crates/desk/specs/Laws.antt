@@ -7,3 +7,4 @@ pub mod Views
 pub mod Good
 pub mod TakeMany
 pub mod Pieces
+pub mod Exact

@@ -8,17 +8,18 @@ use Rattle.desk.specs.declared.Serial.{Serial}
 use Rattle.desk.specs.declared.Edition.{Edition}
 use Rattle.desk.specs.declared.Record.{Record}
 use Rattle.desk.specs.declared.Records.{Records}
+use Rattle.desk.specs.Limits.{mostRecords}
 
 abbrev pub noRecord : Record
 noRecord = record { serial = serialOf 0; edition = editionOf 0; end = 0; tag = tagOf 0 }
 
 abbrev pub noRecords : Records
-noRecords = record { ring = replicate 256 noRecord; first = 0; count = 0 }
+noRecords = record { ring = replicate mostRecords noRecord; first = 0; count = 0 }
 
 -- count records from first on, round the ring
 unfoldable pub round : List Record → ℕ → ℕ → List Record
 round ring first zero = []
-round ring first (suc count) = getD ring (first % 256) noRecord ∷ round ring (suc first) count
+round ring first (suc count) = getD ring (first % mostRecords) noRecord ∷ round ring (suc first) count
 
 -- the records held, the oldest first
 abbrev pub held : Records → List Record
@@ -26,7 +27,7 @@ held q = round (q .ring) (q .first) (q .count)
 
 -- one more record, behind those held
 abbrev pub push : Records → Record → Records
-push q r = record { ring = set (q .ring) ((q .first + q .count) % 256) r; first = q .first; count = q .count + 1 }
+push q r = record { ring = set (q .ring) ((q .first + q .count) % mostRecords) r; first = q .first; count = q .count + 1 }
 
 unfoldable pub pushAll : Records → List Record → Records
 pushAll q [] = q
@@ -34,7 +35,7 @@ pushAll q (r ∷ rs) = pushAll (push q r) rs
 
 -- without the oldest
 abbrev pub popped : Records → Records
-popped q = record { ring = q .ring; first = (q .first + 1) % 256; count = q .count - 1 }
+popped q = record { ring = q .ring; first = (q .first + 1) % mostRecords; count = q .count - 1 }
 
 -- occurrences as records of a ticket, with its serial and its edition
 abbrev pub recordOf : Serial → Edition → Occurrence → Record

@@ -8,6 +8,7 @@ use Rattle.desk.specs.declared.Edition.{Edition}
 use Rattle.desk.specs.declared.Serial.{Serial}
 use Rattle.desk.specs.declared.StateAnswer.{StateAnswer}
 use Rattle.desk.specs.declared.StateAnswer.the-variants as A
+use Rattle.desk.specs.Limits.{mostTickets}
 
 -- openings give 1, 2, .. up to the last serial
 abbrev pub isGiven : Serial → Serial → Bool
@@ -32,7 +33,7 @@ stateBy e n false current given = goneBy given
 abbrev pub stateIn : Desk → Serial → ℕ → StateAnswer
 stateIn d s i =
     stateBy (ticketIn (d .tickets) i .edition) (ticketIn (d .tickets) i .taken)
-    (ltb i 16)
+    (ltb i mostTickets)
     (eqb (ticketIn (d .tickets) i .edition .0) (d .edition .0))
     (isGiven s (d .serial))
 

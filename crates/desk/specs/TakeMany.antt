@@ -8,11 +8,12 @@ use Rattle.desk.specs.Shared.{noRecord, popped}
 use Rattle.desk.specs.declared.Desk.{Desk}
 use Rattle.desk.specs.declared.Record.{Record}
 use Rattle.desk.specs.declared.Records.{Records}
+use Rattle.desk.specs.Limits.{mostRecords}
 
 -- what n takings hand out, and the records held after them
 unfoldable pub oldest : ℕ → Records → List Record
 oldest zero q = []
-oldest (suc n) q = getD (q .ring) (q .first % 256) noRecord ∷ oldest n (popped q)
+oldest (suc n) q = getD (q .ring) (q .first % mostRecords) noRecord ∷ oldest n (popped q)
 
 unfoldable pub without : ℕ → Records → Records
 without zero q = q

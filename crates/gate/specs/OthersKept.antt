@@ -44,6 +44,7 @@ use Rattle.gate.specs.declared.feeding.Fed.{Fed}
 use Rattle.desk.specs.Laws.Layout.{desk-kept}
 use Rattle.matching.specs.Occurrence.{Occurrence}
 use Rattle.matching.specs.Words.{Word}
+use Rattle.desk.specs.Layout.{Kind, Lent, Order, sizesOf}
 
 -- a gate as its calls make it: 16 masks, a desk that the desk's calls make, and no record held
 pub record Settled (g : Gate) : Type 0 where
@@ -228,16 +229,16 @@ piece-others g s table piece k i n = go (ltb room 16) (eqb (ticketIn (g .desk .t
 
 -- ---- a new gate is settled, and each call leaves it so
 
-pub settled-new : Settled newGate
+pub settled-new : (kind : Kind) → Settled (newGate kind)
 unfolding round
-settled-new = record { masks = refl; reached = fromNew; none = refl }
+settled-new kind = record { masks = refl; reached = fromNew kind; none = refl }
 
-pub settled-change : (g : Gate) (bytes run : List ℕ) → Settled g → Settled (changeOf g bytes (length run) .gate)
+pub settled-change : (g : Gate) (order : Order) (run : Lent) → Settled g → Settled (changeOf g order (sizesOf run) .gate)
 unfolding changeOf
-settled-change g bytes run k =
-    record { masks = k .masks; reached = byCall (k .reached) (callReplace bytes run); none = ap held (go _ (replaces (g .desk) bytes (length run))) ∙ k .none }
+settled-change g order run k =
+    record { masks = k .masks; reached = byCall (k .reached) (callReplace order run); none = ap held (go _ (replaces (g .desk) order (sizesOf run))) ∙ k .none }
   where
-    go : (r : Replacing) → Replaces (g .desk) bytes (length run) r → r .desk .records ≡ g .desk .records
+    go : (r : Replacing) → Replaces (g .desk) order (sizesOf run) r → r .desk .records ≡ g .desk .records
     go r (replace-fault fault e) = refl
     go r (replace-table machine needs e) = refl
     go r (replace-edition-end count e l) = refl

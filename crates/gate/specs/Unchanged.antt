@@ -25,6 +25,7 @@ use Rattle.gate.specs.declared.PieceAnswer.the-variants as P
 use Rattle.gate.specs.declared.Seen.{Seen}
 use Rattle.gate.specs.declared.Verdict.the-variants as Q
 use Rattle.matching.specs.Words.{Word}
+use Rattle.desk.specs.Layout.{Lent, Order, sizesOf}
 
 -- a piece refused NO TICKET or STALE
 pub piece-refused : (g : Gate) (s : Serial) (table : List ℕ) (piece : Word) → (pieceNumber (pieceOf g s table piece .answer) ≡ 0 → ⊥)
@@ -89,11 +90,11 @@ begin-refused g n =
     go O.NoRoom z = refl
 
 -- a replacement refused as the desk refuses it: the gate and the lent table hold what they held
-pub change-refused : (g : Gate) (bytes run : List ℕ) → (replaceNumber (changeOf g bytes (length run) .answer) ≡ 0 → ⊥)
-    → (changeOf g bytes (length run) .gate ≡ g) × (replacedRun (g .desk) bytes run ≡ run)
+pub change-refused : (g : Gate) (order : Order) (run : Lent) → (replaceNumber (changeOf g order (sizesOf run) .answer) ≡ 0 → ⊥)
+    → (changeOf g order (sizesOf run) .gate ≡ g) × (replacedRun (g .desk) order run ≡ run)
 unfolding changeOf
-change-refused g bytes run n =
-    let k = replace-refused (g .desk) bytes run n in
+change-refused g order run n =
+    let k = replace-refused (g .desk) order run n in
     (ap (λ (d : Desk). record { desk = d; seen = g .seen }) (k .0), k .1)
 
 -- a piece of no bytes: nothing is fed and no record is taken out, so the gate is as before, whatever the answer

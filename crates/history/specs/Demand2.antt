@@ -28,6 +28,7 @@ use Rattle.matching.specs.Words.{Below, Word, ends}
 use Rattle.reading.specs.Outside.{readBy, readOf, readTo}
 use Rattle.tables.specs.Building.{builtBy, builtOf, onSet, tableOf}
 use Rattle.tagset.specs.Grammar.{goodSet, setOf}
+use Rattle.matching.specs.Limits.{largest}
 
 -- what `Demanded` says is found: of the occurrences that end in the first m bytes of a piece after v, the record (e, i) is one exactly if byte e,
 -- counted from the opening, is one of those, i is a tag, and that tag's bytes end the first e bytes
@@ -70,9 +71,9 @@ module _ (n k : ℕ) (set run : List ℕ) (ts : List Word) (b : AsBuilt n k set 
   -- EACH READING, after any input, is as the demand has it, its new place too
   pub each-reading : (v piece : Word) (list : ℕ) → Below 256 v → Below 256 piece
       → DemandedRead n k ts v piece list (readOf n k table (placeAfter n ts 0 k v) (length v) piece list)
-  each-reading v piece list hv hp = subst (DemandedRead n k ts v piece list) (sym (read-is n k set run ts b v piece list hv hp)) (go (ltb 4294967295 (length v + length piece)) refl)
+  each-reading v piece list hv hp = subst (DemandedRead n k ts v piece list) (sym (read-is n k set run ts b v piece list hv hp)) (go (ltb largest (length v + length piece)) refl)
     where
-      go : (long : Bool) → ltb 4294967295 (length v + length piece) ≡ long → DemandedRead n k ts v piece list (readBy (expected n k ts v (length v) (list / 2) piece) true long)
+      go : (long : Bool) → ltb largest (length v + length piece) ≡ long → DemandedRead n k ts v piece list (readBy (expected n k ts v (length v) (list / 2) piece) true long)
       go true e = isLong (ltb-true _ _ e)
       go false e =
           let d = expected-done n k ts piece v (length v) (list / 2) in
@@ -102,7 +103,7 @@ module _ (n k : ℕ) (set run : List ℕ) (ts : List Word) (b : AsBuilt n k set 
 
   -- PROGRESS outside the desk: no byte has more than 16 matches, so with room for 16 records a piece that is not empty and not LONG advances by at
   -- least one byte
-  pub advances : (v : Word) (c : ℕ) (piece : Word) (list : ℕ) → Below 256 v → Below 256 (c ∷ piece) → 16 ≤ list / 2 → length v + length (c ∷ piece) ≤ 4294967295
+  pub advances : (v : Word) (c : ℕ) (piece : Word) (list : ℕ) → Below 256 v → Below 256 (c ∷ piece) → 16 ≤ list / 2 → length v + length (c ∷ piece) ≤ largest
       → (r : Outcome) × (readOf n k table (placeAfter n ts 0 k v) (length v) (c ∷ piece) list ≡ readTo r) × (0 < r .taken)
   advances v c piece list hv hp some short = (
     expected n k ts v (length v) (list / 2) (c ∷ piece),

@@ -5,24 +5,26 @@ use mathlib.Core.List.{List, List·Memᴰ, List·Memᴰ·cases-cons, List·Mem�
 use mathlib.Core.Logic.{_⊎_, inl, inr}
 use mathlib.Core.Path.{_∙_, _≡_, ap, refl, subst, sym}
 use lib.Dec.{eqb, eqb-refl}
-use lib.ListN.{getD, length, take}
+use lib.ListN.{length, take}
 use Rattle.desk.specs.Rooms.{editionOf, serialOf}
 use Rattle.desk.specs.Shared.{recordOf, recordsOf}
 use Rattle.desk.specs.declared.Edition.{Edition}
 use Rattle.desk.specs.declared.Record.{Record}
 use Rattle.desk.specs.declared.Serial.{Serial}
 use Rattle.history.specs.Demand3.{first-part}
-use Rattle.history.specs.History.{Account, Act, AllBytes, accountAt, recordsDue, recordsFor, run, start, stream}
+use Rattle.history.specs.History.{Account, accountAt, AllBytes, AsLeft, recordsDue, recordsFor, run, start, stream}
 use Rattle.matching.specs.Laws.Bools.{is-true}
-use Rattle.matching.specs.Laws.Occurrences.{occurrence-iff}
-use Rattle.matching.specs.Occurrence.{Occurrence, occurrences}
-use Rattle.matching.specs.Words.{ends}
+use Rattle.matching.specs.Occurrence.{Occurrence}
+use Rattle.desk.specs.Reached.{Call}
+use Rattle.desk.specs.Layout.{Kind}
+use Rattle.matching.specs.Tags.{foundIn, tagCount, tagEnds}
+use Rattle.matching.specs.Laws.Tags.{ends-among, tag-found-iff}
 
 -- what a record of a ticket says: its edition is the ticket's, its number is one of that edition's tags, and that tag's bytes end there
 pub record Truthful (a : Account) (r : Record) : Type 0 where
   pub edition : r .edition .0 ≡ a .edition
-  pub tag : r .tag .0 < length (a .tags)
-  pub ending : ends (getD (a .tags) (r .tag .0) []) (take (r .end) (a .bytes)) ≡ true
+  pub tag : r .tag .0 < tagCount (a .tags)
+  pub ending : tagEnds (a .tags) (r .tag .0) (take (r .end) (a .bytes)) ≡ true
   pub later : 0 < r .end
   pub inside : r .end ≤ length (a .bytes)
 
@@ -53,24 +55,24 @@ made-of s e (o ∷ os) r m = go (List·Memᴰ·cases-cons m) (made-of s e os r)
     go (inr k) f = let z = f k in (z .0, List·Memᴰ·tail (z .1), z .2)
 
 -- after any history, of every record taken out or held
-pub old-tags-only : (acts : List Act) → AllBytes acts → (k : ℕ) → k < length (run start acts .accounts) → (r : Record) → List·Memᴰ r (stream (run start acts))
-    → r .serial .0 ≡ accountAt (run start acts) k .serial → Truthful (accountAt (run start acts) k) r
-old-tags-only acts b k h r m e = record {
+pub old-tags-only : (kind : Kind) (calls : List Call) → AllBytes calls → AsLeft (start kind) calls → (k : ℕ) → k < length (run (start kind) calls .accounts) → (r : Record) → List·Memᴰ r (stream (run (start kind) calls))
+    → r .serial .0 ≡ accountAt (run (start kind) calls) k .serial → Truthful (accountAt (run (start kind) calls) k) r
+old-tags-only kind calls b left k h r m e = record {
   edition = ap (λ (x : Record). x .edition .0) (z .2);
-  tag = subst (λ (x : Record). x .tag .0 < length (a .tags)) (sym (z .2)) (f .2);
-  ending = subst (λ (x : Record). ends (getD (a .tags) (x .tag .0) []) (take (x .end) (a .bytes)) ≡ true) (sym (z .2)) (f .3);
+  tag = subst (λ (x : Record). x .tag .0 < tagCount (a .tags)) (sym (z .2)) (ends-among (a .tags) (z .0 .tag) (take (z .0 .end) (a .bytes)) (f .2));
+  ending = subst (λ (x : Record). tagEnds (a .tags) (x .tag .0) (take (x .end) (a .bytes)) ≡ true) (sym (z .2)) (f .2);
   later = subst (λ (x : Record). 0 < x .end) (sym (z .2)) (f .0);
   inside = subst (λ (x : Record). x .end ≤ length (a .bytes)) (sym (z .2)) (f .1);
 }
   where
     a : Account
-    a = accountAt (run start acts) k
+    a = accountAt (run (start kind) calls) k
 
     due : List·Memᴰ r (recordsDue a)
-    due = subst (λ (l : List Record). List·Memᴰ r l) (first-part acts b k h) (among-own (a .serial) (stream (run start acts)) r m e)
+    due = subst (λ (l : List Record). List·Memᴰ r l) (first-part kind calls b left k h) (among-own (a .serial) (stream (run (start kind) calls)) r m e)
 
-    z : (o : Occurrence) × List·Memᴰ o (occurrences (a .tags) (a .bytes)) × (r ≡ recordOf (serialOf (a .serial)) (editionOf (a .edition)) o)
-    z = made-of (serialOf (a .serial)) (editionOf (a .edition)) (occurrences (a .tags) (a .bytes)) r due
+    z : (o : Occurrence) × List·Memᴰ o (foundIn (a .tags) (a .bytes)) × (r ≡ recordOf (serialOf (a .serial)) (editionOf (a .edition)) o)
+    z = made-of (serialOf (a .serial)) (editionOf (a .edition)) (foundIn (a .tags) (a .bytes)) r due
 
-    f : (0 < z .0 .end) × (z .0 .end ≤ length (a .bytes)) × (z .0 .tag < length (a .tags)) × (ends (getD (a .tags) (z .0 .tag) []) (take (z .0 .end) (a .bytes)) ≡ true)
-    f = occurrence-iff (a .tags) (a .bytes) (z .0 .end) (z .0 .tag) .0 (z .1)
+    f : (0 < z .0 .end) × (z .0 .end ≤ length (a .bytes)) × (tagEnds (a .tags) (z .0 .tag) (take (z .0 .end) (a .bytes)) ≡ true)
+    f = tag-found-iff (a .tags) (a .bytes) (z .0 .end) (z .0 .tag) .0 (z .1)

@@ -22,7 +22,8 @@ pub mod ServingAll
 pub mod States
 pub mod Later
 pub mod Rows
+pub mod Held
 pub mod Answering
-pub mod Given
+pub mod Answered
 pub mod ByRoom
 pub mod Ordered

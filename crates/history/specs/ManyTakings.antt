@@ -12,12 +12,15 @@ use Rattle.desk.specs.Shared.{held, noRecord, popped}
 use Rattle.desk.specs.TakeMany.{listTaken, manyOf, oldest, recordNumbers, takeManyOf}
 use Rattle.desk.specs.declared.Record.{Record}
 use Rattle.desk.specs.declared.Records.{Records}
-use Rattle.history.specs.History.{Act, World, actTake, run, start}
-use Rattle.history.specs.Laws.Takings.{takes-run, withOut}
+use Rattle.history.specs.History.{run, start, withOut, World}
+use Rattle.history.specs.Laws.Takings.{takes-run}
+use Rattle.desk.specs.Reached.{Call, callTake}
+use Rattle.desk.specs.Layout.{Kind}
+use Rattle.desk.specs.Limits.{mostRecords}
 
 -- the records that some calls hand out from a world on, in order
-abbrev pub handedBy : World → List Act → List Record
-handedBy w acts = drop (length (w .out)) (run w acts .out)
+abbrev pub handedBy : World → List Call → List Record
+handedBy w calls = drop (length (w .out)) (run w calls .out)
 
 -- how many records a taking of many answers that is lent a list of so many numbers
 abbrev pub answered : World → ℕ → ℕ
@@ -26,33 +29,25 @@ answered w len = takeManyOf (w .desk) len .count
 -- the world after it: the desk as the call leaves it, and so many of the records that were held are handed out, the oldest first; nothing
 -- else changes
 abbrev pub tookMany : World → ℕ → World
-tookMany w len = record {
-  desk = takeManyOf (w .desk) len .desk;
-  orders = w .orders;
-  table = w .table;
-  edition = w .edition;
-  tags = w .tags;
-  out = w .out ++ take (answered w len) (held (w .desk .records));
-  accounts = w .accounts;
-}
+tookMany w len = withOut w (takeManyOf (w .desk) len .desk) (w .out ++ take (answered w len) (held (w .desk .records)))
 
 pub record ManyTakings (w : World) (list : List ℕ) : Type 0 where
   -- it answers the number of the records held, or of those that the list has room for, whichever is less
   pub count : answered w (length list) ≡ min (length (held (w .desk .records))) (length list / 4)
   -- the world after it is that after so many takings
-  pub takings : tookMany w (length list) ≡ run w (replicate (answered w (length list)) actTake)
+  pub takings : tookMany w (length list) ≡ run w (replicate (answered w (length list)) callTake)
   -- each of which hands out a record
-  pub each : length (handedBy w (replicate (answered w (length list)) actTake)) ≡ answered w (length list)
+  pub each : length (handedBy w (replicate (answered w (length list)) callTake)) ≡ answered w (length list)
   -- the list after it: the numbers of the records that those takings hand out, then what stood there
   pub written :
       listTaken (w .desk) list (manyOf (w .desk) (length list))
-      ≡ recordNumbers (handedBy w (replicate (answered w (length list)) actTake)) ++ drop (4 * answered w (length list)) list
+      ≡ recordNumbers (handedBy w (replicate (answered w (length list)) callTake)) ++ drop (4 * answered w (length list)) list
 
 oldest-take : (n : ℕ) (q : Records) → n ≤ q .count → oldest n q ≡ take n (held q)
 unfolding oldest
 oldest-take zero q h = refl
 oldest-take (suc n) q h =
-    ap {B = List Record} (λ (l : List Record). getD (q .ring) (q .first % 256) noRecord ∷ l) (oldest-take n (popped q) (omega (arith, h)))
+    ap {B = List Record} (λ (l : List Record). getD (q .ring) (q .first % mostRecords) noRecord ∷ l) (oldest-take n (popped q) (omega (arith, h)))
     ∙ ap (λ (l : List Record). take (suc n) l) (sym (held-popped q (omega (arith, h))))
 
 oldest-length : (n : ℕ) (q : Records) → length (oldest n q) ≡ n
@@ -80,12 +75,12 @@ many-are-takings w list = record {
     few : n ≤ w .desk .records .count
     few = min-le-left (w .desk .records .count) (length list / 4)
 
-    all : run w (replicate n actTake) ≡ withOut w (takeManyOf (w .desk) (length list) .desk) (w .out ++ oldest n (w .desk .records))
+    all : run w (replicate n callTake) ≡ withOut w (takeManyOf (w .desk) (length list) .desk) (w .out ++ oldest n (w .desk .records))
     all = takes-run w refl (many-takings n (w .desk) few)
 
-    handed : handedBy w (replicate n actTake) ≡ oldest n (w .desk .records)
+    handed : handedBy w (replicate n callTake) ≡ oldest n (w .desk .records)
     handed = ap (λ (x : World). drop (length (w .out)) (x .out)) all ∙ drop-front (w .out) (oldest n (w .desk .records))
 
 -- so after any history of calls
-pub after-any-history : (acts : List Act) (list : List ℕ) → ManyTakings (run start acts) list
-after-any-history acts list = many-are-takings (run start acts) list
+pub after-any-history : (kind : Kind) (calls : List Call) (list : List ℕ) → ManyTakings (run (start kind) calls) list
+after-any-history kind calls list = many-are-takings (run (start kind) calls) list

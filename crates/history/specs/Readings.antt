@@ -5,7 +5,7 @@ use Prim.Native.Nat.{_+_, _/_, _<_, _≤_, suc, ℕ}
 use mathlib.Core.List.{List, [], _++_, _∷_}
 use mathlib.Core.Path.{_≡_}
 use lib.ListN.{length, replicate, take}
-use Rattle.matching.specs.Occurrence.{Occurrence, occurrencesFrom, tagsEnding}
+use Rattle.matching.specs.Occurrence.{Occurrence}
 use Rattle.matching.specs.Reading.{Outcome, placeAfter}
 use Rattle.matching.specs.Slicing.{Slicing}
 use Rattle.matching.specs.Words.{Below, Word}
@@ -14,6 +14,8 @@ use Rattle.reading.specs.Outside.{ReadOf, readOf, readTo, refusedRead}
 use Rattle.reading.specs.declared.ReadRefusal.the-variants.{Long}
 use Rattle.tables.specs.Building.{builtOf}
 use Rattle.tagset.specs.Grammar.{goodSet, setOf}
+use Rattle.matching.specs.Tags.{Tags, exact, foundFrom, tagsAt}
+use Rattle.matching.specs.Limits.{largest}
 
 -- one reading in a row: a piece, and how many numbers its lent list has
 pub record Turn : Type 0 where
@@ -60,17 +62,17 @@ pub record AsBuilt (n k : ℕ) (set run : List ℕ) (ts : List Word) : Type 0 wh
 -- what a piece read after the input v comes to, with room for so many records, as the demand has it: the reading is never damaged, finds the
 -- occurrences that end in the bytes it takes, and takes every byte up to the first whose matches find no room. The new place is said where the layout
 -- is known: `DemandedRead`
-pub data Demanded (ts : List Word) (v piece : Word) (room : ℕ) : Outcome → Type 0 where
-  tookAll : (place : List ℕ) → length (occurrencesFrom ts v (length v) piece) ≤ room
-      → Demanded ts v piece room (record { taken = length piece; place = place; stop = S.All; found = occurrencesFrom ts v (length v) piece })
+pub data Demanded (tags : Tags) (v piece : Word) (room : ℕ) : Outcome → Type 0 where
+  tookAll : (place : List ℕ) → length (foundFrom tags v (length v) piece) ≤ room
+      → Demanded tags v piece room (record { taken = length piece; place = place; stop = S.All; found = foundFrom tags v (length v) piece })
   stoppedFull : (place : List ℕ) (count : ℕ) → count < length piece
-      → length (occurrencesFrom ts v (length v) (take count piece)) ≤ room
-      → room < length (occurrencesFrom ts v (length v) (take count piece)) + length (tagsEnding ts (v ++ take (suc count) piece))
-      → Demanded ts v piece room (record { taken = count; place = place; stop = S.Full; found = occurrencesFrom ts v (length v) (take count piece) })
+      → length (foundFrom tags v (length v) (take count piece)) ≤ room
+      → room < length (foundFrom tags v (length v) (take count piece)) + length (tagsAt tags (v ++ take (suc count) piece))
+      → Demanded tags v piece room (record { taken = count; place = place; stop = S.Full; found = foundFrom tags v (length v) (take count piece) })
 
 -- a read outside the desk, over a table of k machines of n bits, into a list of so many numbers: it is refused only where it is LONG, and else is as
 -- demanded, and its new place is the place after the bytes that it has taken
 pub data DemandedRead (n k : ℕ) (ts : List Word) (v piece : Word) (list : ℕ) : ReadOf → Type 0 where
-  isLong : 4294967295 < length v + length piece → DemandedRead n k ts v piece list (refusedRead Long)
-  isRead : length v + length piece ≤ 4294967295 → (r : Outcome) → Demanded ts v piece (list / 2) r → r .place ≡ placeAfter n ts 0 k (v ++ take (r .taken) piece)
+  isLong : largest < length v + length piece → DemandedRead n k ts v piece list (refusedRead Long)
+  isRead : length v + length piece ≤ largest → (r : Outcome) → Demanded (exact ts) v piece (list / 2) r → r .place ≡ placeAfter n ts 0 k (v ++ take (r .taken) piece)
       → DemandedRead n k ts v piece list (readTo r)

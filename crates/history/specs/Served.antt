@@ -14,13 +14,14 @@ use Rattle.desk.specs.Replace.{replaceOf}
 use Rattle.desk.specs.Rooms.{serialOf}
 use Rattle.desk.specs.declared.FeedAnswer.{FeedAnswer}
 use Rattle.desk.specs.declared.Serial.{Serial}
-use Rattle.history.specs.History.{Account, Act, Order, World, actClose, actFeed, actOpen, actReplace, actTake, run, start, step}
+use Rattle.history.specs.History.{Account, Replacement, run, start, step, World}
 use Rattle.matching.specs.Words.{Word}
-use Rattle.desk.specs.Layout.{sizesOf}
+use Rattle.desk.specs.Layout.{Kind, sizesOf}
+use Rattle.desk.specs.Reached.{Call, callClose, callFeed, callOpen, callReplace, callTake}
 
 -- calls to come, which may go by what the calls before them have left
 abbrev pub Script : Type 0
-Script = World → List Act
+Script = World → List Call
 
 -- no calls; and one script behind another
 abbrev pub nothing : Script
@@ -30,13 +31,13 @@ abbrev pub then : Script → Script → Script
 then f g w = f w ++ g (run w (f w))
 
 -- replacements as they were called
-unfoldable pub called : List Order → List Act
+unfoldable pub called : List Replacement → List Call
 called [] = []
-called (o ∷ os) = actReplace (o .set) (o .run) ∷ called os
+called (o ∷ os) = callReplace (o .order) (o .run) ∷ called os
 
 -- records are taken until the list is empty
 abbrev pub emptied : Script
-emptied w = replicate (w .desk .records .count) actTake
+emptied w = replicate (w .desk .records .count) callTake
 
 -- where a feed stops FULL the list is emptied, and then goes what is given for the bytes that it didn't take
 abbrev pub afterFull : FeedAnswer → (ℕ → Script) → Script
@@ -50,7 +51,8 @@ afterFull F.Long more = nothing
 -- bytes fed for a serial, in at most so many feeds
 unfoldable pub fedWhole : ℕ → Serial → Word → Script
 fedWhole zero s b w = []
-fedWhole (suc most) s b w = actFeed s b ∷ afterFull (feedOf (w .desk) s (w .table) b .answer) (λ count. fedWhole most s (drop count b)) (step w (actFeed s b))
+fedWhole (suc most) s b w =
+    callFeed s (w .table) b ∷ afterFull (feedOf (w .desk) s (w .table) b .answer) (λ count. fedWhole most s (drop count b)) (step w (callFeed s (w .table) b))
 
 -- pieces fed one after another; emptying the list once more than there are bytes is always enough
 unfoldable pub fedPieces : Serial → List Word → Script
@@ -63,33 +65,33 @@ joined [] = []
 joined (p ∷ ps) = p ++ joined ps
 
 abbrev pub shutIf : Bool → Serial → Script
-shutIf true s w = actClose s ∷ []
+shutIf true s w = callClose s ∷ []
 shutIf false s w = []
 
 -- one ticket: the replacements up to its edition, its opening, its bytes in some pieces, and its closing if it was closed
-abbrev pub servedOne : List Order → Account → List Word → Script
+abbrev pub servedOne : List Replacement → Account → List Word → Script
 servedOne orders a pieces w =
     then (λ v. called (take (a .edition - v .edition) (drop (v .edition) orders)))
-    (then (λ v. actOpen ∷ []) (then (fedPieces (serialOf (a .serial)) pieces) (shutIf (a .closed) (serialOf (a .serial))))) w
+    (then (λ v. callOpen ∷ []) (then (fedPieces (serialOf (a .serial)) pieces) (shutIf (a .closed) (serialOf (a .serial))))) w
 
 -- tickets in the order of their accounts, the first of which is that of ticket k, then the replacements that are left
-unfoldable pub servedAll : List Order → (ℕ → List Word) → ℕ → List Account → Script
+unfoldable pub servedAll : List Replacement → (ℕ → List Word) → ℕ → List Account → Script
 servedAll orders cut k [] w = called (drop (w .edition) orders)
 servedAll orders cut k (a ∷ more) w = then (servedOne orders a (cut k)) (servedAll orders cut (suc k) more) w
 
 -- the history that serves the tickets of a world one after another; the bytes taken for ticket k go in the pieces that `cut k` says
-abbrev pub serving : (ℕ → List Word) → World → List Act
-serving cut w = servedAll (w .orders) cut 0 (w .accounts) start
+abbrev pub serving : Kind → (ℕ → List Word) → World → List Call
+serving kind cut w = servedAll (w .orders) cut 0 (w .accounts) (start kind)
 
 -- whether a call goes through; FULL and DAMAGED are stops and no refusals
-abbrev pub accepts : World → Act → Type 0
-accepts w (actReplace set run) = replaceNumber (replaceOf (w .desk) set (sizesOf run) .answer) ≡ 0
-accepts w actOpen = openNumber (openOf (w .desk) .answer) ≡ 0
-accepts w (actFeed s piece) = feedNumber (feedOf (w .desk) s (w .table) piece .answer) ≡ 0
-accepts w (actClose s) = closeNumber (closeOf (w .desk) s .answer) ≡ 0
-accepts w actTake = takeNumber (takeOf (w .desk) .answer) ≡ 0
+abbrev pub accepts : World → Call → Type 0
+accepts w (callReplace order run) = replaceNumber (replaceOf (w .desk) order (sizesOf run) .answer) ≡ 0
+accepts w callOpen = openNumber (openOf (w .desk) .answer) ≡ 0
+accepts w (callFeed s table piece) = feedNumber (feedOf (w .desk) s table piece .answer) ≡ 0
+accepts w (callClose s) = closeNumber (closeOf (w .desk) s .answer) ≡ 0
+accepts w callTake = takeNumber (takeOf (w .desk) .answer) ≡ 0
 
 -- no call of a history is refused
-unfoldable pub NoneRefused : World → List Act → Type 0
+unfoldable pub NoneRefused : World → List Call → Type 0
 NoneRefused w [] = Unit {0}
-NoneRefused w (a ∷ acts) = accepts w a × NoneRefused (step w a) acts
+NoneRefused w (a ∷ calls) = accepts w a × NoneRefused (step w a) calls

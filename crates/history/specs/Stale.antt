@@ -6,7 +6,7 @@ use Rattle.desk.specs.declared.StateAnswer.the-variants as A
 use Prim.Native.Nat.{_+_, _<_, suc, ℕ}
 use mathlib.Core.Bool.{Bool, false, not, true}
 use mathlib.Core.List.{List}
-use mathlib.Core.Logic.{_↔_, inr}
+use mathlib.Core.Logic.{inr}
 use mathlib.Core.Path.{_∙_, _≡_, ap, ap₂, refl, subst, sym}
 use native.Mathlib.Nat.{le-trans}
 use native.Mathlib.Omega.{arith}
@@ -25,20 +25,22 @@ use Rattle.desk.specs.declared.Edition.{Edition}
 use Rattle.desk.specs.declared.Feeding.{Feeding}
 use Rattle.desk.specs.declared.Replacing.{Replacing}
 use Rattle.desk.specs.declared.Serial.{Serial}
-use Rattle.history.specs.History.{Account, Act, AllBytes, Gone, World, accountAt, actReplace, replacing, run, start, step}
-use Rattle.history.specs.Laws.Answering.{closed-room, gone-iff, open-room}
-use Rattle.history.specs.Laws.ByRoom.{feed-by-room, no-room-close, no-room-feed}
+use Rattle.history.specs.History.{Account, accountAt, AllBytes, AsLeft, replacing, run, start, step, World}
+use Rattle.history.specs.Laws.Answering.{closed-room, open-room}
+use Rattle.history.specs.Laws.ByRoom.{no-room-close, no-room-feed}
 use Rattle.history.specs.Laws.Invariant.{Inv}
 use Rattle.history.specs.Laws.Later.{goes-run}
-use Rattle.history.specs.Laws.LedgerSteps.{sound, sound-run}
+use Rattle.history.specs.Laws.LedgerSteps.{any-sound, sound, sound-run}
 use Rattle.history.specs.Laws.Numbers.{differ}
 use Rattle.history.specs.Laws.Seats.{Agrees}
 use Rattle.history.specs.Laws.States.{state-is, stateOfAccount}
 use Rattle.history.specs.Laws.Steps.{inv-step}
 use Rattle.matching.specs.Laws.Bools.{is-false}
 use Rattle.matching.specs.Laws.Words.{eqb-eq}
-use Rattle.matching.specs.Words.{Below, Word}
-use Rattle.desk.specs.Layout.{Lent, sizesOf}
+use Rattle.matching.specs.Words.{Word}
+use Rattle.desk.specs.Layout.{Kind, Lent, Order, OrderBytes, sizesOf}
+use Rattle.desk.specs.Reached.{Call, callReplace}
+use Rattle.desk.specs.Limits.{mostTickets}
 
 -- what the desk says of a ticket that is older than the set: it is stale with its edition and its bytes taken, or closed if it was closed; a feed is refused, over every table; and
 -- while it is stale it can be closed
@@ -51,7 +53,7 @@ pub record Older (w : World) (a : Account) : Type 0 where
   pub stale-close : a .closed ≡ false → closeOf (w .desk) (serialOf (a .serial)) .answer ≡ C.Closed
   pub closed-close : a .closed ≡ true → closeOf (w .desk) (serialOf (a .serial)) ≡ record { desk = w .desk; answer = C.NoTicket }
 
-module _ (w : World) (v : Inv w) (k : ℕ) (hk : k < length (w .accounts)) where
+module _ {Left : Type 0} (w : World) (v : Inv Left w) (k : ℕ) (hk : k < length (w .accounts)) where
   abbrev a : Account
   a = accountAt w k
 
@@ -76,7 +78,7 @@ module _ (w : World) (v : Inv w) (k : ℕ) (hk : k < length (w .accounts)) where
       → feedOf (w .desk) s table piece ≡ record { desk = w .desk; answer = F.Stale (editionOf (a .edition)) }
   stale-feed-is c old table piece = go _ (feeds (w .desk) s table piece)
     where
-      room : (roomOf (w .desk .tickets) s < 16) × Agrees (ticketIn (w .desk .tickets) (roomOf (w .desk .tickets) s)) a
+      room : (roomOf (w .desk .tickets) s < mostTickets) × Agrees Left (ticketIn (w .desk .tickets) (roomOf (w .desk .tickets) s)) a
       room = open-room w v k hk c
 
       older : ticketIn (w .desk .tickets) (roomOf (w .desk .tickets) s) .edition .0 ≡ w .desk .edition .0 → ⊥
@@ -117,21 +119,22 @@ pub record AllOlder (w v : World) (e : Edition) : Type 0 where
 
 -- EVERY OPEN TICKET BECOMES STALE: where a replacement is accepted, each ticket from before it is of an edition below the new one, and is stale
 -- then, or closed if it was closed
-pub replaced-all-stale : (acts : List Act) → AllBytes acts → (set : List ℕ) (table : Lent) → Below 256 set → (e : Edition) (count : ℕ)
-    → replaceOf (run start acts .desk) set (sizesOf table) .answer ≡ R.Replaced e count → AllOlder (run start acts) (step (run start acts) (actReplace set table)) e
-replaced-all-stale acts b set table c e count = go _ (replaces (w .desk) set (sizesOf table)) (inv-step w (actReplace set table) c v)
+pub replaced-all-stale : (kind : Kind) (calls : List Call) → AllBytes calls → (order : Order) (table : Lent) → OrderBytes order → (e : Edition) (count : ℕ)
+    → replaceOf (run (start kind) calls .desk) order (sizesOf table) .answer ≡ R.Replaced e count
+    → AllOlder (run (start kind) calls) (step (run (start kind) calls) (callReplace order table)) e
+replaced-all-stale kind calls b order table c e count = go _ (replaces (w .desk) order (sizesOf table)) (inv-step w (callReplace order table) c (λ l. tt) v)
   where
     w : World
-    w = run start acts
+    w = run (start kind) calls
 
-    v : Inv w
-    v = sound acts b .inv
+    v : Inv (AsLeft (start kind) calls) w
+    v = sound kind calls b .inv
 
     number : {x : Edition} {m : ℕ} → R.Replaced x m ≡ R.Replaced e count → x .0 ≡ e .0
     number q = cc
 
-    go : (r : Replacing) → Replaces (w .desk) set (sizesOf table) r → Inv (replacing w set table (r .desk) (r .answer)) → r .answer ≡ R.Replaced e count
-        → AllOlder w (replacing w set table (r .desk) (r .answer)) e
+    go : (r : Replacing) → Replaces (w .desk) order (sizesOf table) r → Inv (AsLeft (start kind) calls) (replacing w order table (r .desk) (r .answer)) → r .answer ≡ R.Replaced e count
+        → AllOlder w (replacing w order table (r .desk) (r .answer)) e
     go r (replace-fault fault p) i q = differ cc
     go r (replace-table machine short p) i q = differ cc
     go r (replace-edition-end n p h) i q = differ cc
@@ -147,25 +150,15 @@ replaced-all-stale acts b set table c e count = go _ (replaces (w .desk) set (si
 
 -- THE THEOREM. Once the edition in force is later than a ticket's, then after any more calls the ticket is stale, or closed, has the bytes that
 -- it had, and if it was closed is closed still
-pub after-a-replacement : (acts more : List Act) → AllBytes acts → AllBytes more → (k : ℕ) → k < length (run start acts .accounts)
-    → accountAt (run start acts) k .edition < run start acts .edition
-    → (accountAt (run (run start acts) more) k .bytes ≡ accountAt (run start acts) k .bytes)
-    × (accountAt (run start acts) k .closed ≡ true → accountAt (run (run start acts) more) k .closed ≡ true)
-    × Older (run (run start acts) more) (accountAt (run (run start acts) more) k)
-after-a-replacement acts more b c k h old =
-    let w = run start acts in
-    let s = sound acts b in
-    let g = goes-run w more c (s .inv) in
+pub after-a-replacement : (kind : Kind) (calls more : List Call) → AllBytes calls → AllBytes more → (k : ℕ) → k < length (run (start kind) calls .accounts)
+    → accountAt (run (start kind) calls) k .edition < run (start kind) calls .edition
+    → (accountAt (run (run (start kind) calls) more) k .bytes ≡ accountAt (run (start kind) calls) k .bytes)
+    × (accountAt (run (start kind) calls) k .closed ≡ true → accountAt (run (run (start kind) calls) more) k .closed ≡ true)
+    × Older (run (run (start kind) calls) more) (accountAt (run (run (start kind) calls) more) k)
+after-a-replacement kind calls more b c k h old =
+    let w = run (start kind) calls in
+    let s = any-sound kind calls b in
+    let g = goes-run w more c (λ z. absurd z) (s .inv) in
     let l = g .each k h in
-    let t = sound-run w more c s in
+    let t = sound-run w more c (λ z. absurd z) s in
     (l .bytes (inr old), l .closed, older-is (run w more) (t .inv) k (le-trans h (g .accounts)) (omega (arith, old, l .edition, g .edition)))
-
--- NO TICKET, exactly: after any history a feed of a serial, over any table, is refused so exactly if no opening answered the serial or its ticket
--- was closed
-pub no-ticket-feed : (acts : List Act) → AllBytes acts → (s : Serial) (table : Lent) (piece : Word)
-    → (feedOf (run start acts .desk) s table piece .answer ≡ F.NoTicket) ↔ Gone (run start acts) s
-no-ticket-feed acts b s table piece =
-    let w = run start acts in
-    let g = gone-iff w (sound acts b .inv) s in
-    let r = feed-by-room (w .desk) s table piece in
-    (λ e. g .0 (r .0 e), λ h. r .1 (g .1 h))

@@ -14,12 +14,14 @@ use Rattle.desk.specs.declared.Edition.{Edition}
 use Rattle.desk.specs.declared.Serial.{Serial}
 use Rattle.desk.specs.declared.StateAnswer.{StateAnswer}
 use Rattle.desk.specs.declared.StateAnswer.the-variants as A
-use Rattle.history.specs.History.{Act, AllBytes, OpenOrStale, OpenTicket, StaleTicket, World, accountAt, run, start}
+use Rattle.history.specs.History.{accountAt, AllBytes, AsLeft, OpenOrStale, OpenTicket, run, StaleTicket, start, World}
 use Rattle.history.specs.Laws.Invariant.{Inv, Stranger}
 use Rattle.history.specs.Laws.LedgerSteps.{sound}
 use Rattle.history.specs.Laws.Numbers.{differ, lower}
 use Rattle.history.specs.Laws.States.{known-or-not, state-is, state-none, stateOfAccount}
 use Rattle.matching.specs.Laws.Bools.{not-both}
+use Rattle.desk.specs.Reached.{Call}
+use Rattle.desk.specs.Layout.{Kind}
 
 -- account k is that of a serial
 pub record IsOf (w : World) (s : Serial) (k : ℕ) : Type 0 where
@@ -46,7 +48,7 @@ data Shows (w : World) (s : Serial) : StateAnswer → Type 0 where
   shows-stale : (k : ℕ) → StaleTicket w s k → Shows w s (A.Stale (editionOf (accountAt w k .edition)) (length (accountAt w k .bytes)))
   shows-open : (k : ℕ) → OpenTicket w s k → Shows w s (A.Open (editionOf (accountAt w k .edition)) (length (accountAt w k .bytes)))
 
-shows : (w : World) → Inv w → (s : Serial) → Shows w s (stateOf (w .desk) s)
+shows : {Left : Type 0} (w : World) → Inv Left w → (s : Serial) → Shows w s (stateOf (w .desk) s)
 shows w v s = go (known-or-not w v (s .0))
   where
     by : (k : ℕ) → IsOf w s k → (c : Bool) → accountAt w k .closed ≡ c → (e : Bool) → eqb (accountAt w k .edition) (w .edition) ≡ e → Shows w s (stateBy (editionOf (accountAt w k .edition)) (length (accountAt w k .bytes)) (not c) e true)
@@ -68,14 +70,14 @@ shows w v s = go (known-or-not w v (s .0))
         no (inr e) k i = omega (arith, e, i .serial, v .numbered k (i .inside), i .inside)
 
 -- NEVER GIVEN, CLOSED, STALE OR OPEN: after any history the desk shows of every serial what its account says
-pub states-are : (acts : List Act) → AllBytes acts → (s : Serial) → StatesAre (run start acts) s (stateOf (run start acts .desk) s)
-states-are acts b s = go _ (shows w v s)
+pub states-are : (kind : Kind) (calls : List Call) → AllBytes calls → (s : Serial) → StatesAre (run (start kind) calls) s (stateOf (run (start kind) calls .desk) s)
+states-are kind calls b s = go _ (shows w v s)
   where
     w : World
-    w = run start acts
+    w = run (start kind) calls
 
-    v : Inv w
-    v = sound acts b .inv
+    v : Inv (AsLeft (start kind) calls) w
+    v = sound kind calls b .inv
 
     of : (k : ℕ) → OpenOrStale w s k → IsOf w s k
     of k o = record { inside = o .inside; serial = o .serial }

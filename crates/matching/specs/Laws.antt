@@ -17,6 +17,7 @@ pub mod Slots
 pub mod Readings
 pub mod Expected
 pub mod AnyTable
+pub mod AnyPlace
 pub mod Built
 pub mod Counting
 pub mod States

@@ -1,4 +1,5 @@
 -- What is to be believed, in the order of docs/RULES.md; the laws of it stand under Laws.
+pub mod Limits
 pub mod Refusal
 pub mod Words
 pub mod Machine

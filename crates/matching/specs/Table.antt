@@ -4,6 +4,7 @@ use mathlib.Core.Bool.{true, false}
 use mathlib.Core.List.{List, [], _∷_, _++_}
 use lib.Dec.{ltb}
 use lib.ListN.{length, getD, replicate}
+use Rattle.matching.specs.Limits.{mostSlots}
 use Rattle.matching.specs.Words.{Word}
 use Rattle.matching.specs.Machine.{prefixes, states, next, vector}
 use Rattle.matching.specs.Slicing.{slice, reduced}
@@ -12,9 +13,9 @@ use Rattle.matching.specs.Slicing.{slice, reduced}
 abbrev pub slotSize : ℕ → ℕ
 slotSize n = 2 ^ n + 1
 
--- s: the slots that a run of so many numbers has for each of k machines, at most 513
+-- s: the slots that a run of so many numbers has for each of k machines, and no more than the limit
 abbrev pub slotsIn : ℕ → ℕ → ℕ → ℕ
-slotsIn n k len = min (len / (k * slotSize n)) 513
+slotsIn n k len = min (len / (k * slotSize n)) mostSlots
 
 -- where slot q of machine m begins, with s slots a machine
 unfoldable pub spot : ℕ → ℕ → ℕ → ℕ → ℕ

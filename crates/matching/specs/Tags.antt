@@ -6,7 +6,7 @@ use mathlib.Core.List.{List, []}
 use lib.Dec.{ltb}
 use lib.ListN.{getD, length}
 use Rattle.matching.specs.Occurrence.{Occurrence, occurrencesBy, tagsEnding}
-use Rattle.matching.specs.Words.{Word, ends}
+use Rattle.matching.specs.Words.{Lawful, Word, ends}
 
 abbrev pub Tags : Type 0
 Tags = List Word
@@ -14,6 +14,10 @@ Tags = List Word
 -- tags that are matched byte for byte
 abbrev pub exact : List Word → Tags
 exact ts = ts
+
+-- what the laws ask of them
+unfoldable pub LawfulTags : Tags → Type 0
+LawfulTags tags = Lawful tags
 
 unfoldable pub tagCount : Tags → ℕ
 tagCount tags = length tags

@@ -4,6 +4,7 @@ use mathlib.Core.Bool.{Bool, _&&_, _||_, false, true}
 use mathlib.Core.List.{List, [], _∷_}
 use lib.Dec.{eqb}
 use lib.ListN.{length}
+use Rattle.matching.specs.Limits.{longestTag, mostTags}
 
 abbrev pub Word : Type 0
 Word = List ℕ
@@ -55,8 +56,8 @@ abbrev pub AllShort : ℕ → List Word → Type 0
 AllShort l [] = Unit {0}
 AllShort l (t ∷ ts) = (length t ≤ l) × AllShort l ts
 
--- what the laws ask of a list of tags: at most 16, of at most 32 bytes each. They need not be distinct, and may be of any least length
+-- what the laws ask of a list of tags: no more and no longer than the limits. They need not be distinct, and may be of any least length
 pub record Lawful (ts : List Word) : Type 0 where
-  pub few : length ts ≤ 16
-  pub short : AllShort 32 ts
+  pub few : length ts ≤ mostTags
+  pub short : AllShort longestTag ts
   pub bytes : AllBelow 256 ts

@@ -11,6 +11,9 @@ pub enum Stop {
     Damaged,
 }
 
+// The slots of a machine, at most: `mostSlots` in specs/Limits.antt.
+pub const MOST_SLOTS: usize = 513;
+
 // How many letters a machine of so many bits has.
 pub fn letters(bits: usize) -> usize
     requires { ⌜ bits ≤ 8 ⌝ }
@@ -25,5 +28,5 @@ pub fn slots(len: usize, bits: usize, k: usize) -> usize
     ensures { λ r. ⌜ r ≡ slotsIn bits k len ⌝ }
 {
     let most = len / (k * (letters(bits) + 1));
-    if most < 513 { most } else { 513 }
+    if most < MOST_SLOTS { most } else { MOST_SLOTS }
 }

@@ -7,6 +7,7 @@ use lib.ListN.{length, getD, drop}
 use Rattle.matching.specs.Words.{Word}
 use Rattle.matching.specs.Table.{slotsIn}
 use Rattle.matching.specs.Occurrence.{flat}
+use Rattle.matching.specs.Limits.{largest}
 use Rattle.matching.specs.Reading.{Outcome, read, allBelow}
 use Rattle.reading.specs.declared.ReadRefusal.{ReadRefusal}
 use Rattle.reading.specs.declared.ReadRefusal.the-variants.{Place, Long}
@@ -19,7 +20,7 @@ pub data ReadOf : Type 0 where
   refusedRead : ReadRefusal → ReadOf
   readTo : Outcome → ReadOf
 
--- by whether each state is below s, and whether the bytes taken and the piece pass 4,294,967,295
+-- by whether each state is below s, and whether the bytes taken and the piece pass the largest count
 abbrev pub readBy : Outcome → Bool → Bool → ReadOf
 readBy r false long = refusedRead Place
 readBy r true true = refusedRead Long
@@ -30,7 +31,7 @@ unfoldable pub readOf : ℕ → ℕ → List ℕ → List ℕ → ℕ → Word �
 readOf n k table place count piece len =
     readBy (read n (slotsIn n k (length table)) table place count (len / 2) piece)
     (allBelow (slotsIn n k (length table)) place)
-    (ltb 4294967295 (count + length piece))
+    (ltb largest (count + length piece))
 
 -- the list after a read: the records at its front, and the rest as it was
 abbrev pub listBy : List ℕ → ReadOf → List ℕ

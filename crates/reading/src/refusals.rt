@@ -4,9 +4,13 @@ ghost use mathlib.Core.Path.{_≡_};
 ghost use Prim.Native.Nat.{_+_};
 ghost use mathlib.Core.List.{[], _∷_};
 ghost use lib.Dec.{ltb};
+ghost use Rattle.matching.specs.Limits.{largest};
 ghost use Rattle.matching.specs.Refusal.{firstOf, _if_};
 ghost use Rattle.reading.specs.Outside.{readNumber};
 ghost use Rattle.reading.specs.Refusals.{readGrounds, verdictNumber};
+
+// The most bytes that are counted: `largest` in matching's specs/Limits.antt.
+pub const LARGEST: u32 = 4294967295;
 
 pub enum Verdict {
     Refuse(ReadRefusal),
@@ -35,8 +39,8 @@ pub fn judge(sound: bool, long: bool) -> Verdict
 
 // Whether the bytes taken and the piece pass the largest count.
 pub fn too_long(count: u32, len: usize) -> bool
-    ensures { λ r. ⌜ r ≡ ltb 4294967295 (count + len) ⌝ }
+    ensures { λ r. ⌜ r ≡ ltb largest (count + len) ⌝ }
 {
-    let left = (4294967295 - count) as usize;
+    let left = (LARGEST - count) as usize;
     left < len
 }

@@ -13,7 +13,7 @@ use Rattle.desk.specs.Feed.{feedOf}
 use Rattle.desk.specs.Replace.{replaceOf, replacedRun}
 use Rattle.desk.specs.Rooms.{editionOf, firstRoom, roomOf, serialOf}
 use Rattle.desk.specs.Shared.{pushAll, round}
-use Rattle.history.specs.History.{actFeed, actOpen, onSerial, run, start, stream}
+use Rattle.history.specs.History.{onSerial, run, start, stream}
 use Rattle.matching.specs.Machine.{longest, next, prefixes, states, vector, vectorBy, walk, withPrefixes, withTags, withWord}
 use Rattle.matching.specs.Occurrence.{numbersWhere, occurAt, occurrences, occurrencesBy, tagsEnding}
 use Rattle.matching.specs.Reading.{allBelow, flagged, halted, nexts, onesOf, read, tableStep, tookByte, vectorsAt}
@@ -27,6 +27,7 @@ use Rattle.tagset.specs.Answer.{along, cutAt, setRead, tagsLie}
 use Rattle.tagset.specs.Grammar.{distinct, entriesFrom, entryOf, goodSet, badSet, setOf}
 use Rattle.tagset.specs.declared.Verdict.the-variants.{Good}
 use Rattle.desk.specs.Layout.{deskBuilt, deskRead, deskSlots, deskTable, lentFits, placeIn}
+use Rattle.desk.specs.Reached.{callFeed, callOpen}
 
 -- after "hx" each bit machine is in a state: that state's vector, as the table has it, for machines 0 to 7
 abbrev pub vectorsAfter-hx : List ℕ
@@ -82,9 +83,9 @@ pub record OfDesk : Type 0 where
   pub sample-10-one : feedOf (run start acts-255 .desk) (serialOf 3) (run start acts-255 .table) (97 ∷ []) .answer ≡ F.Fed 1 1 S.All
   pub sample-10-two : feedOf (run start acts-255 .desk) (serialOf 4) (run start acts-255 .table) (97 ∷ []) .answer ≡ F.Fed 0 0 S.Full
   -- 12: "ush" then "ers" gives the records of "ushers"
-  pub sample-12 : stream (run start (acts-open ++ actFeed (serialOf 1) ush ∷ actFeed (serialOf 1) ers ∷ []))
-      ≡ stream (run start (acts-open ++ actFeed (serialOf 1) ushers ∷ []))
-  pub sample-12-records : stream (run start (acts-open ++ actFeed (serialOf 1) ushers ∷ []))
+  pub sample-12 : stream (run start (acts-open ++ callFeed (serialOf 1) ush ∷ callFeed (serialOf 1) ers ∷ []))
+      ≡ stream (run start (acts-open ++ callFeed (serialOf 1) ushers ∷ []))
+  pub sample-12-records : stream (run start (acts-open ++ callFeed (serialOf 1) ushers ∷ []))
       ≡ a-record 1 1 4 0 ∷ a-record 1 1 4 1 ∷ a-record 1 1 6 3 ∷ []
   -- 13: replaced by the same set again, the old ticket is STALE
   pub sample-13 : feedOf (run start (acts-half tags) .desk) (serialOf 1) (run start (acts-half tags) .table) ers .answer ≡ F.Stale (editionOf 1)
@@ -98,7 +99,7 @@ pub record Incident : Type 0 where
   -- the rest of it is refused, with the edition of its ticket
   pub refused : feedOf (run start (acts-half later) .desk) (serialOf 1) (run start (acts-half later) .table) ers .answer ≡ F.Stale (editionOf 1)
   -- read again from its opening, it gives the records of the new set, under the new edition, and none under the old ticket
-  pub again : stream (run start (acts-half later ++ actFeed (serialOf 1) ers ∷ actOpen ∷ actFeed (serialOf 2) ushers ∷ []))
+  pub again : stream (run start (acts-half later ++ callFeed (serialOf 1) ers ∷ callOpen ∷ callFeed (serialOf 2) ushers ∷ []))
       ≡ a-record 2 2 2 0 ∷ a-record 2 2 2 1 ∷ a-record 2 2 6 0 ∷ []
 
 pub record Samples : Type 0 where

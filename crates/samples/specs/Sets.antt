@@ -5,10 +5,10 @@ use lib.ListN.{length, replicate}
 use Rattle.desk.specs.Rooms.{editionOf, serialOf}
 use Rattle.desk.specs.Shared.{recordOf}
 use Rattle.desk.specs.declared.Record.{Record}
-use Rattle.history.specs.History.{Act, actClose, actFeed, actOpen, actReplace}
 use Rattle.matching.specs.Occurrence.{Occurrence}
 use Rattle.matching.specs.Table.{built}
 use Rattle.matching.specs.Words.{Word}
+use Rattle.desk.specs.Reached.{Call, callClose, callFeed, callOpen, callReplace}
 
 -- the set of these tags: an entry of kind 1 for each, none of 256 bytes or more
 unfoldable pub asSet : List Word → List ℕ
@@ -74,27 +74,27 @@ abbrev pub startPlace : List ℕ
 startPlace = replicate 8 0
 
 -- three slots a machine are enough for "a", "aa"; a ticket's 127 bytes "a" give 253 records, each "a" of another's first bytes one more
-abbrev pub acts-254 : List Act
+abbrev pub acts-254 : List Call
 acts-254 =
-    actReplace (asSet one-two) (replicate 72 0)
-    ∷ actOpen
-    ∷ actFeed (serialOf 1) (replicate 127 97)
-    ∷ actOpen
-    ∷ actFeed (serialOf 2) (97 ∷ [])
-    ∷ actOpen
+    callReplace (asSet one-two) (replicate 72 0)
+    ∷ callOpen
+    ∷ callFeed (serialOf 1) (replicate 127 97)
+    ∷ callOpen
+    ∷ callFeed (serialOf 2) (97 ∷ [])
+    ∷ callOpen
     ∷ []
 
-abbrev pub acts-255 : List Act
-acts-255 = acts-254 ++ actOpen ∷ actFeed (serialOf 4) (97 ∷ []) ∷ []
+abbrev pub acts-255 : List Call
+acts-255 = acts-254 ++ callOpen ∷ callFeed (serialOf 4) (97 ∷ []) ∷ []
 
 -- ten slots a machine are enough for "he", "she", "his", "hers"
-abbrev pub acts-open : List Act
-acts-open = actReplace (asSet tags) (replicate 240 0) ∷ actOpen ∷ []
+abbrev pub acts-open : List Call
+acts-open = callReplace (asSet tags) (replicate 240 0) ∷ callOpen ∷ []
 
 -- an approval is half read, "ush" of "ushers", when the set is replaced: by itself, or by another
-abbrev pub acts-half : List Word → List Act
-acts-half next = acts-open ++ actFeed (serialOf 1) ush ∷ actReplace (asSet next) (replicate 240 0) ∷ []
+abbrev pub acts-half : List Word → List Call
+acts-half next = acts-open ++ callFeed (serialOf 1) ush ∷ callReplace (asSet next) (replicate 240 0) ∷ []
 
 -- a ticket closed, and another opened
-abbrev pub acts-closed : List Act
-acts-closed = acts-open ++ actClose (serialOf 1) ∷ actOpen ∷ []
+abbrev pub acts-closed : List Call
+acts-closed = acts-open ++ callClose (serialOf 1) ∷ callOpen ∷ []

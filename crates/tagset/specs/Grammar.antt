@@ -4,6 +4,7 @@ use mathlib.Core.Bool.{Bool, true, false, _||_, not}
 use mathlib.Core.List.{List, [], _∷_, _++_}
 use lib.Dec.{eqb, ltb}
 use lib.ListN.{length, getD, take, drop}
+use Rattle.matching.specs.Limits.{longestTag, mostTags}
 use Rattle.matching.specs.Words.{Word, among}
 use Rattle.tagset.specs.declared.SetFault.{SetFault}
 use Rattle.tagset.specs.declared.SetFault.the-variants.{Cut, Many, Kind, Length, Empty, Repeat}
@@ -21,7 +22,8 @@ pub data EntryOf : Type 0 where
   wholeTag : Word → EntryOf
   atFault : SetFault → EntryOf
 
--- entry k by its tests, in their order: no four bytes are left, k is 16, the kind isn't 1, the length is 0 or above 32, the payload is short
+-- entry k by its tests, in their order: no four bytes are left, k is the number of tags that a set may have, the kind isn't 1, the length is 0 or
+-- above that of the longest tag, the payload is short
 abbrev pub entryBy : ℕ → Word → Bool → Bool → Bool → Bool → Bool → EntryOf
 entryBy k payload true many kind long short = atFault (Cut k)
 entryBy k payload false true kind long short = atFault (Many k)
@@ -35,9 +37,9 @@ unfoldable pub entryOf : ℕ → List ℕ → EntryOf
 entryOf k bytes =
     entryBy k (take (lengthAt bytes) (drop 4 bytes))
     (ltb (length bytes) 4)
-    (eqb k 16)
+    (eqb k mostTags)
     (not (eqb (kindAt bytes) 1))
-    (eqb (lengthAt bytes) 0 || ltb 32 (lengthAt bytes))
+    (eqb (lengthAt bytes) 0 || ltb longestTag (lengthAt bytes))
     (ltb (length bytes) (4 + lengthAt bytes))
 
 -- a set is a list of tags, or it is at fault

@@ -5,9 +5,14 @@ ghost use mathlib.Core.List.{List, []};
 ghost use Prim.Native.Nat.{_+_, _*_, _-_, _<_, _≤_, min};
 ghost use lib.Dec.{eqb, ltb};
 ghost use lib.ListN.{length, getD, take, drop};
+ghost use Rattle.matching.specs.Limits.{longestTag};
 ghost use Rattle.matching.specs.Words.{Word, same, among};
 ghost use Rattle.tagset.specs.Grammar.{entryOf, entriesFrom, badSet, distinct, setOf};
 ghost use Rattle.tagset.specs.Answer.{placed, passedUp, setRead, verdictOf, cutAt};
+
+// The limits of a set: `mostTags` and `longestTag` in matching's specs/Limits.antt.
+const MOST_TAGS: usize = 16;
+const LONGEST_TAG: usize = 32;
 
 // Why a set is refused, with the entry at fault.
 pub enum SetFault {
@@ -58,12 +63,12 @@ fn number_at(set: &[u8], at: usize) -> usize
 }
 
 fn wrong_length(length: usize) -> bool
-    ensures { λ r. ⌜ r ≡ (eqb length 0 || ltb 32 length) ⌝ }
+    ensures { λ r. ⌜ r ≡ (eqb length 0 || ltb longestTag length) ⌝ }
 {
     if length == 0 {
         return true;
     }
-    32 < length
+    LONGEST_TAG < length
 }
 
 // Entry k, which begins at `at`: its checks in the rules' order.
@@ -75,7 +80,7 @@ fn read_entry(set: &[u8], k: usize, at: usize) -> Entry
     if left < 4 {
         return Entry::Faulty(SetFault::Cut(k));
     }
-    if k == 16 {
+    if k == MOST_TAGS {
         return Entry::Faulty(SetFault::Many(k));
     }
     if number_at(set, at + 2) != 1 {

@@ -19,7 +19,7 @@ use Rattle.desk.specs.State.{stateOf}
 use Rattle.desk.specs.declared.Desk.{Desk}
 use Rattle.desk.specs.declared.Edition.{Edition}
 use Rattle.desk.specs.declared.Feeding.{Feeding}
-use Rattle.history.specs.History.{Account, Act, AllBytes, World, accountAt, actOpen, actReplace, grown, noAccount, onSerial, run, start}
+use Rattle.history.specs.History.{Account, AllBytes, World, accountAt, grown, noAccount, onSerial, run, start}
 use Rattle.history.specs.Laws.Becomes.{run-append}
 use Rattle.history.specs.Laws.Feeding.{agrees}
 use Rattle.history.specs.Laws.Invariant.{Inv}
@@ -36,20 +36,21 @@ use Rattle.tagset.specs.Grammar.{goodSet, setOf}
 use Rattle.written.specs.Laws.Acts.{Comes, rest-comes-by, served-comes}
 use Rattle.written.specs.Occurrences.{Begun, accountOf, begun, writes-the-occurrences}
 use Rattle.desk.specs.Layout.{Lent, sizesOf}
+use Rattle.desk.specs.Reached.{Call, callOpen, callReplace}
 
 -- a history in which the one ticket is open and has taken these bytes, and no record is held
-pub record Ready (ts : List Word) (before : Word) (acts : List Act) : Type 0 where
-  pub bytes : AllBytes acts
-  pub accounts-are : run start acts .accounts ≡ accountOf ts before ∷ []
-  pub edition-is : run start acts .edition ≡ 1
-  pub empty : run start acts .desk .records .count ≡ 0
+pub record Ready (ts : List Word) (before : Word) (calls : List Call) : Type 0 where
+  pub bytes : AllBytes calls
+  pub accounts-are : run start calls .accounts ≡ accountOf ts before ∷ []
+  pub edition-is : run start calls .edition ≡ 1
+  pub empty : run start calls .desk .records .count ≡ 0
 
-module _ {ts : List Word} {before : Word} {acts : List Act} (ready : Ready ts before acts) where
+module _ {ts : List Word} {before : Word} {calls : List Call} (ready : Ready ts before calls) where
   abbrev w : World
-  w = run start acts
+  w = run start calls
 
   v : Inv w
-  v = sound acts (ready .bytes) .inv
+  v = sound calls (ready .bytes) .inv
 
   one : 0 < length (w .accounts)
   one = rw (ready .accounts-are) (omega arith)
@@ -74,17 +75,17 @@ module _ {ts : List Word} {before : Word} {acts : List Act} (ready : Ready ts be
 
   some-bytes : (c : ℕ) (piece : Word) → Below 256 (c ∷ piece) → length before + length (c ∷ piece) ≤ 4294967295 → 0 < restTaken (serialOf 1) (w .table) (w .desk) (c ∷ piece)
   some-bytes c piece below few =
-      progress acts (ready .bytes) (serialOf 1) (editionOf 1) (length before) ticket-open (ready .empty) c piece below (not-long (c ∷ piece) few)
+      progress calls (ready .bytes) (serialOf 1) (editionOf 1) (length before) ticket-open (ready .empty) c piece below (not-long (c ∷ piece) few)
 
   -- after a history that goes on from there
-  ready-on : {taken : Word} {e : Desk} {lines : List ℕ} (c : Comes w (serialOf 1) taken e lines) → Ready ts (before ++ taken) (acts ++ c .acts)
+  ready-on : {taken : Word} {e : Desk} {lines : List ℕ} (c : Comes w (serialOf 1) taken e lines) → Ready ts (before ++ taken) (calls ++ c .acts)
   unfolding onSerial
   ready-on {taken} c = record {
-    bytes = bytes-append acts (c .acts) (ready .bytes) (c .bytes);
-    accounts-are = ap (λ (x : World). x .accounts) (run-append start acts (c .acts)) ∙ c .accounts-are ∙ ap (λ (l : List Account). onSerial 1 (grown taken) l) (ready .accounts-are);
-    edition-is = ap (λ (x : World). x .edition) (run-append start acts (c .acts)) ∙ c .edition-is ∙ ready .edition-is;
+    bytes = bytes-append calls (c .acts) (ready .bytes) (c .bytes);
+    accounts-are = ap (λ (x : World). x .accounts) (run-append start calls (c .acts)) ∙ c .accounts-are ∙ ap (λ (l : List Account). onSerial 1 (grown taken) l) (ready .accounts-are);
+    edition-is = ap (λ (x : World). x .edition) (run-append start calls (c .acts)) ∙ c .edition-is ∙ ready .edition-is;
     empty =
-        ap (λ (x : World). x .desk .records .count) (run-append start acts (c .acts))
+        ap (λ (x : World). x .desk .records .count) (run-append start calls (c .acts))
         ∙ ap (λ (d : Desk). d .records .count) (c .desk-is)
         ∙ c .empty (v .reached) (ready .empty);
   }
@@ -93,38 +94,38 @@ parts-length : (before piece : Word) (t : ℕ) → t ≤ length piece → length
 parts-length before piece t h = omega (arith, length-append before (take t piece), length-take-le t piece h, length-drop t piece)
 
 -- a piece that isn't LONG is taken whole
-whole : {ts : List Word} {before : Word} (acts : List Act) {table : Lent} {d e : Desk} {piece : Word} {lines : List ℕ} {n : ℕ} → Ready ts before acts
-    → run start acts .desk ≡ d → run start acts .table ≡ table → Below 256 piece → length before + length piece ≤ 4294967295
+whole : {ts : List Word} {before : Word} (calls : List Call) {table : Lent} {d e : Desk} {piece : Word} {lines : List ℕ} {n : ℕ} → Ready ts before calls
+    → run start calls .desk ≡ d → run start calls .table ≡ table → Below 256 piece → length before + length piece ≤ 4294967295
     → Served (serialOf 1) table d piece e lines n → n ≡ length piece
-whole acts ready at lent below few all-taken = refl
-whole acts {table} {d} {piece = []} ready at lent below few (none-taken some none) = absurd (omega arith)
-whole acts {table} {d} {piece = c ∷ piece} ready at lent below few (none-taken some none) =
+whole calls ready at lent below few all-taken = refl
+whole calls {table} {d} {piece = []} ready at lent below few (none-taken some none) = absurd (omega arith)
+whole calls {table} {d} {piece = c ∷ piece} ready at lent below few (none-taken some none) =
     let taken : 0 < restTaken (serialOf 1) table d (c ∷ piece) = rw (← at, ← lent) (some-bytes ready c piece below few) in
     absurd (omega (arith, taken, none))
-whole {before = before} acts {table} {d} {piece = piece} ready at lent below few (some-taken some more) =
+whole {before = before} calls {table} {d} {piece = piece} ready at lent below few (some-taken some more) =
     let s = serialOf 1 in
     let t = restTaken s table d piece in
-    let c = rest-comes-by (run start acts) s table d piece at lent below in
+    let c = rest-comes-by (run start calls) s table d piece at lent below in
     let part = fed-at-most d s table piece in
-    let same = run-append start acts (c .acts) in
+    let same = run-append start calls (c .acts) in
     let left : length (before ++ take t piece) + length (drop t piece) ≤ 4294967295 = omega (arith, parts-length before piece t part, few) in
-    let rest = whole (acts ++ c .acts) (ready-on ready c) (ap (λ (x : World). x .desk) same ∙ c .desk-is) (ap (λ (x : World). x .table) same ∙ c .table-is ∙ lent) (below-rest t piece below) left more in
+    let rest = whole (calls ++ c .acts) (ready-on ready c) (ap (λ (x : World). x .desk) same ∙ c .desk-is) (ap (λ (x : World). x .table) same ∙ c .table-is ∙ lent) (below-rest t piece below) left more in
     omega (arith, rest, part, length-drop t piece)
 
-whole-input : {ts : List Word} {before : Word} (acts : List Act) {table : Lent} {d e : Desk} {pieces : List Word} {lines : List ℕ} {bytes : Word} → Ready ts before acts
-    → run start acts .desk ≡ d → run start acts .table ≡ table → AllBelow 256 pieces → length before + length (joined pieces) ≤ 4294967295
+whole-input : {ts : List Word} {before : Word} (calls : List Call) {table : Lent} {d e : Desk} {pieces : List Word} {lines : List ℕ} {bytes : Word} → Ready ts before calls
+    → run start calls .desk ≡ d → run start calls .table ≡ table → AllBelow 256 pieces → length before + length (joined pieces) ≤ 4294967295
     → ServedAll (serialOf 1) table d pieces e lines bytes → bytes ≡ joined pieces
 unfolding joined
-whole-input acts ready at lent below few no-piece = refl
-whole-input {before = before} acts ready at lent below few (one-piece {piece = piece} {pieces = pieces} {n = n} {bytes = bytes} served more) =
+whole-input calls ready at lent below few no-piece = refl
+whole-input {before = before} calls ready at lent below few (one-piece {piece = piece} {pieces = pieces} {n = n} {bytes = bytes} served more) =
     let sizes = length-append piece (joined pieces) in
-    let taken : n ≡ length piece = whole acts ready at lent (below .0) (omega (arith, few, sizes)) served in
-    let c = served-comes (run start acts) (serialOf 1) at lent (below .0) served in
+    let taken : n ≡ length piece = whole calls ready at lent (below .0) (omega (arith, few, sizes)) served in
+    let c = served-comes (run start calls) (serialOf 1) at lent (below .0) served in
     let all : take n piece ≡ piece = take-all n piece (omega (arith, taken)) in
-    let same = run-append start acts (c .acts) in
+    let same = run-append start calls (c .acts) in
     let left : length (before ++ take n piece) + length (joined pieces) ≤ 4294967295 = omega (arith, few, sizes, length-append before (take n piece), ap (λ (x : Word). length x) all) in
     let rest : bytes ≡ joined pieces =
-    whole-input (acts ++ c .acts) (ready-on ready c) (ap (λ (x : World). x .desk) same ∙ c .desk-is) (ap (λ (x : World). x .table) same ∙ c .table-is ∙ lent) (below .1) left more in
+    whole-input (calls ++ c .acts) (ready-on ready c) (ap (λ (x : World). x .desk) same ∙ c .desk-is) (ap (λ (x : World). x .table) same ∙ c .table-is ∙ lent) (below .1) left more in
     ap (λ (x : Word). x ++ bytes) all ∙ ap (λ (x : Word). piece ++ x) rest
 
 -- so bench writes the occurrences in the whole input
@@ -139,11 +140,11 @@ whole-input-written set lent ts edition count pieces e lines bytes below tags ac
       ∙ ap (λ (x : Word). linesOf (recordsOf (serialOf 1) (editionOf 1) (occurrences ts x))) taken,
 )
   where
-    b : Begun ts (run start (actReplace set lent ∷ actOpen ∷ [])) (openOf (replaceOf newDesk set (sizesOf lent) .desk) .desk) (replacedRun newDesk set lent)
+    b : Begun ts (run start (callReplace set lent ∷ callOpen ∷ [])) (openOf (replaceOf newDesk set (sizesOf lent) .desk) .desk) (replacedRun newDesk set lent)
     b = begun set lent ts edition count tags accepted
 
-    ready : Ready ts [] (actReplace set lent ∷ actOpen ∷ [])
+    ready : Ready ts [] (callReplace set lent ∷ callOpen ∷ [])
     ready = record { bytes = (below, (tt, tt)); accounts-are = b .accounts-are; edition-is = b .edition-is; empty = b .empty }
 
     taken : bytes ≡ joined pieces
-    taken = whole-input (actReplace set lent ∷ actOpen ∷ []) ready (b .desk-is) (b .table-is) small (omega (arith, few)) served
+    taken = whole-input (callReplace set lent ∷ callOpen ∷ []) ready (b .desk-is) (b .table-is) small (omega (arith, few)) served

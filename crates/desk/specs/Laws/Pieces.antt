@@ -16,6 +16,7 @@ use Rattle.desk.specs.declared.Feeding.{Feeding}
 use Rattle.desk.specs.declared.Serial.{Serial}
 use Rattle.desk.specs.declared.TakingMany.{TakingMany}
 use Rattle.matching.specs.Words.{Word}
+use Rattle.desk.specs.Limits.{mostRecords}
 
 pub fed-at-most : (d : Desk) (s : Serial) (table : Lent) (piece : Word) → takenBy (feedOf d s table piece .answer) ≤ length piece
 fed-at-most d s table piece = go (roomOf (d .tickets) s) _ (feeds d s table piece)
@@ -29,6 +30,6 @@ fed-at-most d s table piece = go (roomOf (d .tickets) s) _ (feeds d s table piec
     go i r (feed-read a b e f) = desk-kept (d .slots) table (ticketIn (d .tickets) i .place) (ticketIn (d .tickets) i .taken) _ piece .part
 
 -- a list of 1,024 numbers has room for 256 records
-pub at-most-held : (d : Desk) (t : TakingMany) (list : List ℕ) → 1024 ≡ length list → t ≡ takeManyOf d (length list) → t .count ≤ 256
+pub at-most-held : (d : Desk) (t : TakingMany) (list : List ℕ) → 1024 ≡ length list → t ≡ takeManyOf d (length list) → t .count ≤ mostRecords
 unfolding takeManyOf
-at-most-held d t list h e = rw (e, ← h) (min-le-right (d .records .count) 256)
+at-most-held d t list h e = rw (e, ← h) (min-le-right (d .records .count) mostRecords)

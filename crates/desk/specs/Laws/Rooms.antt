@@ -17,6 +17,7 @@ use Rattle.desk.specs.declared.Ticket.{Ticket}
 use Rattle.matching.specs.Laws.Bools.{and-both, and-l, and-r, is-false, is-true, not-both}
 use Rattle.matching.specs.Laws.Vectors.{one-lt}
 use Rattle.matching.specs.Laws.Words.{eqb-eq}
+use Rattle.desk.specs.Limits.{mostTickets}
 
 module _ (g : Ticket → Bool) where
   -- a loop that looks from the front has come to room i
@@ -172,7 +173,7 @@ full-iff (t ∷ rooms) = go (isFree t) (full-iff rooms)
     go true f = (λ e. absurd (omega arith), λ e. absurd (omega (arith, held-le rooms)))
 
 -- of 16 rooms none is free exactly if 16 tickets are open or stale
-pub all-held-iff : (rooms : List Ticket) → length rooms ≡ 16 → (16 ≤ freeRoom rooms) ↔ (ticketsHeld rooms ≡ 16)
+pub all-held-iff : (rooms : List Ticket) → length rooms ≡ mostTickets → (mostTickets ≤ freeRoom rooms) ↔ (ticketsHeld rooms ≡ mostTickets)
 all-held-iff rooms wide = (
   λ h. let e : freeRoom rooms ≡ length rooms = omega (arith, firstRoom-le isFree rooms) in full-iff rooms .0 e ∙ wide,
   λ e. omega (arith, full-iff rooms .1 (e ∙ sym wide)),

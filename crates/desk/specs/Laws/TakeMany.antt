@@ -14,13 +14,14 @@ use Rattle.desk.specs.TakeMany.{manyOf, oldest, takeManyOf, without}
 use Rattle.desk.specs.declared.Desk.{Desk}
 use Rattle.desk.specs.declared.Record.{Record}
 use Rattle.desk.specs.declared.Taking.{Taking}
+use Rattle.desk.specs.Limits.{mostRecords}
 
 -- a taking from a list that isn't empty
 take-one : (d : Desk) → 0 < d .records .count
-    → takeOf d ≡ record { desk = withRecords d (popped (d .records)); answer = K.Taken (getD (d .records .ring) (d .records .first % 256) noRecord) }
+    → takeOf d ≡ record { desk = withRecords d (popped (d .records)); answer = K.Taken (getD (d .records .ring) (d .records .first % mostRecords) noRecord) }
 take-one d h = go _ (takes d)
   where
-    go : (r : Taking) → Takes d r → r ≡ record { desk = withRecords d (popped (d .records)); answer = K.Taken (getD (d .records .ring) (d .records .first % 256) noRecord) }
+    go : (r : Taking) → Takes d r → r ≡ record { desk = withRecords d (popped (d .records)); answer = K.Taken (getD (d .records .ring) (d .records .first % mostRecords) noRecord) }
     go r (take-nothing e) = absurd (omega (arith, e, h))
     go r (take-oldest p) = refl
 

@@ -28,6 +28,7 @@ use Rattle.desk.specs.declared.Ticket.{Ticket}
 use Rattle.gate.specs.Bits.{Apart}
 use Rattle.matching.specs.Laws.Bools.{not-both}
 use Rattle.matching.specs.Words.{Word}
+use Rattle.desk.specs.Layout.{Kind, Order, Sizes, sizesOf}
 
 -- no room is held under a serial that was not given yet, and no two under one
 record Told (d : Desk) : Type 0 where
@@ -65,8 +66,8 @@ none zero i = refl
 none (suc n) zero = refl
 none (suc n) (suc i) = none n i
 
-told-new : Told newDesk
-told-new = record { given = λ i h. absurd (not-both h (none 16 i)); apart = λ i j h k e. absurd (not-both h (none 16 i)) }
+told-new : (kind : Kind) → Told (newDesk kind)
+told-new kind = record { given = λ i h. absurd (not-both h (none 16 i)); apart = λ i j h k e. absurd (not-both h (none 16 i)) }
 
 module _ (d : Desk) (wide : length (d .tickets) ≡ 16) (k : Told d) where
   told-opens : (r : Opening) → Opens d r → Told (r .desk)
@@ -93,11 +94,11 @@ module _ (d : Desk) (wide : length (d .tickets) ≡ 16) (k : Told d) where
   told-takes r (take-nothing e) = k
   told-takes r (take-oldest h) = record { given = k .given; apart = k .apart }
 
-  told-replaces : (bytes : List ℕ) (len : ℕ) (r : Replacing) → Replaces d bytes len r → Told (r .desk)
-  told-replaces bytes len r (replace-fault fault e) = k
-  told-replaces bytes len r (replace-table machine needs e) = k
-  told-replaces bytes len r (replace-edition-end count e l) = k
-  told-replaces bytes len r (replace-done count e l) = record { given = k .given; apart = k .apart }
+  told-replaces : (order : Order) (len : Sizes) (r : Replacing) → Replaces d order len r → Told (r .desk)
+  told-replaces order len r (replace-fault fault e) = k
+  told-replaces order len r (replace-table machine needs e) = k
+  told-replaces order len r (replace-edition-end count e l) = k
+  told-replaces order len r (replace-done count e l) = record { given = k .given; apart = k .apart }
 
   told-feeds : (i : ℕ) (table : List ℕ) (piece : Word) (r : Feeding) → (i < 16 → isHeld (ticketIn (d .tickets) i) ≡ true) → Feeds d i table piece r → Told (r .desk)
   told-feeds i table piece r f (feed-no-ticket a) = k
@@ -114,8 +115,8 @@ module _ (d : Desk) (wide : length (d .tickets) ≡ 16) (k : Told d) where
       }
 
 told : {d : Desk} → Reached d → Told d
-told fromNew = told-new
-told (byCall {d = d} r (callReplace set run)) = told-replaces d (good r .rooms) (told r) set (length run) _ (replaces d set (length run))
+told (fromNew kind) = told-new kind
+told (byCall {d = d} r (callReplace order run)) = told-replaces d (good r .rooms) (told r) order (sizesOf run) _ (replaces d order (sizesOf run))
 told (byCall {d = d} r callOpen) = told-opens d (good r .rooms) (told r) _ (opens d)
 told (byCall {d = d} r (callFeed s table piece)) =
     told-feeds d (good r .rooms) (told r) (roomOf (d .tickets) s) table piece _

@@ -1,8 +1,8 @@
 -- The laws of accounts, and of the records of a serial.
 use Prim.Native.Nat.{_<_, suc, zero, ℕ}
 use mathlib.Core.Bool.{Bool, cond, false, true}
-use mathlib.Core.List.{List, [], _++_, _∷_}
-use mathlib.Core.Path.{_∙_, _≡_, ap, refl}
+use mathlib.Core.List.{[], _++_, _∷_, append-assoc, append-nil, List}
+use mathlib.Core.Path.{_∙_, _≡_, ap, ap₂, refl}
 use native.Mathlib.Omega.{arith}
 use lib.Dec.{eqb, eqb-refl}
 use lib.ListN.{getD, length}
@@ -10,10 +10,11 @@ use Rattle.desk.specs.Shared.{recordOf, recordsOf}
 use Rattle.desk.specs.declared.Edition.{Edition}
 use Rattle.desk.specs.declared.Record.{Record}
 use Rattle.desk.specs.declared.Serial.{Serial}
-use Rattle.history.specs.History.{Account, noAccount, onSerial, recordsFor}
+use Rattle.history.specs.History.{Account, grown, noAccount, onSerial, recordsFor, withBytes}
 use Rattle.matching.specs.Laws.Bools.{is-false, is-true}
 use Rattle.matching.specs.Laws.Words.{eqb-eq}
 use Rattle.matching.specs.Occurrence.{Occurrence}
+use Rattle.matching.specs.Words.{Word}
 
 -- ---- the account of a serial changed
 
@@ -66,3 +67,30 @@ recordsFor-other n s e (o ∷ os) h = rw (is-false (eqb (s .0) n) (λ q. h (eqb-
 pub recordsOf-append : (s : Serial) (e : Edition) (a b : List Occurrence) → recordsOf s e (a ++ b) ≡ recordsOf s e a ++ recordsOf s e b
 recordsOf-append s e [] b = refl
 recordsOf-append s e (o ∷ a) b = ap {B = List Record} (λ (l : List Record). recordOf s e o ∷ l) (recordsOf-append s e a b)
+
+-- ---- an account with no more bytes, and with more twice
+
+pub grown-nothing : (a : Account) → grown [] a ≡ a
+grown-nothing a = ap {B = Account} (withBytes a) (append-nil (a .bytes))
+
+pub grown-more : (a : Account) (x y : Word) → grown y (grown x a) ≡ grown (x ++ y) a
+grown-more a x y = ap {B = Account} (withBytes a) (append-assoc (a .bytes) x y)
+
+pub grown-none : (n : ℕ) (l : List Account) → onSerial n (grown []) l ≡ l
+unfolding onSerial
+grown-none n [] = refl
+grown-none n (a ∷ l) = go (eqb (a .serial) n) (grown-none n l)
+  where
+    go : (t : Bool) → onSerial n (grown []) l ≡ l → (cond t (grown [] a) a ∷ onSerial n (grown []) l) ≡ (a ∷ l)
+    go true ih = ap₂ (λ (b : Account) (k : List Account). b ∷ k) (grown-nothing a) ih
+    go false ih = ap (λ (k : List Account). a ∷ k) ih
+
+pub grown-twice : (n : ℕ) (x y : Word) (l : List Account) → onSerial n (grown y) (onSerial n (grown x) l) ≡ onSerial n (grown (x ++ y)) l
+unfolding onSerial
+grown-twice n x y [] = refl
+grown-twice n x y (a ∷ l) = go (eqb (a .serial) n) refl (grown-twice n x y l)
+  where
+    go : (t : Bool) → eqb (a .serial) n ≡ t → onSerial n (grown y) (onSerial n (grown x) l) ≡ onSerial n (grown (x ++ y)) l
+        → onSerial n (grown y) (onSerial n (grown x) (a ∷ l)) ≡ onSerial n (grown (x ++ y)) (a ∷ l)
+    go true e ih = rw (e, e) (ap₂ (λ (b : Account) (k : List Account). b ∷ k) (grown-more a x y) ih)
+    go false e ih = rw (e, e) (ap (λ (k : List Account). a ∷ k) ih)

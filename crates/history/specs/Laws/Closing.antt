@@ -9,17 +9,18 @@ use native.Mathlib.Omega.{arith}
 use lib.ListN.{length, set}
 use Rattle.desk.specs.Calls.{withTicket}
 use Rattle.desk.specs.Laws.Views.{Closes, close-done, close-no-ticket, closes}
-use Rattle.desk.specs.Reached.{Reached, byCall, callClose}
+use Rattle.desk.specs.Reached.{byCall, callClose, Reached}
 use Rattle.desk.specs.Rooms.{freeTicket, isFor, roomOf, serialOf, ticketIn}
 use Rattle.desk.specs.declared.Closing.{Closing}
 use Rattle.desk.specs.declared.Serial.{Serial}
 use Rattle.desk.specs.declared.Ticket.{Ticket}
-use Rattle.history.specs.History.{Account, World, accountAt, actClose, closing, onSerial, recordsDue, recordsFor, shut, step, stream, withAccounts}
+use Rattle.history.specs.History.{Account, World, accountAt, closing, onSerial, recordsDue, recordsFor, shut, step, stream, withAccounts}
 use Rattle.history.specs.Laws.Accounts.{onSerial-length}
 use Rattle.history.specs.Laws.Invariant.{Inv, Kept, Stranger, changed-each, given, wide}
 use Rattle.history.specs.Laws.Seats.{Seat, for-other, no-seat, room-for, room-kept, seat-gone, seat-kept, unique-set}
+use Rattle.desk.specs.Limits.{mostTickets}
 
-module _ (w : World) (v : Inv w) (s : Serial) (i : ℕ) (ei : i ≡ roomOf (w .desk .tickets) s) (hi : i < 16) (p : Reached (withTicket (w .desk) i freeTicket))
+module _ {Left : Type 0} (w : World) (v : Inv Left w) (s : Serial) (i : ℕ) (ei : i ≡ roomOf (w .desk .tickets) s) (hi : i < mostTickets) (p : Reached (withTicket (w .desk) i freeTicket))
     (k : ℕ) (hk : k < length (w .accounts)) (ek : s .0 ≡ suc k) where
   abbrev rooms : List Ticket
   rooms = w .desk .tickets
@@ -41,10 +42,10 @@ module _ (w : World) (v : Inv w) (s : Serial) (i : ℕ) (ei : i ≡ roomOf (w .d
   apart : (j : ℕ) → j < length (w .accounts) → (j ≡ k → ⊥) → isFor (serialOf (accountAt w j .serial)) (ticketIn rooms i) ≡ false
   apart j h n = for-other s (serialOf (accountAt w j .serial)) (ticketIn rooms i) mine (λ e. n (omega (arith, e, ek, v .numbered j h)))
 
-  gone : Seat (set rooms i freeTicket) (shut (accountAt w k))
+  gone : Seat Left (set rooms i freeTicket) (shut (accountAt w k))
   gone =
       no-seat refl
-      (subst (λ (n : Serial). 16 ≤ roomOf (set rooms i freeTicket) n) (λ d. record { 0 = (ek ∙ sym (v .numbered k hk)) d }) (seat-gone rooms (wide w v) s i (v .unique) ei hi))
+      (subst (λ (n : Serial). mostTickets ≤ roomOf (set rooms i freeTicket) n) (λ d. record { 0 = (ek ∙ sym (v .numbered k hk)) d }) (seat-gone rooms (wide w v) s i (v .unique) ei hi))
 
   stranger : (n : Serial) → Stranger (length (after .accounts)) (n .0) → isFor n (ticketIn rooms i) ≡ false
   stranger n h = for-other s n (ticketIn rooms i) mine (λ e. no h e)
@@ -53,7 +54,7 @@ module _ (w : World) (v : Inv w) (s : Serial) (i : ℕ) (ei : i ≡ roomOf (w .d
       no (inl z) e = omega (arith, z, e, ek)
       no (inr z) e = omega (arith, z, e, ek, hk, count)
 
-  pub inv-closed : Inv after
+  pub inv-closed : Inv Left after
   inv-closed = record {
     reached = p;
     serials = count ∙ v .serials;
@@ -61,19 +62,19 @@ module _ (w : World) (v : Inv w) (s : Serial) (i : ℕ) (ei : i ≡ roomOf (w .d
     edition = v .edition;
     force = v .force;
     kept = each (λ j a. Kept (w .edition) (w .tags) a) (λ j h n. v .kept j h) (same-kept (v .kept k hk));
-    seats = each (λ j a. Seat (set rooms i freeTicket) a) (λ j h n. seat-kept rooms (wide w v) i freeTicket hi (accountAt w j) (apart j h n) refl (v .seats j h)) gone;
+    seats = each (λ j a. Seat Left (set rooms i freeTicket) a) (λ j h n. seat-kept rooms (wide w v) i freeTicket hi (accountAt w j) (apart j h n) refl (v .seats j h)) gone;
     strangers = λ n h. le-trans (v .strangers n (subst (λ (c : ℕ). Stranger c (n .0)) count h)) (le-of-eq (sym (room-kept rooms (wide w v) i freeTicket hi n (stranger n h) refl)));
     unique = unique-set rooms (wide w v) i freeTicket hi (v .unique) (λ n j a b c. false≢true c);
-    records = each (λ j a. recordsFor (suc j) (stream w) ≡ recordsDue a) (λ j h n. v .records j h) (v .records k hk);
+    records = λ l. each (λ j a. recordsFor (suc j) (stream w) ≡ recordsDue a) (λ j h n. v .records l j h) (v .records l k hk);
     nobody = λ n h. v .nobody n (subst (λ (c : ℕ). Stranger c n) count h);
   }
     where
       same-kept : Kept (w .edition) (w .tags) (accountAt w k) → Kept (w .edition) (w .tags) (shut (accountAt w k))
       same-kept a = record { from = a .from; upto = a .upto; current = a .current; lawful = a .lawful; bytes = a .bytes; small = a .small }
 
-pub inv-closes : (w : World) (s : Serial) → Inv w → Inv (step w (actClose s))
-inv-closes w s v = go _ (closes (w .desk) s) (byCall (v .reached) (callClose s))
+pub inv-closes : {Left : Type 0} (w : World) (s : Serial) → Inv Left w → Inv Left (step w (callClose s))
+inv-closes {Left} w s v = go _ (closes (w .desk) s) (byCall (v .reached) (callClose s))
   where
-    go : (r : Closing) → Closes (w .desk) s r → Reached (r .desk) → Inv (closing w s (r .desk) (r .answer))
+    go : (r : Closing) → Closes (w .desk) s r → Reached (r .desk) → Inv Left (closing w s (r .desk) (r .answer))
     go r (close-no-ticket h) p = v
     go r (close-done i e h) p = let g = given w v s (omega (arith, e)) in inv-closed w v s i e h p (g .0) (g .1) (g .2)

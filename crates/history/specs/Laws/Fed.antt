@@ -25,10 +25,14 @@ use Rattle.history.specs.Laws.Feeding.{agrees, live, mine, read-done}
 use Rattle.history.specs.Laws.Invariant.{Inv, Kept, Stranger, changed-each, wide}
 use Rattle.history.specs.Laws.Seats.{Agrees, Seat, for-other, seat-kept, seat-same, seated, unique-set}
 use Rattle.matching.specs.Laws.Occurrences.{occurrencesBy-append}
-use Rattle.matching.specs.Occurrence.{Occurrence, occurrences, occurrencesFrom, tagsEnding}
+use Rattle.matching.specs.Occurrence.{Occurrence}
 use Rattle.matching.specs.Reading.{Outcome}
 use Rattle.matching.specs.Words.{Below, Word}
-use Rattle.desk.specs.Laws.Layout.{DeskDone}
+use Rattle.desk.specs.Laws.Layout.{desk-kept, DeskDone, DeskKept}
+use Rattle.matching.specs.Tags.{foundFrom, foundIn, tagsAt}
+use Rattle.desk.specs.Layout.{Lent}
+use Rattle.desk.specs.Limits.{mostRecords, mostTickets}
+use Rattle.matching.specs.Limits.{largest}
 
 pub below-append : (m : ℕ) (x y : Word) → Below m x → Below m y → Below m (x ++ y)
 below-append m [] y hx hy = hy
@@ -40,14 +44,26 @@ below-take m (suc n) [] h = tt
 below-take m (suc n) (c ∷ x) h = (h .0, below-take m n x (h .1))
 
 -- more records behind a stream
-stream-grown : (d : Desk) (out rs : List Record) → GoodDesk d → d .records .count + length rs ≤ 256
+stream-grown : (d : Desk) (out rs : List Record) → GoodDesk d → d .records .count + length rs ≤ mostRecords
     → out ++ held (pushAll (d .records) rs) ≡ (out ++ held (d .records)) ++ rs
 stream-grown d out rs g h =
     ap {B = List Record} (λ (l : List Record). out ++ l) (held-pushAll (d .records) rs (g .ring) h) ∙ sym (append-assoc out (held (d .records)) rs)
 
-module _ (w : World) (v : Inv w) (s : Serial) (k : ℕ) (hk : k < length (w .accounts)) (ek : s .0 ≡ suc k) (piece : Word) (b : Below 256 piece)
-    (hi : roomOf (w .desk .tickets) s < 16) (same : ticketIn (w .desk .tickets) (roomOf (w .desk .tickets) s) .edition .0 ≡ w .desk .edition .0)
-    (short : ticketIn (w .desk .tickets) (roomOf (w .desk .tickets) s) .taken + length piece ≤ 4294967295) where
+-- a reading for a serial that has a room, over any table: its records come behind all others
+pub stream-fed : (d : Desk) (out : List Record) (s : Serial) (table : Lent) (piece : Word) → Reached d → roomOf (d .tickets) s < mostTickets
+    → out ++ held (fedBy d (roomOf (d .tickets) s) (ticketIn (d .tickets) (roomOf (d .tickets) s)) (readFor d (ticketIn (d .tickets) (roomOf (d .tickets) s)) table piece) .desk .records)
+    ≡ (out ++ held (d .records)) ++ recordsOf (ticketIn (d .tickets) (roomOf (d .tickets) s) .serial) (ticketIn (d .tickets) (roomOf (d .tickets) s) .edition)
+    (readFor d (ticketIn (d .tickets) (roomOf (d .tickets) s)) table piece .found)
+stream-fed d out s table piece reached hi =
+    let t = ticketIn (d .tickets) (roomOf (d .tickets) s) in
+    let r = readFor d t table piece in
+    let any = desk-kept (d .slots) table (t .place) (t .taken) (mostRecords - d .records .count) piece in
+    stream-grown d out (recordsOf (t .serial) (t .edition) (r .found)) (good reached)
+    (omega (arith, any .fits, recordsOf-length (t .serial) (t .edition) (r .found), good reached .count))
+
+module _ {Left : Type 0} (w : World) (v : Inv Left w) (s : Serial) (k : ℕ) (hk : k < length (w .accounts)) (ek : s .0 ≡ suc k) (table : Lent) (lent : Left → table ≡ w .table) (piece : Word) (b : Below 256 piece)
+    (hi : roomOf (w .desk .tickets) s < mostTickets) (same : ticketIn (w .desk .tickets) (roomOf (w .desk .tickets) s) .edition .0 ≡ w .desk .edition .0)
+    (short : ticketIn (w .desk .tickets) (roomOf (w .desk .tickets) s) .taken + length piece ≤ largest) where
   abbrev rooms : List Ticket
   rooms = w .desk .tickets
 
@@ -61,7 +77,7 @@ module _ (w : World) (v : Inv w) (s : Serial) (k : ℕ) (hk : k < length (w .acc
   a = accountAt w k
 
   abbrev r : Outcome
-  r = readFor (w .desk) t (w .table) piece
+  r = readFor (w .desk) t table piece
 
   abbrev more : Word
   more = take (r .taken) piece
@@ -72,10 +88,13 @@ module _ (w : World) (v : Inv w) (s : Serial) (k : ℕ) (hk : k < length (w .acc
   abbrev after : World
   after = withAccounts w (fedBy (w .desk) i t r .desk) (onSerial (s .0) (grown more) (w .accounts))
 
-  done : DeskDone (a .tags) (a .bytes) (length (a .bytes)) (256 - w .desk .records .count) piece r
-  done = read-done w v s k hk ek hi same piece b
+  any : DeskKept (w .desk .slots) table (t .place) (t .taken) (mostRecords - w .desk .records .count) piece r
+  any = desk-kept (w .desk .slots) table (t .place) (t .taken) (mostRecords - w .desk .records .count) piece
 
-  fit : Agrees t a
+  done : Left → DeskDone (a .tags) (a .bytes) (length (a .bytes)) (mostRecords - w .desk .records .count) piece r
+  done l = read-done w v s k hk ek hi same l table (lent l) piece b
+
+  fit : Agrees Left t a
   fit = agrees w v s k hk ek hi
 
   for-s : isFor s t ≡ true
@@ -88,41 +107,39 @@ module _ (w : World) (v : Inv w) (s : Serial) (k : ℕ) (hk : k < length (w .acc
   labels : rs ≡ recordsOf (serialOf (suc k)) (editionOf (a .edition)) (r .found)
   labels = λ d. recordsOf (record { 0 = (for-held s t for-s .1 ∙ ek) d }) (record { 0 = fit .edition d }) (r .found)
 
-  pub stream-fed : stream after ≡ stream w ++ rs
-  stream-fed =
-      stream-grown (w .desk) (w .out) rs (good (v .reached))
-      (omega (arith, done .fits, recordsOf-length (t .serial) (t .edition) (r .found), good (v .reached) .count))
+  fed : stream after ≡ stream w ++ rs
+  fed = stream-fed (w .desk) (w .out) s table piece (v .reached) hi
 
   -- the account's own records are the occurrences in its bytes and the new ones
-  here : recordsFor (suc k) (stream after) ≡ recordsDue (grown more a)
-  here =
-      ap (recordsFor (suc k)) (stream-fed ∙ ap {B = List Record} (λ (l : List Record). stream w ++ l) labels)
+  here : Left → recordsFor (suc k) (stream after) ≡ recordsDue (grown more a)
+  here l =
+      ap (recordsFor (suc k)) (fed ∙ ap {B = List Record} (λ (l : List Record). stream w ++ l) labels)
       ∙ recordsFor-append (suc k) (stream w) (recordsOf (serialOf (suc k)) (editionOf (a .edition)) (r .found))
-      ∙ ap₂ _++_ (v .records k hk) (recordsFor-own (serialOf (suc k)) (editionOf (a .edition)) (r .found))
-      ∙ ap₂ (λ (n : ℕ) (l : List Occurrence). recordsDue a ++ recordsOf (serialOf n) (editionOf (a .edition)) l) (sym (v .numbered k hk)) (done .found)
-      ∙ sym (recordsOf-append (serialOf (a .serial)) (editionOf (a .edition)) (occurrences (a .tags) (a .bytes)) (occurrencesFrom (a .tags) (a .bytes) (length (a .bytes)) more))
+      ∙ ap₂ _++_ (v .records l k hk) (recordsFor-own (serialOf (suc k)) (editionOf (a .edition)) (r .found))
+      ∙ ap₂ (λ (n : ℕ) (l : List Occurrence). recordsDue a ++ recordsOf (serialOf n) (editionOf (a .edition)) l) (sym (v .numbered k hk)) (done l .found)
+      ∙ sym (recordsOf-append (serialOf (a .serial)) (editionOf (a .edition)) (foundIn (a .tags) (a .bytes)) (foundFrom (a .tags) (a .bytes) (length (a .bytes)) more))
       ∙ ap (recordsOf (serialOf (a .serial)) (editionOf (a .edition)))
-      (sym (occurrencesBy-append (tagsEnding (a .tags)) [] 0 (a .bytes) more
-      ∙ ap {B = List Occurrence} (λ (n : ℕ). occurrences (a .tags) (a .bytes) ++ occurrencesFrom (a .tags) (a .bytes) n more) (zero-add (length (a .bytes)))))
+      (sym (occurrencesBy-append (tagsAt (a .tags)) [] 0 (a .bytes) more
+      ∙ ap {B = List Occurrence} (λ (n : ℕ). foundIn (a .tags) (a .bytes) ++ foundFrom (a .tags) (a .bytes) n more) (zero-add (length (a .bytes)))))
 
   -- another serial's are the same
   elsewhere : (n : ℕ) → (n ≡ suc k → ⊥) → recordsFor n (stream after) ≡ recordsFor n (stream w)
   elsewhere n ne =
-      ap (recordsFor n) stream-fed ∙ recordsFor-append n (stream w) rs
+      ap (recordsFor n) fed ∙ recordsFor-append n (stream w) rs
       ∙ ap {B = List Record} (λ (l : List Record). recordsFor n (stream w) ++ l) (recordsFor-other n (t .serial) (t .edition) (r .found) (λ e. ne (sym e ∙ for-held s t for-s .1 ∙ ek)))
       ∙ append-nil (recordsFor n (stream w))
 
-  seat : Seat (set rooms i (readOn t r)) (grown more a)
+  seat : Seat Left (set rooms i (readOn t r)) (grown more a)
   seat =
       let q = seat-same rooms (wide w v) i (readOn t r) hi s refl read-for in
-      subst (λ (n : ℕ). Seat (set rooms i (readOn t r)) (record { serial = n; edition = a .edition; tags = a .tags; bytes = a .bytes ++ more; closed = a .closed }))
+      subst (λ (n : ℕ). Seat Left (set rooms i (readOn t r)) (record { serial = n; edition = a .edition; tags = a .tags; bytes = a .bytes ++ more; closed = a .closed }))
       (ek ∙ sym (v .numbered k hk))
       (seated (live w v s k hk ek hi) (omega (arith, q .0))
-      (subst (λ (x : Ticket). Agrees x (record { serial = s .0; edition = a .edition; tags = a .tags; bytes = a .bytes ++ more; closed = a .closed })) (sym (q .1))
+      (subst (λ (x : Ticket). Agrees Left x (record { serial = s .0; edition = a .edition; tags = a .tags; bytes = a .bytes ++ more; closed = a .closed })) (sym (q .1))
       (record {
         edition = fit .edition;
-        taken = ap (λ (n : ℕ). n + r .taken) (fit .taken) ∙ sym (length-append (a .bytes) more ∙ ap (λ (n : ℕ). length (a .bytes) + n) (length-take-le (r .taken) piece (done .part)));
-        place = done .place;
+        taken = ap (λ (n : ℕ). n + r .taken) (fit .taken) ∙ sym (length-append (a .bytes) more ∙ ap (λ (n : ℕ). length (a .bytes) + n) (length-take-le (r .taken) piece (any .part)));
+        place = λ l. done l .place;
       })))
 
   apart : (j : ℕ) → j < length (w .accounts) → (j ≡ k → ⊥) → s .0 ≡ accountAt w j .serial → ⊥
@@ -148,10 +165,10 @@ module _ (w : World) (v : Inv w) (s : Serial) (k : ℕ) (hk : k < length (w .acc
         current = q .current;
         lawful = q .lawful;
         bytes = below-append 256 (a .bytes) more (q .bytes) (below-take 256 (r .taken) piece b);
-        small = omega (arith, length-append (a .bytes) more, length-take-le (r .taken) piece (done .part), done .part, fit .taken, short);
+        small = omega (arith, length-append (a .bytes) more, length-take-le (r .taken) piece (any .part), any .part, fit .taken, short);
       }
 
-  pub inv-read : Reached (after .desk) → Inv after
+  pub inv-read : Reached (after .desk) → Inv Left after
   inv-read p = record {
     reached = p;
     serials = count ∙ v .serials;
@@ -159,11 +176,11 @@ module _ (w : World) (v : Inv w) (s : Serial) (k : ℕ) (hk : k < length (w .acc
     edition = v .edition;
     force = v .force;
     kept = each (λ j x. Kept (w .edition) (w .tags) x) (λ j h n. v .kept j h) kept;
-    seats = each (λ j x. Seat (set rooms i (readOn t r)) x)
+    seats = each (λ j x. Seat Left (set rooms i (readOn t r)) x)
         (λ j h n. seat-kept rooms (wide w v) i (readOn t r) hi (accountAt w j) (for-other s _ t for-s (apart j h n)) (for-other s _ (readOn t r) read-for (apart j h n)) (v .seats j h)) seat;
     strangers = λ n h. le-trans (v .strangers n (subst (λ (c : ℕ). Stranger c (n .0)) count h)) (le-of-eq (sym (firstRoom-kept (isFor n) rooms i (readOn t r) refl)));
     unique = unique-set rooms (wide w v) i (readOn t r) hi (v .unique) (λ n j ne x y. ne (v .unique n j i x (same-for n y)));
-    records = each (λ j x. recordsFor (suc j) (stream after) ≡ recordsDue x) (λ j h n. elsewhere (suc j) (λ e. n (omega (arith, e))) ∙ v .records j h) here;
+    records = λ l. each (λ j x. recordsFor (suc j) (stream after) ≡ recordsDue x) (λ j h n. elsewhere (suc j) (λ e. n (omega (arith, e))) ∙ v .records l j h) (here l);
     nobody = λ n h. elsewhere n (stranger n h) ∙ v .nobody n (subst (λ (c : ℕ). Stranger c n) count h);
   }
     where

@@ -12,12 +12,15 @@ use Rattle.desk.specs.Laws.Rooms.{firstRoom-holds, free-held, full-iff, held-le
 use Rattle.desk.specs.Laws.Views.{Opens, open-done, open-no-room, open-no-set, open-serial-end, opens}
 use Rattle.desk.specs.Rooms.{freeRoom, isFree, isHeld, newTicket, serialOf, ticketIn, ticketsHeld}
 use Rattle.desk.specs.declared.Opening.{Opening}
-use Rattle.history.specs.History.{Account, World, accountAt, actOpen, lives, newAccount, noAccount, opening, step, withAccounts}
+use Rattle.history.specs.History.{Account, World, accountAt, lives, newAccount, noAccount, opening, step, withAccounts}
 use Rattle.history.specs.Laws.Invariant.{Inv, wide}
 use Rattle.history.specs.Laws.Ledger.{Ledger, lives-append, orderAt, tagsOfOrder}
 use Rattle.history.specs.Laws.Snoc.{snoc-last, snoc-length, snoc-old}
+use Rattle.desk.specs.Reached.{callOpen}
+use Rattle.matching.specs.Limits.{largest}
+use Rattle.desk.specs.Limits.{mostTickets}
 
-module _ (w : World) (v : Inv w) (g : Ledger w) (i : ℕ) (ei : i ≡ freeRoom (w .desk .tickets)) (hi : i < 16) (more : w .desk .serial .0 ≡ 4294967295 → ⊥) where
+module _ {Left : Type 0} (w : World) (v : Inv Left w) (g : Ledger w) (i : ℕ) (ei : i ≡ freeRoom (w .desk .tickets)) (hi : i < mostTickets) (more : w .desk .serial .0 ≡ largest → ⊥) where
   abbrev new : Account
   new = newAccount w (w .desk .serial .0 + 1)
 
@@ -41,9 +44,9 @@ module _ (w : World) (v : Inv w) (g : Ledger w) (i : ℕ) (ei : i ≡ freeRoom (
       (subst (λ (j : ℕ). isFree (ticketIn (w .desk .tickets) j) ≡ true) (sym ei) (firstRoom-holds isFree (w .desk .tickets) (omega (arith, wide w v, ei))))
 
   spare : lives (w .accounts) ≤ 15
-  spare = go (ℕ-discrete (ticketsHeld (w .desk .tickets)) 16)
+  spare = go (ℕ-discrete (ticketsHeld (w .desk .tickets)) mostTickets)
     where
-      go : Dec (ticketsHeld (w .desk .tickets) ≡ 16) → lives (w .accounts) ≤ 15
+      go : Dec (ticketsHeld (w .desk .tickets) ≡ mostTickets) → lives (w .accounts) ≤ 15
       go (yes e) = absurd (omega (arith, hi, ei, full-iff (w .desk .tickets) .1 (e ∙ sym (wide w v)), wide w v))
       go (no e) = omega (arith, g .rooms, held-le (w .desk .tickets), wide w v)
 
@@ -94,7 +97,7 @@ module _ (w : World) (v : Inv w) (g : Ledger w) (i : ℕ) (ei : i ≡ freeRoom (
       roomy-new k h (yes b) = rw (take-append-le k (w .accounts) (new ∷ []) (omega arith)) (g .roomy k b)
       roomy-new k h (no b) = rw (ap (λ (n : ℕ). take n (after .accounts)) (at-end k b h) ∙ take-append-seam (w .accounts) (new ∷ [])) spare
 
-pub ledger-opens : (w : World) → Inv w → Ledger w → Ledger (step w actOpen)
+pub ledger-opens : {Left : Type 0} (w : World) → Inv Left w → Ledger w → Ledger (step w callOpen)
 ledger-opens w v g = go _ (opens (w .desk))
   where
     go : (r : Opening) → Opens (w .desk) r → Ledger (opening w (r .desk) (r .answer))

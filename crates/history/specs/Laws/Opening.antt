@@ -10,20 +10,21 @@ use lib.ListN.{length, set}
 use Rattle.desk.specs.Calls.{openedIn}
 use Rattle.desk.specs.Laws.Rooms.{firstRoom-holds, for-held, free-held, held-for, new-held}
 use Rattle.desk.specs.Laws.Views.{Opens, open-done, open-no-room, open-no-set, open-serial-end, opens}
-use Rattle.desk.specs.Reached.{Reached, byCall, callOpen}
+use Rattle.desk.specs.Reached.{byCall, callOpen, Reached}
 use Rattle.desk.specs.Rooms.{freeRoom, isFor, isFree, isHeld, newTicket, roomOf, serialOf, ticketIn}
 use Rattle.desk.specs.declared.Opening.{Opening}
 use Rattle.desk.specs.declared.Serial.{Serial}
 use Rattle.desk.specs.declared.Ticket.{Ticket}
-use Rattle.history.specs.History.{Account, World, accountAt, actOpen, newAccount, noAccount, opening, recordsDue, recordsFor, step, stream, withAccounts}
+use Rattle.history.specs.History.{Account, World, accountAt, newAccount, noAccount, opening, recordsDue, recordsFor, step, stream, withAccounts}
 use Rattle.history.specs.Laws.Invariant.{InForce, Inv, Kept, Stranger, stranger-less, wide}
 use Rattle.history.specs.Laws.Seats.{Agrees, Seat, for-other, has-room, room-kept, seat-kept, seat-new, seated, unique-set}
 use Rattle.history.specs.Laws.Snoc.{snoc-each, snoc-length}
 use Rattle.matching.specs.Laws.Bools.{is-false, not-both}
 use Rattle.matching.specs.Occurrence.{occurrencesBy}
 use Rattle.desk.specs.Laws.Layout.{start-after}
+use Rattle.desk.specs.Limits.{mostTickets}
 
-module _ (w : World) (v : Inv w) (i : ℕ) (ei : i ≡ freeRoom (w .desk .tickets)) (hi : i < 16) (some : w .desk .edition .0 ≡ 0 → ⊥) (p : Reached (openedIn (w .desk) i)) where
+module _ {Left : Type 0} (w : World) (v : Inv Left w) (i : ℕ) (ei : i ≡ freeRoom (w .desk .tickets)) (hi : i < mostTickets) (some : w .desk .edition .0 ≡ 0 → ⊥) (p : Reached (openedIn (w .desk) i)) where
   abbrev rooms : List Ticket
   rooms = w .desk .tickets
 
@@ -56,7 +57,7 @@ module _ (w : World) (v : Inv w) (i : ℕ) (ei : i ≡ freeRoom (w .desk .ticket
       (subst (λ (j : ℕ). isFree (ticketIn rooms j) ≡ true) (sym ei) (firstRoom-holds isFree rooms (omega (arith, wide w v)))) in
       is-false (isFor s (ticketIn rooms i)) (λ h. not-both (for-held s (ticketIn rooms i) h .0) f)
 
-  unseen : 16 ≤ roomOf rooms serial
+  unseen : mostTickets ≤ roomOf rooms serial
   unseen = v .strangers serial (inr (omega (arith, number)))
 
   mine : isFor serial ticket ≡ true
@@ -65,7 +66,7 @@ module _ (w : World) (v : Inv w) (i : ℕ) (ei : i ≡ freeRoom (w .desk .ticket
   others : (s : Serial) → (s .0 ≡ serial .0 → ⊥) → isFor s ticket ≡ false
   others s n = for-other serial s ticket mine (λ e. n (sym e))
 
-  pub inv-opened : Inv after
+  pub inv-opened : Inv Left after
   unfolding occurrencesBy
   inv-opened = record {
     reached = p;
@@ -74,14 +75,14 @@ module _ (w : World) (v : Inv w) (i : ℕ) (ei : i ≡ freeRoom (w .desk .ticket
     edition = v .edition;
     force = v .force;
     kept = each (λ k a. Kept (w .edition) (w .tags) a) (v .kept) new-kept;
-    seats = each (λ k a. Seat (set rooms i ticket) a)
+    seats = each (λ k a. Seat Left (set rooms i ticket) a)
         (λ k h. seat-kept rooms (wide w v) i ticket hi (accountAt w k) (free _) (others _ (λ e. omega (arith, e, v .numbered k h, h, number))) (v .seats k h)) new-seat;
     strangers = λ s h. le-trans (v .strangers s (stranger-less (length (w .accounts)) (length (after .accounts)) (s .0) (omega (arith, count)) h))
         (le-of-eq (sym (room-kept rooms (wide w v) i ticket hi s (free s) (others s (stranger s h)))));
     unique = unique-set rooms (wide w v) i ticket hi (v .unique) (λ s j n a b.
         let e = for-held s ticket b .1 in
         omega (arith, unseen, has-room rooms (wide w v) serial j (subst (λ (x : Serial). isFor x (ticketIn rooms j) ≡ true) (λ d. record { 0 = sym e d }) a)));
-    records = each (λ k a. recordsFor (suc k) (stream w) ≡ recordsDue a) (v .records) (v .nobody (suc (length (w .accounts))) (inr (omega arith)));
+    records = λ l. each (λ k a. recordsFor (suc k) (stream w) ≡ recordsDue a) (v .records l) (v .nobody (suc (length (w .accounts))) (inr (omega arith)));
     nobody = λ n h. v .nobody n (stranger-less (length (w .accounts)) (length (after .accounts)) n (omega (arith, count)) h);
   }
     where
@@ -106,16 +107,16 @@ module _ (w : World) (v : Inv w) (i : ℕ) (ei : i ≡ freeRoom (w .desk .ticket
         small = omega arith;
       }
 
-      new-seat : Seat (set rooms i ticket) new
+      new-seat : Seat Left (set rooms i ticket) new
       new-seat =
           let s = seat-new rooms (wide w v) i ticket hi serial mine unseen in
-          seated refl (omega (arith, s .0)) (subst (λ (x : Ticket). Agrees x new) (sym (s .1))
-          (record { edition = sym (v .edition); taken = refl; place = sym (start-after (w .tags)) }))
+          seated refl (omega (arith, s .0)) (subst (λ (x : Ticket). Agrees Left x new) (sym (s .1))
+          (record { edition = sym (v .edition); taken = refl; place = λ l. sym (start-after (w .tags)) }))
 
-pub inv-opens : (w : World) → Inv w → Inv (step w actOpen)
-inv-opens w v = go _ (opens (w .desk)) (byCall (v .reached) callOpen)
+pub inv-opens : {Left : Type 0} (w : World) → Inv Left w → Inv Left (step w callOpen)
+inv-opens {Left} w v = go _ (opens (w .desk)) (byCall (v .reached) callOpen)
   where
-    go : (r : Opening) → Opens (w .desk) r → Reached (r .desk) → Inv (opening w (r .desk) (r .answer))
+    go : (r : Opening) → Opens (w .desk) r → Reached (r .desk) → Inv Left (opening w (r .desk) (r .answer))
     go r (open-no-set a) p = v
     go r (open-serial-end a b) p = v
     go r (open-no-room a b c) p = v

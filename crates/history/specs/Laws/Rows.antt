@@ -29,29 +29,32 @@ use Rattle.tables.specs.Building.{tableOf}
 use Rattle.tables.specs.Laws.Left.{done, left-length}
 use Rattle.tagset.specs.Grammar.{goodSet}
 use Rattle.tagset.specs.Laws.Places.{tags-of}
+use Rattle.matching.specs.Tags.{Tags, exact, foundFrom, tagsAt}
+use Rattle.matching.specs.Limits.{largest}
 
 -- a reading that stopped so, and found these, is as demanded
-pub demanded : (ts : List Word) (v piece : Word) (room : ℕ) (r : Outcome) → r .found ≡ occurrencesFrom ts v (length v) (take (r .taken) piece) → length (r .found) ≤ room
+pub demanded : (tags : Tags) (v piece : Word) (room : ℕ) (r : Outcome) → r .found ≡ foundFrom tags v (length v) (take (r .taken) piece) → length (r .found) ≤ room
     → ((r .stop ≡ S.All) × (r .taken ≡ length piece))
-    ⊎ ((r .stop ≡ S.Full) × (r .taken < length piece) × (room < length (r .found) + length (tagsEnding ts (v ++ take (suc (r .taken)) piece))))
-    → Demanded ts v piece room r
-demanded ts v piece room r found fits stopped = go stopped
+    ⊎ ((r .stop ≡ S.Full) × (r .taken < length piece) × (room < length (r .found) + length (tagsAt tags (v ++ take (suc (r .taken)) piece))))
+    → Demanded tags v piece room r
+demanded tags v piece room r found fits stopped = go stopped
   where
     go : ((r .stop ≡ S.All) × (r .taken ≡ length piece))
-        ⊎ ((r .stop ≡ S.Full) × (r .taken < length piece) × (room < length (r .found) + length (tagsEnding ts (v ++ take (suc (r .taken)) piece))))
-        → Demanded ts v piece room r
+        ⊎ ((r .stop ≡ S.Full) × (r .taken < length piece) × (room < length (r .found) + length (tagsAt tags (v ++ take (suc (r .taken)) piece))))
+        → Demanded tags v piece room r
     go (inl q) =
-        let f : r .found ≡ occurrencesFrom ts v (length v) piece = found ∙ ap (occurrencesFrom ts v (length v)) (take-all (r .taken) piece (le-of-eq (sym (q .1)))) in
-        subst (Demanded ts v piece room) (λ i. record { taken = sym (q .1) i; place = r .place; stop = sym (q .0) i; found = sym f i })
+        let f : r .found ≡ foundFrom tags v (length v) piece = found ∙ ap (foundFrom tags v (length v)) (take-all (r .taken) piece (le-of-eq (sym (q .1)))) in
+        subst (Demanded tags v piece room) (λ i. record { taken = sym (q .1) i; place = r .place; stop = sym (q .0) i; found = sym f i })
         (tookAll (r .place) (subst (λ (l : List Occurrence). length l ≤ room) f fits))
     go (inr q) =
-        subst (Demanded ts v piece room) (λ i. record { taken = r .taken; place = r .place; stop = sym (q .0) i; found = sym found i })
+        subst (Demanded tags v piece room) (λ i. record { taken = r .taken; place = r .place; stop = sym (q .0) i; found = sym found i })
         (stoppedFull (r .place) (r .taken) (q .1) (subst (λ (l : List Occurrence). length l ≤ room) found fits)
-        (subst (λ (l : List Occurrence). room < length l + length (tagsEnding ts (v ++ take (suc (r .taken)) piece))) found (q .2)))
+        (subst (λ (l : List Occurrence). room < length l + length (tagsAt tags (v ++ take (suc (r .taken)) piece))) found (q .2)))
 
 -- what a reading has done is as demanded
-pub done-demanded : (n k : ℕ) (ts : List Word) (v piece : Word) (room : ℕ) (r : Outcome) → Done n k ts v (length v) room piece r → Demanded ts v piece room r
-done-demanded n k ts v piece room r d = demanded ts v piece room r (d .found) (d .fits) (d .stopped)
+pub done-demanded : (n k : ℕ) (ts : List Word) (v piece : Word) (room : ℕ) (r : Outcome) → Done n k ts v (length v) room piece r → Demanded (exact ts) v piece room r
+unfolding tagsAt
+done-demanded n k ts v piece room r d = demanded (exact ts) v piece room r (d .found) (d .fits) (d .stopped)
 
 -- a row of readings that goes on from the place after v
 abbrev pub rowAfter : ℕ → ℕ → List ℕ → List ℕ → List Word → Word → List Turn → Row
@@ -98,10 +101,10 @@ module _ (n k : ℕ) (set run : List ℕ) (ts : List Word) (b : AsBuilt n k set 
 
   -- a reading from the place after v is refused if it is LONG, and else is as expected
   pub read-is : (v piece : Word) (list : ℕ) → Below 256 v → Below 256 piece
-      → readOf n k table (placeAfter n ts 0 k v) (length v) piece list ≡ readBy (expected n k ts v (length v) (list / 2) piece) true (ltb 4294967295 (length v + length piece))
+      → readOf n k table (placeAfter n ts 0 k v) (length v) piece list ≡ readBy (expected n k ts v (length v) (list / 2) piece) true (ltb largest (length v + length piece))
   unfolding readOf
   read-is v piece list hv hp =
-      ap₂ (λ (r : Outcome) (t : Bool). readBy r t (ltb 4294967295 (length v + length piece))) same (place-below v)
+      ap₂ (λ (r : Outcome) (t : Bool). readBy r t (ltb largest (length v + length piece))) same (place-below v)
     where
       same : read n (slotsIn n k (length table)) table (placeAfter n ts 0 k v) (length v) (list / 2) piece ≡ expected n k ts v (length v) (list / 2) piece
       same =
@@ -111,7 +114,7 @@ module _ (n k : ℕ) (set run : List ℕ) (ts : List Word) (b : AsBuilt n k set 
   -- a reading that is not refused has done what is expected
   pub read-did : (v piece : Word) (list : ℕ) → Below 256 v → Below 256 piece → (r : Outcome)
       → readOf n k table (placeAfter n ts 0 k v) (length v) piece list ≡ readTo r → r ≡ expected n k ts v (length v) (list / 2) piece
-  read-did v piece list hv hp r e = go (ltb 4294967295 (length v + length piece)) (sym (read-is v piece list hv hp) ∙ e)
+  read-did v piece list hv hp r e = go (ltb largest (length v + length piece)) (sym (read-is v piece list hv hp) ∙ e)
     where
       go : (long : Bool) → readBy (expected n k ts v (length v) (list / 2) piece) true long ≡ readTo r → r ≡ expected n k ts v (length v) (list / 2) piece
       go true q = differ cc
@@ -121,13 +124,13 @@ module _ (n k : ℕ) (set run : List ℕ) (ts : List Word) (b : AsBuilt n k set 
 
   -- what a row comes to, by whether its first reading is LONG
   pub data RowBy (v : Word) (t : Turn) (turns : List Turn) : Row → Type 0 where
-    row-long : 4294967295 < length v + length (t .piece) → RowBy v t turns (rowAfter n k set run ts v turns)
-    row-read : length v + length (t .piece) ≤ 4294967295
+    row-long : largest < length v + length (t .piece) → RowBy v t turns (rowAfter n k set run ts v turns)
+    row-read : length v + length (t .piece) ≤ largest
         → RowBy v t turns (rowThen (t .piece) (turnOf n k ts v t) (rowAfter n k set run ts (v ++ take (turnOf n k ts v t .taken) (t .piece)) turns))
 
   pub row-by : (v : Word) (t : Turn) (turns : List Turn) → Below 256 v → Below 256 (t .piece) → RowBy v t turns (rowAfter n k set run ts v (t ∷ turns))
   unfolding inTurn
-  row-by v t turns hv hp = subst (λ (x : ReadOf). RowBy v t turns (by x)) (sym (read-is v (t .piece) (t .list) hv hp)) (go (ltb 4294967295 (length v + length (t .piece))) refl)
+  row-by v t turns hv hp = subst (λ (x : ReadOf). RowBy v t turns (by x)) (sym (read-is v (t .piece) (t .list) hv hp)) (go (ltb largest (length v + length (t .piece))) refl)
     where
       by : ReadOf → Row
       by x = onTurn x (t .piece) (rowAfter n k set run ts v turns) (λ r. inTurn n k table (r .place) (length v + r .taken) turns)
@@ -141,7 +144,7 @@ module _ (n k : ℕ) (set run : List ℕ) (ts : List Word) (b : AsBuilt n k set 
       on : length (v ++ take (r .taken) (t .piece)) ≡ length v + r .taken
       on = length-append v (take (r .taken) (t .piece)) ∙ ap (λ (m : ℕ). length v + m) (length-take-le (r .taken) (t .piece) (d .part))
 
-      go : (long : Bool) → ltb 4294967295 (length v + length (t .piece)) ≡ long → RowBy v t turns (by (readBy (turnOf n k ts v t) true long))
+      go : (long : Bool) → ltb largest (length v + length (t .piece)) ≡ long → RowBy v t turns (by (readBy (turnOf n k ts v t) true long))
       go true e = row-long (ltb-true _ _ e)
       go false e =
           subst (λ (w : Row). RowBy v t turns (rowThen (t .piece) (turnOf n k ts v t) w))

@@ -9,45 +9,47 @@ use lib.ListN.{drop, getD, length, length-append, length-drop, take}
 use lib.Seq.{getD-at, getD-drop, getD-take, length-take-le, take-all, take-append-seam}
 use Rattle.desk.specs.Rooms.{serialOf}
 use Rattle.desk.specs.declared.Serial.{Serial}
-use Rattle.history.specs.History.{Account, Act, Order, World, accountAt, actOpen, grown, lives, newAccount, noAccount, run, start}
+use Rattle.history.specs.History.{Account, accountAt, grown, lives, newAccount, noAccount, Replacement, run, start, withBytes, World}
 use Rattle.history.specs.Laws.Becomes.{AllFine, Becomes, becomes-append, becomes-sound, replaced-all}
 use Rattle.history.specs.Laws.Feeding.{live, now}
 use Rattle.history.specs.Laws.Invariant.{Kept, inv-start}
 use Rattle.history.specs.Laws.Ledger.{Fine, ledger-start, noOrder, tagsOfOrder}
-use Rattle.history.specs.Laws.LedgerSteps.{Sound, sound}
+use Rattle.history.specs.Laws.LedgerSteps.{sound, SoundLeft}
 use Rattle.history.specs.Laws.Serving.{at-fedPieces, at-shutIf}
 use Rattle.history.specs.Laws.Snoc.{snoc-length}
 use Rattle.history.specs.Laws.Stages.{opened-one}
-use Rattle.history.specs.Laws.Steps.{inv}
 use Rattle.history.specs.Served.{called, fedPieces, joined, servedAll, servedOne, serving, shutIf, then}
 use Rattle.matching.specs.Words.{Below, Word}
+use Rattle.desk.specs.Reached.{Call, callOpen}
+use Rattle.desk.specs.Layout.{Kind}
+use Rattle.matching.specs.Limits.{largest}
 
-take-none : (n : ℕ) → take {A = Order} n [] ≡ []
+take-none : (n : ℕ) → take {A = Replacement} n [] ≡ []
 take-none zero = refl
 take-none (suc n) = refl
 
-take-more : (m n : ℕ) (l : List Order) → take m l ++ take n (drop m l) ≡ take (m + n) l
+take-more : (m n : ℕ) (l : List Replacement) → take m l ++ take n (drop m l) ≡ take (m + n) l
 take-more zero n l = ap (λ (x : ℕ). take x l) (sym (zero-add n))
 take-more (suc m) n [] = take-none n ∙ sym (take-none (suc m + n))
 take-more (suc m) n (x ∷ l) =
     let q : suc (m + n) ≡ suc m + n = omega arith in
-    ap {B = List Order} (λ (y : List Order). x ∷ y) (take-more m n l) ∙ ap {B = List Order} (λ (k : ℕ). take k (x ∷ l)) q
+    ap {B = List Replacement} (λ (y : List Replacement). x ∷ y) (take-more m n l) ∙ ap {B = List Replacement} (λ (k : ℕ). take k (x ∷ l)) q
 
 -- what a history says of the account behind some others
-pub record Ready (os : List Order) (pre : List Account) (a : Account) : Type 0 where
+pub record Ready (os : List Replacement) (pre : List Account) (a : Account) : Type 0 where
   pub serial : a .serial ≡ suc (length pre)
   pub from : 0 < a .edition
   pub upto : a .edition ≤ length os
   pub tags : (e : ℕ) → a .edition ≡ suc e → a .tags ≡ tagsOfOrder (getD os e noOrder)
   pub bytes : Below 256 (a .bytes)
-  pub small : length (a .bytes) ≤ 4294967295
+  pub small : length (a .bytes) ≤ largest
   pub roomy : lives pre ≤ 15
-  pub count : length pre < 4294967295
+  pub count : length pre < largest
 
-module _ (os : List Order) (fine : AllFine os) (few : length os ≤ 4294967295) where
+module _ (os : List Replacement) (fine : AllFine os) (few : length os ≤ largest) where
   -- the accounts of pre were served, and the replacements of their editions were made
   pub record SoFar (w : World) (pre : List Account) : Type 0 where
-    pub sound : Sound w
+    pub sound : SoundLeft w
     pub accounts : w .accounts ≡ pre
     pub orders : w .orders ≡ take (w .edition) os
     pub low : w .edition ≤ length os
@@ -65,29 +67,29 @@ module _ (os : List Order) (fine : AllFine os) (few : length os ≤ 4294967295) 
       (omega (arith, few, length-take-le (e - w .edition) (drop (w .edition) os) (omega (arith, length-drop (w .edition) os)))) in
       let sum : w .edition + (e - w .edition) ≡ e = omega arith in
       let q : w .orders ++ take (e - w .edition) (drop (w .edition) os) ≡ take e os =
-      ap {B = List Order} (λ (l : List Order). l ++ take (e - w .edition) (drop (w .edition) os)) (s .orders) ∙ take-more (w .edition) (e - w .edition) os ∙ ap (λ (n : ℕ). take n os) sum in
-      subst₂ (λ (l : List Order) (x : List Account). Becomes w (called (take (e - w .edition) (drop (w .edition) os))) l x) q (s .accounts) p
+      ap {B = List Replacement} (λ (l : List Replacement). l ++ take (e - w .edition) (drop (w .edition) os)) (s .orders) ∙ take-more (w .edition) (e - w .edition) os ∙ ap (λ (n : ℕ). take n os) sum in
+      subst₂ (λ (l : List Replacement) (x : List Account). Becomes w (called (take (e - w .edition) (drop (w .edition) os))) l x) q (s .accounts) p
 
   -- a world in which so many replacements were made is under that edition, and under its tags
-  edition-is : (w : World) → Sound w → (e : ℕ) → e ≤ length os → w .orders ≡ take e os → w .edition ≡ e
+  edition-is : (w : World) → SoundLeft w → (e : ℕ) → e ≤ length os → w .orders ≡ take e os → w .edition ≡ e
   edition-is w s e h q = sym (s .ledger .editions) ∙ ap {B = ℕ} length q ∙ length-take-le e os h
 
-  tags-are : (w : World) → Sound w → (e : ℕ) → suc e ≤ length os → w .orders ≡ take (suc e) os → w .tags ≡ tagsOfOrder (getD os e noOrder)
+  tags-are : (w : World) → SoundLeft w → (e : ℕ) → suc e ≤ length os → w .orders ≡ take (suc e) os → w .tags ≡ tagsOfOrder (getD os e noOrder)
   tags-are w s e h q =
       s .ledger .tags e (edition-is w s (suc e) h q)
-      ∙ ap (λ (l : List Order). tagsOfOrder (getD l e noOrder)) q ∙ ap tagsOfOrder (getD-take (suc e) os e noOrder (omega arith))
+      ∙ ap (λ (l : List Replacement). tagsOfOrder (getD l e noOrder)) q ∙ ap tagsOfOrder (getD-take (suc e) os e noOrder (omega arith))
 
   at-servedOne : (w : World) (pre : List Account) (a : Account) → SoFar w pre → Ready os pre a → w .edition ≤ a .edition → (ps : List Word) → joined ps ≡ a .bytes
       → Becomes w (servedOne os a ps w) (take (a .edition) os) (pre ++ a ∷ [])
   at-servedOne w pre a s r low ps bytes =
-      becomes-append w first (then (λ v. actOpen ∷ []) (then (fedPieces n ps) (shutIf (a .closed) n)) w1) _ _ _ _ one
-      (becomes-append w1 (actOpen ∷ []) (then (fedPieces n ps) (shutIf (a .closed) n) w2) _ _ _ _ two
+      becomes-append w first (then (λ v. callOpen ∷ []) (then (fedPieces n ps) (shutIf (a .closed) n)) w1) _ _ _ _ one
+      (becomes-append w1 (callOpen ∷ []) (then (fedPieces n ps) (shutIf (a .closed) n) w2) _ _ _ _ two
       (becomes-append w2 (fedPieces n ps w2) (shutIf (a .closed) n w3) _ _ _ _ three four))
     where
       n : Serial
       n = serialOf (a .serial)
 
-      first : List Act
+      first : List Call
       first = called (take (a .edition - w .edition) (drop (w .edition) os))
 
       one : Becomes w first (take (a .edition) os) pre
@@ -96,7 +98,7 @@ module _ (os : List Order) (fine : AllFine os) (few : length os ≤ 4294967295) 
       w1 : World
       w1 = run w first
 
-      s1 : Sound w1
+      s1 : SoundLeft w1
       s1 = becomes-sound w first _ _ (s .sound) one
 
       e1 : w1 .edition ≡ a .edition
@@ -116,17 +118,17 @@ module _ (os : List Order) (fine : AllFine os) (few : length os ≤ 4294967295) 
       is-a0 : newAccount w1 (suc (length (w1 .accounts))) ≡ a0
       is-a0 = λ d. record { serial = (ap {B = ℕ} (λ (l : List Account). suc (length l)) (one .accounts-are) ∙ sym (r .serial)) d; edition = e1 d; tags = t1 d; bytes = []; closed = false }
 
-      two : Becomes w1 (actOpen ∷ []) (take (a .edition) os) (pre ++ a0 ∷ [])
+      two : Becomes w1 (callOpen ∷ []) (take (a .edition) os) (pre ++ a0 ∷ [])
       two =
-          subst₂ (λ (l : List Order) (x : List Account). Becomes w1 (actOpen ∷ []) l x) (one .orders-are)
+          subst₂ (λ (l : List Replacement) (x : List Account). Becomes w1 (callOpen ∷ []) l x) (one .orders-are)
           (ap₂ (λ (x : List Account) (y : Account). x ++ y ∷ []) (one .accounts-are) is-a0)
           (opened-one w1 s1 (omega (arith, e1, r .from)) (omega (arith, r .count, ap {B = ℕ} length (one .accounts-are))) (le-trans (le-of-eq (ap lives (one .accounts-are))) (r .roomy)))
 
       w2 : World
-      w2 = run w1 (actOpen ∷ [])
+      w2 = run w1 (callOpen ∷ [])
 
-      s2 : Sound w2
-      s2 = becomes-sound w1 (actOpen ∷ []) _ _ s1 two
+      s2 : SoundLeft w2
+      s2 = becomes-sound w1 (callOpen ∷ []) _ _ s1 two
 
       e2 : w2 .edition ≡ a .edition
       e2 = edition-is w2 s2 (a .edition) (r .upto) (two .orders-are)
@@ -136,20 +138,20 @@ module _ (os : List Order) (fine : AllFine os) (few : length os ≤ 4294967295) 
 
       three : Becomes w2 (fedPieces n ps w2) (take (a .edition) os) (pre ++ a1 ∷ [])
       three =
-          subst (λ (l : List Order). Becomes w2 (fedPieces n ps w2) l (pre ++ a1 ∷ [])) (two .orders-are)
+          subst (λ (l : List Replacement). Becomes w2 (fedPieces n ps w2) l (pre ++ a1 ∷ [])) (two .orders-are)
           (at-fedPieces ps w2 pre a0 (record { sound = s2; accounts = two .accounts-are; live = refl; now = sym e2 })
           (subst (λ (b : Word). Below 256 b) (sym bytes) (r .bytes)) (le-trans (omega arith) (le-trans (le-of-eq (ap {B = ℕ} length bytes)) (r .small))))
 
       w3 : World
       w3 = run w2 (fedPieces n ps w2)
 
-      s3 : Sound w3
+      s3 : SoundLeft w3
       s3 = becomes-sound w2 (fedPieces n ps w2) _ _ s2 three
 
       four : Becomes w3 (shutIf (a .closed) n w3) (take (a .edition) os) (pre ++ a ∷ [])
       four =
-          subst₂ (λ (l : List Order) (b : Word). Becomes w3 (shutIf (a .closed) n w3) l
-          (pre ++ record { serial = a .serial; edition = a .edition; tags = a .tags; bytes = b; closed = a .closed } ∷ []))
+          subst₂ (λ (l : List Replacement) (b : Word). Becomes w3 (shutIf (a .closed) n w3) l
+          (pre ++ withBytes a b ∷ []))
           (three .orders-are) bytes
           (at-shutIf (a .closed) w3 pre a1 (record { sound = s3; accounts = three .accounts-are; live = refl; now = sym (edition-is w3 s3 (a .edition) (r .upto) (three .orders-are)) }))
 
@@ -165,8 +167,8 @@ module _ (os : List Order) (fine : AllFine os) (few : length os ≤ 4294967295) 
       let p = to-edition w pre s (length os) (s .low) (omega arith) in
       let m : take (length os - w .edition) (drop (w .edition) os) ≡ drop (w .edition) os =
       take-all (length os - w .edition) (drop (w .edition) os) (omega (arith, length-drop (w .edition) os)) in
-      subst₂ (λ (l : List Order) (x : List Account). Becomes w (called (drop (w .edition) os)) l x) (take-all (length os) os (omega arith)) (sym (append-nil pre) ∙ sym q)
-      (subst (λ (l : List Order). Becomes w (called l) (take (length os) os) pre) m p)
+      subst₂ (λ (l : List Replacement) (x : List Account). Becomes w (called (drop (w .edition) os)) l x) (take-all (length os) os (omega arith)) (sym (append-nil pre) ∙ sym q)
+      (subst (λ (l : List Replacement). Becomes w (called l) (take (length os) os) pre) m p)
   at-servedAll L ready rising cut cuts (a ∷ rest) w pre q s above =
       let k = length pre in
       let inside : k < length L = omega (arith, ap {B = ℕ} length q, length-append pre (a ∷ rest)) in
@@ -186,7 +188,7 @@ module _ (os : List Order) (fine : AllFine os) (few : length os ≤ 4294967295) 
       (subst (λ (j : ℕ). Becomes w1 (servedAll os cut j rest w1) os L) n more)
 
 -- what a sound world says of the account behind some others
-ready : (w : World) → Sound w → (pre : List Account) (a : Account) (rest : List Account) → w .accounts ≡ pre ++ a ∷ rest → Ready (w .orders) pre a
+ready : (w : World) → SoundLeft w → (pre : List Account) (a : Account) (rest : List Account) → w .accounts ≡ pre ++ a ∷ rest → Ready (w .orders) pre a
 ready w s pre a rest q =
     let k = length pre in
     let inside : k < length (w .accounts) = omega (arith, ap {B = ℕ} length q, length-append pre (a ∷ rest)) in
@@ -204,9 +206,9 @@ ready w s pre a rest q =
     }
 
 -- SERVING the tickets of a sound world brings its orders and its accounts
-pub served : (w : World) → Sound w → (cut : ℕ → List Word) → ((k : ℕ) → k < length (w .accounts) → joined (cut k) ≡ accountAt w k .bytes)
-    → Becomes start (serving cut w) (w .orders) (w .accounts)
-served w s cut cuts =
+pub served : (kind : Kind) (w : World) → SoundLeft w → (cut : ℕ → List Word) → ((k : ℕ) → k < length (w .accounts) → joined (cut k) ≡ accountAt w k .bytes)
+    → Becomes (start kind) (serving kind cut w) (w .orders) (w .accounts)
+served kind w s cut cuts =
     at-servedAll (w .orders) (s .ledger .fine) (le-trans (le-of-eq (s .ledger .editions)) (s .ledger .few-editions)) (w .accounts) (ready w s) (s .ledger .rising) cut cuts
-    (w .accounts) start [] refl
-    (record { sound = record { inv = inv-start; ledger = ledger-start }; accounts = refl; orders = refl; low = omega arith }) (λ k l h. omega arith)
+    (w .accounts) (start kind) [] refl
+    (record { sound = record { inv = inv-start kind; ledger = ledger-start kind }; accounts = refl; orders = refl; low = omega arith }) (λ k l h. omega arith)

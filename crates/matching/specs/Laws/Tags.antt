@@ -10,9 +10,10 @@ use Rattle.matching.specs.Laws.Bools.{and-both, and-l, and-r, is-true, t
 use Rattle.matching.specs.Laws.Matches.{tagsEnding-has, tagsEnding-length}
 use Rattle.matching.specs.Laws.Occurrences.{found-iff, occurrencesBy-ordered, tagsEnding-rising}
 use Rattle.matching.specs.Laws.Stepping.{Rising}
+use Rattle.matching.specs.Limits.{mostTags}
 use Rattle.matching.specs.Occurrence.{Occurrence, Ordered, occurrencesFrom, tagsEnding}
-use Rattle.matching.specs.Tags.{Tags, exact, foundFrom, foundIn, tagCount, tagEnds, tagsAt}
-use Rattle.matching.specs.Words.{Word, ends}
+use Rattle.matching.specs.Tags.{LawfulTags, Tags, exact, foundFrom, foundIn, tagCount, tagEnds, tagsAt}
+use Rattle.matching.specs.Words.{Lawful, Word, ends}
 
 -- tags that are matched byte for byte: what is found of them is what is found of their words
 pub at-exact : (ts : List Word) (w : Word) → tagsAt (exact ts) w ≡ tagsEnding ts w
@@ -34,7 +35,15 @@ ends-exact ts i w = (
   λ h. and-both (ltb i (length ts)) (ends (getD ts i []) w) (is-true (ltb i (length ts)) (lt→ltb i (length ts) (h .0))) (h .1),
 )
 
+pub lawful-exact : (ts : List Word) → LawfulTags (exact ts) ↔ Lawful ts
+unfolding LawfulTags
+lawful-exact ts = (λ l. l, λ l. l)
+
 module _ (tags : Tags) where
+  pub lawful-few : LawfulTags tags → tagCount tags ≤ mostTags
+  unfolding LawfulTags tagCount
+  lawful-few l = l .few
+
   -- a tag is found where it ends
   pub at-iff : (w : Word) (i : ℕ) → List·Memᴰ i (tagsAt tags w) ↔ (tagEnds tags i w ≡ true)
   unfolding tagsAt

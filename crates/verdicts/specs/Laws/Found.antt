@@ -15,7 +15,7 @@ use Rattle.desk.specs.declared.Record.{Record}
 use Rattle.desk.specs.declared.Serial.{Serial}
 use Rattle.gate.specs.Noting.{seenIn}
 use Rattle.gate.specs.declared.Seen.{Seen}
-use Rattle.history.specs.History.{Act, AllBytes, OpenTicket, World, accountAt, recordsFor, run, start, stream}
+use Rattle.history.specs.History.{AllBytes, OpenTicket, World, accountAt, recordsFor, run, start, stream}
 use Rattle.history.specs.Laws.Feeding.{agrees, live}
 use Rattle.history.specs.Laws.Invariant.{Inv}
 use Rattle.history.specs.Laws.LedgerSteps.{sound}
@@ -33,6 +33,7 @@ use Rattle.gate.specs.Bits.{withBits}
 use Rattle.verdicts.specs.Laws.Onward.{Joined}
 use Rattle.verdicts.specs.Laws.Standing.{Standing}
 use Rattle.verdicts.specs.Mask.{carried, maskOf}
+use Rattle.desk.specs.Reached.{Call}
 
 -- two bits that are 1 together are one
 bits-agree : (a b : ℕ) → a ≤ 1 → b ≤ 1 → (a ≡ 1 → b ≡ 1) → (b ≡ 1 → a ≡ 1) → a ≡ b
@@ -40,16 +41,16 @@ bits-agree zero zero x y f g = refl
 bits-agree zero (suc b) x y f g = absurd (let z : suc b ≡ 1 = omega (arith, y) in omega (arith, g z))
 bits-agree (suc a) b x y f g = let z : suc a ≡ 1 = omega (arith, x) in z ∙ sym (f z)
 
-module _ (acts : List Act) (b : AllBytes acts) (accepted : ℕ) (seen : List Seen) (approvals : List Approval) (j : Joined seen (run start acts))
-    (m : Each Match approvals (run start acts .accounts)) where
+module _ (calls : List Call) (b : AllBytes calls) (accepted : ℕ) (seen : List Seen) (approvals : List Approval) (j : Joined seen (run start calls))
+    (m : Each Match approvals (run start calls .accounts)) where
   abbrev w : World
-  w = run start acts
+  w = run start calls
 
   abbrev g : GateWorld
-  g = gateOf (run start acts) accepted seen approvals
+  g = gateOf (run start calls) accepted seen approvals
 
   v : Inv w
-  v = sound acts b .inv
+  v = sound calls b .inv
 
   out-only : stream w ≡ w .out
   out-only = ap (λ (l : List Record). w .out ++ l) (none-held (w .desk) (j .empty)) ∙ append-nil (w .out)
@@ -59,10 +60,10 @@ module _ (acts : List Act) (b : AllBytes acts) (accepted : ℕ) (seen : List See
     bytes = approvalAt g k .handed
 
     abbrev rs : List Record
-    rs = recordsFor (s .0) (run start acts .out)
+    rs = recordsFor (s .0) (run start calls .out)
 
     abbrev mask : ℕ
-    mask = seenIn seen (roomOf (run start acts .desk .tickets) s) .mask
+    mask = seenIn seen (roomOf (run start calls .desk .tickets) s) .mask
 
     hk : k < length (w .accounts)
     hk = subst (λ (n : ℕ). k < n) (each-length m) (r .waits .inside)
@@ -98,7 +99,7 @@ module _ (acts : List Act) (b : AllBytes acts) (accepted : ℕ) (seen : List See
     ends-at y h =
         let z = own-among (s .0) (w .out) y h in
         subst (λ (c : Word). EndsAt (w .tags) c (y .tag .0) (y .end)) bytes-are
-        (record-has-tag acts b s k ticket y (subst (λ (l : List Record). List·Memᴰ y l) (sym out-only) (z .0)) (z .1) .1)
+        (record-has-tag calls b s k ticket y (subst (λ (l : List Record). List·Memᴰ y l) (sym out-only) (z .0)) (z .1) .1)
 
     mask-is : mask ≡ withBits 0 rs
     mask-is = j .masks s (seat .room)
@@ -121,7 +122,7 @@ module _ (acts : List Act) (b : AllBytes acts) (accepted : ℕ) (seen : List See
         let y = recordOf (serialOf (accountAt w k .serial)) (editionOf (accountAt w k .edition)) (record { end = z .0; tag = n }) in
         let h : List·Memᴰ y rs =
         subst (λ (l : List Record). List·Memᴰ y (recordsFor (s .0) l)) out-only
-        (subst (λ (n : ℕ). List·Memᴰ y (recordsFor n (stream w))) serial-is (tag-has-record acts b k hk n (z .0) e)) in
+        (subst (λ (n : ℕ). List·Memᴰ y (recordsFor n (stream w))) serial-is (tag-has-record calls b k hk n (z .0) e)) in
         ap (λ (y : ℕ). y / 2 ^ n % 2) mask-is ∙ masked-in n 0 rs y h (mod-eq-of-lt small)
 
     mask-in : mask ≡ maskOf (w .tags) bytes

@@ -236,10 +236,10 @@ module _ (g : GateWorld) (v : Standing g) (c : Held g) where
   held-step (gatePiece s table piece) = held-piece s table piece
   held-step (gateDecide s) = held-decide s
 
-held-run : (acts : List GateAct) (g : GateWorld) → Standing g → Held g → Held (gateRun g acts)
+held-run : (calls : List GateAct) (g : GateWorld) → Standing g → Held g → Held (gateRun g calls)
 unfolding gateRun
 held-run [] g v c = c
-held-run (act ∷ acts) g v c = held-run acts (gateStep g act) (standing-step g v act) (held-step g v c act)
+held-run (act ∷ calls) g v c = held-run calls (gateStep g act) (standing-step g v act) (held-step g v c act)
 
-pub held-all : (acts : List GateAct) → Held (gateRun gateStart acts)
-held-all acts = held-run acts gateStart standing-start held-start
+pub held-all : (calls : List GateAct) → Held (gateRun gateStart calls)
+held-all calls = held-run calls gateStart standing-start held-start

@@ -78,10 +78,10 @@ module _ (w : GateWorld) (k : ℕ) (d : Done (w .approvals) k) where
   done-step (gatePiece s table piece) = after-piece s piece (pieceOf (w .gate) s table piece .gate) (pieceOf (w .gate) s table piece .answer)
   done-step (gateDecide s) = after-decide s (decideOf (w .gate) s .gate) (decideOf (w .gate) s .answer)
 
-pub done-run : (acts : List GateAct) (w : GateWorld) (k : ℕ) → Done (w .approvals) k → Done (gateRun w acts .approvals) k
+pub done-run : (calls : List GateAct) (w : GateWorld) (k : ℕ) → Done (w .approvals) k → Done (gateRun w calls .approvals) k
 unfolding gateRun
 done-run [] w k d = d
-done-run (act ∷ acts) w k d = done-run acts (gateStep w act) k (done-step w k d act)
+done-run (act ∷ calls) w k d = done-run calls (gateStep w act) k (done-step w k d act)
 
 -- deciding decides
 pub decided-now : (w : GateWorld) → Standing w → (s : Serial) (k : ℕ) → Undecided w s k → Done (gateStep w (gateDecide s) .approvals) k
@@ -115,10 +115,10 @@ done-none w v s k e d j u =
     let same : j ≡ k = omega (arith, e, u .serial, v .numbered j (u .inside)) in
     not-both (d .decided) (subst (λ (n : ℕ). approvalAt w n .decided ≡ false) same (u .undecided))
 
-pub none-after : (acts more : List GateAct) (w : GateWorld) (s : Serial) (k : ℕ) → Standing (gateRun w acts) → Standing (gateRun w (acts ++ gateDecide s ∷ more))
-    → Undecided (gateRun w acts) s k → (j : ℕ) → Undecided (gateRun w (acts ++ gateDecide s ∷ more)) s j → ⊥
+pub none-after : (calls more : List GateAct) (w : GateWorld) (s : Serial) (k : ℕ) → Standing (gateRun w calls) → Standing (gateRun w (calls ++ gateDecide s ∷ more))
+    → Undecided (gateRun w calls) s k → (j : ℕ) → Undecided (gateRun w (calls ++ gateDecide s ∷ more)) s j → ⊥
 unfolding gateRun
-none-after acts more w s k v x u =
-    done-none (gateRun w (acts ++ gateDecide s ∷ more)) x s k (sym (u .serial) ∙ v .numbered k (u .inside))
-    (subst (λ (y : GateWorld). Done (y .approvals) k) (sym (run-append w acts (gateDecide s ∷ more)))
-    (done-run more (gateStep (gateRun w acts) (gateDecide s)) k (decided-now (gateRun w acts) v s k u)))
+none-after calls more w s k v x u =
+    done-none (gateRun w (calls ++ gateDecide s ∷ more)) x s k (sym (u .serial) ∙ v .numbered k (u .inside))
+    (subst (λ (y : GateWorld). Done (y .approvals) k) (sym (run-append w calls (gateDecide s ∷ more)))
+    (done-run more (gateStep (gateRun w calls) (gateDecide s)) k (decided-now (gateRun w calls) v s k u)))

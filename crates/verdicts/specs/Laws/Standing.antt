@@ -433,10 +433,10 @@ module _ (g : GateWorld) (v : Standing g) where
   standing-step (gatePiece s table piece) = standing-piece s table piece
   standing-step (gateDecide s) = standing-decide s
 
-pub standing : (acts : List GateAct) (g : GateWorld) → Standing g → Standing (gateRun g acts)
+pub standing : (calls : List GateAct) (g : GateWorld) → Standing g → Standing (gateRun g calls)
 unfolding gateRun
 standing [] g v = v
-standing (act ∷ acts) g v = standing acts (gateStep g act) (standing-step g v act)
+standing (act ∷ calls) g v = standing calls (gateStep g act) (standing-step g v act)
 
 -- an accepted replacement answers the next count
 pub accepts-next : (g : GateWorld) → Standing g → (set run : List ℕ) (e : Edition) (tags : ℕ) → changeOf (g .gate) set (length run) .answer ≡ R.Replaced e tags

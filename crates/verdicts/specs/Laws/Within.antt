@@ -18,7 +18,7 @@ use Rattle.gate.specs.declared.PieceAnswer.{PieceAnswer}
 use Rattle.gate.specs.declared.Piecing.{Piecing}
 use Rattle.gate.specs.declared.Seen.{Seen}
 use Rattle.gate.specs.declared.feeding.Fed.{Fed}
-use Rattle.history.specs.History.{Act, AllBytes, World, accountAt, run, start}
+use Rattle.history.specs.History.{AllBytes, World, accountAt, run, start}
 use Rattle.history.specs.Laws.Feeding.{agrees}
 use Rattle.history.specs.Laws.Invariant.{Inv, given}
 use Rattle.history.specs.Laws.LedgerSteps.{sound}
@@ -30,26 +30,27 @@ use Rattle.verdicts.specs.Laws.Onward.{Joined}
 use Rattle.verdicts.specs.Laws.Taken.{cutAfter}
 use Rattle.verdicts.specs.Laws.Whole.{fed-all, long-none}
 use Rattle.verdicts.specs.Taken.{AnswersWithin, OpenIn, takenIn}
+use Rattle.desk.specs.Reached.{Call}
 
 record FedWithin (g : GateWorld) (s : Serial) (piece : Word) : Type 0 where
   pub small : takenIn (g .gate) s ≤ 4294967295
   pub all : takenIn (g .gate) s + length piece ≤ 4294967295 → fedOn (length piece) (g .gate) s (g .table) piece 0 .taken ≡ length piece
   pub none : 4294967295 < takenIn (g .gate) s + length piece → fedOn (length piece) (g .gate) s (g .table) piece 0 .taken ≡ 0
 
-within-by : (acts : List Act) → AllBytes acts → (accepted : ℕ) (seen : List Seen) (approvals : List Approval) → Joined seen (run start acts) → (s : Serial)
-    → OpenIn (gateOf (run start acts) accepted seen approvals .gate) s → (piece : Word) → Below 256 piece → FedWithin (gateOf (run start acts) accepted seen approvals) s piece
-within-by acts b accepted seen approvals j s o piece below = record {
+within-by : (calls : List Call) → AllBytes calls → (accepted : ℕ) (seen : List Seen) (approvals : List Approval) → Joined seen (run start calls) → (s : Serial)
+    → OpenIn (gateOf (run start calls) accepted seen approvals .gate) s → (piece : Word) → Below 256 piece → FedWithin (gateOf (run start calls) accepted seen approvals) s piece
+within-by calls b accepted seen approvals j s o piece below = record {
   small = omega (arith, count, v .kept k inside .small);
-  all = λ h. fed-all (length piece) acts b seen j s (w .desk) (w .table) piece 0 refl refl below (omega arith) (omega arith)
+  all = λ h. fed-all (length piece) calls b seen j s (w .desk) (w .table) piece 0 refl refl below (omega arith) (omega arith)
       (record { k = k; inside = inside; serial = serial; room = o .room; current = o .current; few = omega (arith, count, h) });
-  none = λ h. long-none acts b seen s piece k inside serial (omega (arith, count, h));
+  none = λ h. long-none calls b seen s piece k inside serial (omega (arith, count, h));
 }
   where
     w : World
-    w = run start acts
+    w = run start calls
 
     v : Inv w
-    v = sound acts b .inv
+    v = sound calls b .inv
 
     k : ℕ
     k = given w v s (o .room) .0

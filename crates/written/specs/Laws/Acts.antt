@@ -7,13 +7,13 @@ use lib.ListN.{drop, replicate, take}
 use lib.Seq.{take-add}
 use Rattle.desk.specs.Feed.{feedOf}
 use Rattle.desk.specs.Laws.TakeMany.{many-takings, take-many-reached}
-use Rattle.desk.specs.Reached.{Reached, byCall, callFeed}
+use Rattle.desk.specs.Reached.{byCall, Call, callFeed, callTake, Reached}
 use Rattle.desk.specs.TakeMany.{manyOf, oldest, takeManyOf}
 use Rattle.desk.specs.declared.Desk.{Desk}
 use Rattle.desk.specs.declared.FeedAnswer.{FeedAnswer}
 use Rattle.desk.specs.declared.Record.{Record}
 use Rattle.desk.specs.declared.Serial.{Serial}
-use Rattle.history.specs.History.{Account, Act, AllBytes, World, actFeed, actTake, feeding, grown, onSerial, run}
+use Rattle.history.specs.History.{Account, AllBytes, World, feeding, grown, onSerial, run}
 use Rattle.history.specs.Laws.Becomes.{run-append}
 use Rattle.history.specs.Laws.Takings.{below-rest, bytes-append, emptied, fed-accounts, fed-desk, fed-edition, fed-out, fed-table, grown-none, grown-twice, takes-bytes, takes-run, withOut}
 use Rattle.matching.specs.Words.{AllBelow, Below, Word}
@@ -23,15 +23,15 @@ use Rattle.desk.specs.Layout.{Lent}
 
 -- a history from a world in which bytes are taken for a ticket: the desk then, and the lines of the records handed out
 pub record Comes (w : World) (s : Serial) (taken : Word) (e : Desk) (lines : List ℕ) : Type 0 where
-  pub acts : List Act
-  pub bytes : AllBytes acts
+  pub calls : List Call
+  pub bytes : AllBytes calls
   pub records : List Record
   pub lines-are : lines ≡ linesOf records
-  pub desk-is : run w acts .desk ≡ e
-  pub table-is : run w acts .table ≡ w .table
-  pub out-is : run w acts .out ≡ w .out ++ records
-  pub edition-is : run w acts .edition ≡ w .edition
-  pub accounts-are : run w acts .accounts ≡ onSerial (s .0) (grown taken) (w .accounts)
+  pub desk-is : run w calls .desk ≡ e
+  pub table-is : run w calls .table ≡ w .table
+  pub out-is : run w calls .out ≡ w .out ++ records
+  pub edition-is : run w calls .edition ≡ w .edition
+  pub accounts-are : run w calls .accounts ≡ onSerial (s .0) (grown taken) (w .accounts)
   pub reached : Reached (w .desk) → Reached e
   pub empty : Reached (w .desk) → w .desk .records .count ≡ 0 → e .records .count ≡ 0
 
@@ -39,7 +39,7 @@ rest-comes : (w : World) (s : Serial) (rest : Word) → Below 256 rest
     → Comes w s (take (restTaken s (w .table) (w .desk) rest) rest) (restDesk s (w .table) (w .desk) rest) (restLines s (w .table) (w .desk) rest)
 unfolding run takeManyOf
 rest-comes w s rest below = record {
-  acts = actFeed s rest ∷ replicate m actTake;
+  calls = callFeed s rest ∷ replicate m callTake;
   bytes = (below, takes-bytes m);
   records = oldest m (fed .records);
   lines-are = refl;
@@ -64,7 +64,7 @@ rest-comes w s rest below = record {
     after : World
     after = feeding w s rest fed answer
 
-    taken : run after (replicate m actTake) ≡ withOut after (restDesk s (w .table) (w .desk) rest) (after .out ++ oldest m (fed .records))
+    taken : run after (replicate m callTake) ≡ withOut after (restDesk s (w .table) (w .desk) rest) (after .out ++ oldest m (fed .records))
     taken = takes-run after (fed-desk w s rest fed answer) (many-takings m fed (min-le-left (fed .records .count) 256))
 
 lines-append : (a b : List Record) → linesOf (a ++ b) ≡ linesOf a ++ linesOf b
@@ -82,7 +82,7 @@ rest-comes-by w s table d rest at lent below = rw (← at, ← lent) (rest-comes
 -- one after the other
 pub comes-then : (w : World) (s : Serial) (x y : Word) {d e : Desk} {a b : List ℕ} (c : Comes w s x d a) → Comes (run w (c .acts)) s y e b → Comes w s (x ++ y) e (a ++ b)
 comes-then w s x y c next = record {
-  acts = c .acts ++ next .acts;
+  calls = c .acts ++ next .acts;
   bytes = bytes-append (c .acts) (next .acts) (c .bytes) (next .bytes);
   records = c .records ++ next .records;
   lines-are = ap₂ (λ (a b : List ℕ). a ++ b) (c .lines-are) (next .lines-are) ∙ sym (lines-append (c .records) (next .records));
@@ -107,7 +107,7 @@ comes-then w s x y c next = record {
 pub comes-none : (w : World) (s : Serial) {d : Desk} → w .desk ≡ d → Comes w s [] d []
 unfolding run linesOf
 comes-none w s at = record {
-  acts = [];
+  calls = [];
   bytes = tt;
   records = [];
   lines-are = refl;

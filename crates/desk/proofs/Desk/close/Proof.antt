@@ -3,8 +3,6 @@ use Rattle.desk.specs.Calls.{closeOf}
 use borrow.Author.Needs.{needs}
 use Rattle.desk.proofs.Desk.close.Statement.{statement}
 use Rattle.desk.proofs.Desk.close.Tie as tie
-use Rattle.desk.proofs.Desk.close.Reads as reads
-use Rattle.desk.proofs.Desk.close.Lts as lts
 use Rattle.desk.proofs.rooms.first_room.Reads as first-room-reads
 use Rattle.desk.proofs.rooms.new_ticket.Reads as new-ticket-reads
 

@@ -1,8 +1,6 @@
 use borrow.Author.Needs.{needs}
 use Rattle.desk.proofs.Desk.new.Statement.{statement}
 use Rattle.desk.proofs.Desk.new.Tie as tie
-use Rattle.desk.proofs.Desk.new.Reads as reads
-use Rattle.desk.proofs.Desk.new.Lts as lts
 use Rattle.desk.proofs.rooms.new_ticket.Reads as new-ticket-reads
 
 new-ticket-requires : tie.Need-new-ticket-requires

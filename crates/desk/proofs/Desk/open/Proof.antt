@@ -3,8 +3,6 @@ use Rattle.desk.specs.Calls.{openOf}
 use borrow.Author.Needs.{needs}
 use Rattle.desk.proofs.Desk.open.Statement.{statement}
 use Rattle.desk.proofs.Desk.open.Tie as tie
-use Rattle.desk.proofs.Desk.open.Reads as reads
-use Rattle.desk.proofs.Desk.open.Lts as lts
 use Rattle.desk.proofs.rooms.first_room.Reads as first-room-reads
 use Rattle.desk.proofs.rooms.new_ticket.Reads as new-ticket-reads
 

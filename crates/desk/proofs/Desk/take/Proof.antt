@@ -6,8 +6,6 @@ use Rattle.desk.specs.Calls.{takeOf}
 use borrow.Author.Needs.{needs}
 use Rattle.desk.proofs.Desk.take.Statement.{statement}
 use Rattle.desk.proofs.Desk.take.Tie as tie
-use Rattle.desk.proofs.Desk.take.Reads as reads
-use Rattle.desk.proofs.Desk.take.Lts as lts
 
 -- the place after the first, round the ring
 turned : (n : ℕ) → (n % 256 + 1) % 256 ≡ (n + 1) % 256

@@ -2,8 +2,6 @@ use Rattle.desk.proofs.HandingOut.{taken-many}
 use borrow.Author.Needs.{needs}
 use Rattle.desk.proofs.Desk.take_many.Statement.{statement}
 use Rattle.desk.proofs.Desk.take_many.Tie as tie
-use Rattle.desk.proofs.Desk.take_many.Reads as reads
-use Rattle.desk.proofs.Desk.take_many.Lts as lts
 use Rattle.desk.proofs.shared.hand_out.Reads as hand-out-reads
 use Rattle.desk.proofs.shared.least.Reads as least-reads
 

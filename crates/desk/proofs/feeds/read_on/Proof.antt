@@ -3,8 +3,6 @@ use Rattle.desk.proofs.Scanning.{on-refused, on-stopped, read-on-is}
 use borrow.Author.Needs.{needs}
 use Rattle.desk.proofs.feeds.read_on.Statement.{statement}
 use Rattle.desk.proofs.feeds.read_on.Tie as tie
-use Rattle.desk.proofs.feeds.read_on.Reads as reads
-use Rattle.desk.proofs.feeds.read_on.Lts as lts
 use Rattle.desk.proofs.feeds.damaged.Reads as damaged-reads
 use Rattle.desk.proofs.scan.read_for.Reads as read-for-reads
 use Rattle.desk.proofs.shared.append.Reads as append-reads

@@ -1,10 +1,7 @@
-use native.Mathlib.Omega.{arith}
 use Rattle.desk.proofs.ByAnswer.{one-left, by-tags, by-end, by-fault, by-table}
 use borrow.Author.Needs.{needs}
 use Rattle.desk.proofs.replacements.replaced.Statement.{statement}
 use Rattle.desk.proofs.replacements.replaced.Tie as tie
-use Rattle.desk.proofs.replacements.replaced.Reads as reads
-use Rattle.desk.proofs.replacements.replaced.Lts as lts
 use Rattle.desk.proofs.replacements.under_next.Reads as under-next-reads
 
 enum-known-built : tie.Need-enum-known-built

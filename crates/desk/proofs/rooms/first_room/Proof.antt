@@ -7,8 +7,6 @@ use Rattle.desk.specs.Wanted.{isWanted}
 use Rattle.desk.specs.Laws.Rooms.{Sought, sought-start, sought-here, sought-on, sought-end}
 use Rattle.desk.proofs.rooms.first_room.Statement.{statement}
 use Rattle.desk.proofs.rooms.first_room.Tie as tie
-use Rattle.desk.proofs.rooms.first_room.Reads as reads
-use Rattle.desk.proofs.rooms.first_room.Lts as lts
 use Rattle.desk.proofs.rooms.is_wanted.Reads as is-wanted-reads
 
 abbrev Inv-loop : tie.InvT-loop

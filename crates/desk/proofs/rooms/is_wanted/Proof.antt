@@ -11,8 +11,6 @@ use Rattle.desk.specs.declared.rooms.Wanted.the-variants.{For}
 use borrow.Author.Needs.{needs}
 use Rattle.desk.proofs.rooms.is_wanted.Statement.{statement}
 use Rattle.desk.proofs.rooms.is_wanted.Tie as tie
-use Rattle.desk.proofs.rooms.is_wanted.Reads as reads
-use Rattle.desk.proofs.rooms.is_wanted.Lts as lts
 
 -- a free room is nobody's
 free-room : (w : Wanted) (s : Serial) (t : Ticket) → w ≡ For s → t .serial .0 ≡ 0 → false ≡ isWanted w t

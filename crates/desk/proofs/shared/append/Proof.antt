@@ -1,13 +1,9 @@
 use borrow.Author.Needs.{needs}
 use native.Mathlib.Omega.{arith}
-use Prim.Native.Nat.{_+_, _-_, _<_, _≤_}
-use lib.ListN.{length}
-use mathlib.Core.Path.{_≡_}
+use Prim.Native.Nat.{_-_}
 use Rattle.desk.proofs.Appending.{Appending, appending-start, appending-more, appending-end}
 use Rattle.desk.proofs.shared.append.Statement.{statement}
 use Rattle.desk.proofs.shared.append.Tie as tie
-use Rattle.desk.proofs.shared.append.Reads as reads
-use Rattle.desk.proofs.shared.append.Lts as lts
 
 abbrev Inv-loop : tie.InvT-loop
 Inv-loop serial edition list n q₀ j₀ q j = Appending serial edition list n q₀ q j

@@ -1,14 +1,10 @@
 use lib.ListN.{length-set}
 use borrow.Author.Needs.{needs}
 use native.Mathlib.Omega.{arith}
-use Prim.Native.Nat.{_+_, _-_, _<_, _≤_}
-use lib.ListN.{length}
-use mathlib.Core.Path.{_≡_}
+use Prim.Native.Nat.{_-_}
 use Rattle.desk.proofs.HandingOut.{HandingOut, handing-start, handing-more, handing-end}
 use Rattle.desk.proofs.shared.hand_out.Statement.{statement}
 use Rattle.desk.proofs.shared.hand_out.Tie as tie
-use Rattle.desk.proofs.shared.hand_out.Reads as reads
-use Rattle.desk.proofs.shared.hand_out.Lts as lts
 use Rattle.desk.proofs.shared.wide.Reads as wide-reads
 
 abbrev Inv-loop : tie.InvT-loop

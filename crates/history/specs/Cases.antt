@@ -1,0 +1,92 @@
+-- What each call answers after a history, in the history's own words: by the replacements accepted, the accounts, the tags and the bytes. The
+-- desk's feeds are so held to demand 2: a feed that stops FULL while its matches find room is none of these.
+use Rattle.desk.specs.declared.FeedAnswer.the-variants as F
+use Rattle.desk.specs.declared.OpenAnswer.the-variants as O
+use Rattle.desk.specs.declared.CloseAnswer.the-variants as C
+use Rattle.desk.specs.declared.TakeAnswer.the-variants as K
+use Rattle.desk.specs.declared.ReplaceAnswer.the-variants as R
+use Rattle.matching.specs.declared.Stop.the-variants as S
+use Prim.Native.Nat.{_+_, _-_, _<_, _≤_, suc, ℕ}
+use mathlib.Core.List.{List, [], _++_, _∷_}
+use mathlib.Core.Logic.{_↔_}
+use mathlib.Core.Path.{_≡_}
+use lib.ListN.{length, take}
+use Rattle.desk.specs.Conditions.{SameSlots, ticketOf}
+use Rattle.desk.specs.Layout.{DeskBuilds, DeskRefused, DeskShort, Lent, Order, Sizes, deskPlace}
+use Rattle.desk.specs.Limits.{mostRecords, mostTickets}
+use Rattle.desk.specs.Reached.{callFeed}
+use Rattle.desk.specs.Rooms.{editionOf}
+use Rattle.desk.specs.Shared.{held, recordsOf}
+use Rattle.desk.specs.declared.CloseAnswer.{CloseAnswer}
+use Rattle.desk.specs.declared.Edition.{Edition}
+use Rattle.desk.specs.declared.FeedAnswer.{FeedAnswer}
+use Rattle.desk.specs.declared.OpenAnswer.{OpenAnswer}
+use Rattle.desk.specs.declared.Record.{Record}
+use Rattle.desk.specs.declared.ReplaceAnswer.{ReplaceAnswer}
+use Rattle.desk.specs.declared.Serial.{Serial}
+use Rattle.desk.specs.declared.TakeAnswer.{TakeAnswer}
+use Rattle.history.specs.History.{Account, Gone, OpenOrStale, OpenTicket, StaleTicket, World, accountAt, lives, step, stream}
+use Rattle.history.specs.Readings.{Demanded}
+use Rattle.matching.specs.Limits.{largest}
+use Rattle.matching.specs.Reading.{Outcome}
+use Rattle.matching.specs.Words.{Word}
+use Rattle.matching.specs.declared.Stop.{Stop}
+use Rattle.tagset.specs.declared.SetFault.{SetFault}
+
+-- ---- a feed
+
+-- a feed that reads for an account, over the table as left: its outcome is as demanded, from the account's bytes on and with the room that the
+-- list has left; it answers that outcome's numbers; the outcome's records, of its serial and its ticket's edition, are what it adds behind all
+-- others; and the ticket's place is then that after the bytes
+pub record FedAsDemanded (w : World) (s : Serial) (a : Account) (piece : Word) (answer : FeedAnswer) : Type 0 where
+  pub outcome : Outcome
+  pub demanded : Demanded (a .tags) (a .bytes) piece (mostRecords - length (held (w .desk .records))) outcome
+  pub answered : answer ≡ F.Fed (outcome .taken) (length (outcome .found)) (outcome .stop)
+  pub added : stream (step w (callFeed s (w .table) piece)) ≡ stream w ++ recordsOf s (editionOf (a .edition)) (outcome .found)
+  pub place : ticketOf (step w (callFeed s (w .table) piece) .desk) s .place ≡ deskPlace (a .tags) (a .bytes ++ take (outcome .taken) piece)
+
+-- what a feed answers over any table: NO TICKET exactly if its serial was never given or is closed; STALE, with the ticket's edition, exactly if
+-- that is older than the one in force; a table of another slot count than the last replacement's is a damaged one; then LONG exactly if the
+-- ticket's bytes and the piece pass the largest count; and where it is lent the table as left, as was each feed before it (`Left`), every byte
+-- up to the first whose matches find no room
+pub record FeedAnswers (Left : Type 0) (w : World) (s : Serial) (table : Lent) (piece : Word) (answer : FeedAnswer) : Type 0 where
+  pub no-ticket : (answer ≡ F.NoTicket) ↔ Gone w s
+  pub stale : (e : Edition) → (answer ≡ F.Stale e) ↔ ((k : ℕ) × StaleTicket w s k × (e .0 ≡ accountAt w k .edition))
+  pub other-slots : (k : ℕ) → OpenTicket w s k → (SameSlots (w .desk) table → ⊥) → answer ≡ F.Fed 0 0 S.Damaged
+  pub long : (answer ≡ F.Long) ↔ ((k : ℕ) × OpenTicket w s k × SameSlots (w .desk) table × (largest < length (accountAt w k .bytes) + length piece))
+  pub fed : (taken records : ℕ) (stop : Stop) → answer ≡ F.Fed taken records stop → (k : ℕ) × OpenTicket w s k
+  pub reads : Left → table ≡ w .table → (k : ℕ) → OpenTicket w s k → length (accountAt w k .bytes) + length piece ≤ largest → FedAsDemanded w s (accountAt w k) piece answer
+
+-- ---- an opening
+
+-- NO SET exactly if no replacement was accepted; then SERIAL exactly if the largest serial was given; then NO ROOM exactly if as many tickets as
+-- there are rooms are not closed, so that a closed ticket's room is used again; else the serial one above the number opened
+pub record OpenAnswers (w : World) (answer : OpenAnswer) : Type 0 where
+  pub no-set : (answer ≡ O.NoSet) ↔ (length (w .orders) ≡ 0)
+  pub serial-end : (answer ≡ O.SerialEnd) ↔ ((0 < length (w .orders)) × (length (w .accounts) ≡ largest))
+  pub no-room : (answer ≡ O.NoRoom) ↔ ((0 < length (w .orders)) × (length (w .accounts) < largest) × (lives (w .accounts) ≡ mostTickets))
+  pub opened : (s : Serial) → (answer ≡ O.Opened s)
+      ↔ ((0 < length (w .orders)) × (length (w .accounts) < largest) × (lives (w .accounts) < mostTickets) × (s .0 ≡ suc (length (w .accounts))))
+
+-- ---- a replacement
+
+-- a set fault or TABLE exactly if building does; then EDITION exactly if the largest edition is in force; else the edition one above the number of
+-- replacements accepted, and the number of tags
+pub record ReplaceAnswers (w : World) (order : Order) (len : Sizes) (answer : ReplaceAnswer) : Type 0 where
+  pub fault : (x : SetFault) → (answer ≡ R.Fault x) ↔ DeskRefused order x
+  pub table : (machine states : ℕ) → (answer ≡ R.Table machine states) ↔ DeskShort order len machine states
+  pub edition-end : (answer ≡ R.EditionEnd) ↔ ((count : ℕ) × DeskBuilds order len count × (length (w .orders) ≡ largest))
+  pub replaced : (e : Edition) (count : ℕ) → (answer ≡ R.Replaced e count)
+      ↔ (DeskBuilds order len count × (length (w .orders) < largest) × (e .0 ≡ suc (length (w .orders))))
+
+-- ---- a closing, and a taking
+
+-- NO TICKET exactly if its serial was never given or is closed; an open ticket, and a stale one, it closes
+pub record CloseAnswers (w : World) (s : Serial) (answer : CloseAnswer) : Type 0 where
+  pub no-ticket : (answer ≡ C.NoTicket) ↔ Gone w s
+  pub closed : (answer ≡ C.Closed) ↔ ((k : ℕ) × OpenOrStale w s k)
+
+-- NOTHING exactly if no record is held, and else the oldest of those held
+pub record TakeAnswers (w : World) (answer : TakeAnswer) : Type 0 where
+  pub nothing : (answer ≡ K.Nothing) ↔ (held (w .desk .records) ≡ [])
+  pub taken : (x : Record) → (answer ≡ K.Taken x) ↔ ((rest : List Record) × (held (w .desk .records) ≡ x ∷ rest))
