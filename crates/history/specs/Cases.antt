@@ -12,7 +12,7 @@ use mathlib.Core.Logic.{_↔_}
 use mathlib.Core.Path.{_≡_}
 use lib.ListN.{length, take}
 use Rattle.desk.specs.Conditions.{SameSlots, ticketOf}
-use Rattle.desk.specs.Layout.{DeskBuilds, DeskRefused, DeskShort, Lent, Order, Sizes, deskPlace}
+use Rattle.desk.specs.Layout.{DeskBuilds, deskPlace, DeskRefused, DeskShort, deskSlots, deskTable, Lent, Order, orderTags, Sizes, sizesOf}
 use Rattle.desk.specs.Limits.{mostRecords, mostTickets}
 use Rattle.desk.specs.Reached.{callFeed}
 use Rattle.desk.specs.Rooms.{editionOf}
@@ -25,7 +25,7 @@ use Rattle.desk.specs.declared.Record.{Record}
 use Rattle.desk.specs.declared.ReplaceAnswer.{ReplaceAnswer}
 use Rattle.desk.specs.declared.Serial.{Serial}
 use Rattle.desk.specs.declared.TakeAnswer.{TakeAnswer}
-use Rattle.history.specs.History.{Account, Gone, OpenOrStale, OpenTicket, StaleTicket, World, accountAt, lives, step, stream}
+use Rattle.history.specs.History.{Account, accountAt, Gone, lives, OpenOrStale, OpenTicket, Replacement, StaleTicket, step, stream, World}
 use Rattle.history.specs.Readings.{Demanded}
 use Rattle.matching.specs.Limits.{largest}
 use Rattle.matching.specs.Reading.{Outcome}
@@ -78,6 +78,13 @@ pub record ReplaceAnswers (w : World) (order : Order) (len : Sizes) (answer : Re
   pub edition-end : (answer ≡ R.EditionEnd) ↔ ((count : ℕ) × DeskBuilds order len count × (length (w .orders) ≡ largest))
   pub replaced : (e : Edition) (count : ℕ) → (answer ≡ R.Replaced e count)
       ↔ (DeskBuilds order len count × (length (w .orders) < largest) × (e .0 ≡ suc (length (w .orders))))
+
+-- what is in force is what a replacement left: its tags, the run that it was lent as building leaves it, and the slots of that as the desk
+-- remembers them
+pub record LeftBy (w : World) (o : Replacement) : Type 0 where
+  pub tags : w .tags ≡ orderTags (o .order)
+  pub table : w .table ≡ deskTable (o .order) (o .run)
+  pub slots : w .desk .slots ≡ deskSlots (o .order) (sizesOf (o .run))
 
 -- ---- a closing, and a taking
 

@@ -4,7 +4,7 @@ use Prim.Native.Nat.{_<_, suc, ℕ}
 use mathlib.Core.List.{List, []}
 use mathlib.Core.Logic.{_⊎_, inl, inr}
 use mathlib.Core.Path.{_∙_, _≡_, ap, subst, sym}
-use lib.ListN.{length}
+use lib.ListN.{getD, length}
 use Rattle.desk.specs.Reached.{Call, Reached}
 use Rattle.desk.specs.Rooms.{roomOf, serialOf, ticketIn}
 use Rattle.desk.specs.State.{stateOf}
@@ -14,13 +14,14 @@ use Rattle.history.specs.History.{accountAt, AllBytes, AsLeft, OpenOrSta
 use Rattle.history.specs.Laws.Answering.{open-room}
 use Rattle.history.specs.Laws.Becomes.{Becomes, becomes-sound}
 use Rattle.history.specs.Laws.Invariant.{Inv, Stranger, inv-start}
-use Rattle.history.specs.Laws.Ledger.{ledger-start}
+use Rattle.history.specs.Laws.Ledger.{ledger-start, noOrder}
 use Rattle.history.specs.Laws.LedgerSteps.{sound, sound-left, SoundLeft}
 use Rattle.history.specs.Laws.ServingAll.{served}
 use Rattle.history.specs.Laws.States.{known-or-not, records-same, states-same}
 use Rattle.history.specs.Served.{NoneRefused, joined, serving}
 use Rattle.matching.specs.Words.{Word}
 use Rattle.desk.specs.Layout.{Kind}
+use Rattle.history.specs.Cases.{LeftBy}
 
 -- the serials that openings answered are 1, 2, .. in order, so none was given twice; the edition in force is the number of replacements
 -- accepted; and the desk is one that the calls have made
@@ -33,6 +34,11 @@ pub numbered : (kind : Kind) (calls : List Call) → AllBytes calls → Numbered
 numbered kind calls b =
     let s = sound kind calls b in
     record { serials = s .inv .numbered; editions = sym (s .ledger .editions); reached = s .inv .reached }
+
+-- THE LAST REPLACEMENT IS IN FORCE: its tags, its table, and the slots that the desk asks of a lent table
+pub last-in-force : (kind : Kind) (calls : List Call) → AllBytes calls → (e : ℕ) → length (run (start kind) calls .orders) ≡ suc e
+    → LeftBy (run (start kind) calls) (getD (run (start kind) calls .orders) e noOrder)
+last-in-force kind calls b e q = let g = sound kind calls b .ledger in g .last e (sym (g .editions) ∙ q)
 
 -- FIRST PART. For every ticket, the records taken out and those still held, in order, are the occurrences of the tags of the edition under
 -- which it was opened, in the bytes taken for it

@@ -57,7 +57,7 @@ module _ {Left : Type 0} (w : World) (v : Inv Left w) (g : Ledger w) (i : ℕ) (
     few-editions = g .few-editions;
     few-serials = omega (arith, count, g .few-serials, v .serials);
     fine = g .fine;
-    tags = g .tags;
+    last = λ e q. (let l = g .last e q in record { tags = l .tags; table = l .table; slots = l .slots });
     account-tags = λ k h. tags-new k (decLe (suc k) (length (w .accounts))) h;
     rising = λ a b h l. rising-new a b h l (decLe (suc b) (length (w .accounts)));
     roomy = λ k h. roomy-new k h (decLe (suc k) (length (w .accounts)));
@@ -80,7 +80,7 @@ module _ {Left : Type 0} (w : World) (v : Inv Left w) (g : Ledger w) (i : ℕ) (
       tags-new : (k : ℕ) → Dec (suc k ≤ length (w .accounts)) → k < length (after .accounts) → (e : ℕ) → accountAt after k .edition ≡ suc e
           → accountAt after k .tags ≡ tagsOfOrder (orderAt w e)
       tags-new k (yes b) h e q = ap (λ (a : Account). a .tags) (old k b) ∙ g .account-tags k b e (ap (λ (a : Account). a .edition) (sym (old k b)) ∙ q)
-      tags-new k (no b) h e q = let z = last k (at-end k b h) in ap (λ (a : Account). a .tags) z ∙ g .tags e (ap (λ (a : Account). a .edition) (sym z) ∙ q)
+      tags-new k (no b) h e q = let z = last k (at-end k b h) in ap (λ (a : Account). a .tags) z ∙ g .last e (ap (λ (a : Account). a .edition) (sym z) ∙ q) .tags
 
       rising-new : (a b : ℕ) → a ≤ b → b < length (after .accounts) → Dec (suc b ≤ length (w .accounts)) → accountAt after a .edition ≤ accountAt after b .edition
       rising-new a b h l (yes q) = rw (old a (omega arith), old b q) (g .rising a b h q)

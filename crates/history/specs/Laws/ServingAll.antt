@@ -76,7 +76,7 @@ module _ (os : List Replacement) (fine : AllFine os) (few : length os ≤ larges
 
   tags-are : (w : World) → SoundLeft w → (e : ℕ) → suc e ≤ length os → w .orders ≡ take (suc e) os → w .tags ≡ tagsOfOrder (getD os e noOrder)
   tags-are w s e h q =
-      s .ledger .tags e (edition-is w s (suc e) h q)
+      s .ledger .last e (edition-is w s (suc e) h q) .tags
       ∙ ap (λ (l : List Replacement). tagsOfOrder (getD l e noOrder)) q ∙ ap tagsOfOrder (getD-take (suc e) os e noOrder (omega arith))
 
   at-servedOne : (w : World) (pre : List Account) (a : Account) → SoFar w pre → Ready os pre a → w .edition ≤ a .edition → (ps : List Word) → joined ps ≡ a .bytes
