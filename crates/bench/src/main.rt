@@ -6,6 +6,7 @@ use desk::Replacing;
 use desk::Serial;
 ghost use mathlib.Core.Path.{_≡_};
 ghost use lib.ListN.{length, take};
+ghost use Rattle.desk.specs.Layout.{bySet, oneBit};
 ghost use Rattle.desk.specs.Calls.{newDesk};
 ghost use Rattle.desk.specs.Replace.{replaceOf, replacedRun};
 
@@ -29,7 +30,7 @@ fn read_set(bytes: &mut [u8; 4096]) -> usize {
 
 // A new desk under the set of the first n bytes.
 fn replaced(set: &[u8; 4096], n: usize, table: &mut [u16; 11496]) -> Replacing
-    ensures { λ r. ⌜ (r ≡ replaceOf newDesk (take n (now (set .entry))) (length (now (table .entry)))) × (now (table .exit) ≡ replacedRun newDesk (take n (now (set .entry))) (now (table .entry))) ⌝ }
+    ensures { λ r. ⌜ (r ≡ replaceOf (newDesk oneBit) (bySet (take n (now (set .entry)))) (length (now (table .entry)))) × (now (table .exit) ≡ replacedRun (newDesk oneBit) (bySet (take n (now (set .entry)))) (now (table .entry))) ⌝ }
 {
     let bytes: &[u8] = set;
     if n < bytes.len() {

@@ -21,6 +21,7 @@ use Rattle.calling.specs.declared.State.{State}
 use Rattle.tables.specs.Building.{builtOf, tableOf}
 use Rattle.tables.specs.declared.Built.{Built}
 use Rattle.writing.specs.Buffer.{Buffer, Puts}
+use Rattle.desk.specs.Layout.{bySet, oneBit}
 
 -- one desk, one set, one table buffer, and how many of its first numbers are lent
 pub record Held : Type 0 where
@@ -31,7 +32,7 @@ pub record Held : Type 0 where
 
 -- at first: a new desk, no bytes, a table of zeros, 479 slots of 24 numbers lent
 abbrev pub heldAtFirst : Held
-heldAtFirst = record { desk = newDesk; bytes = []; table = replicate 131841 0; lent = 11496 }
+heldAtFirst = record { desk = newDesk oneBit; bytes = []; table = replicate 131841 0; lent = 11496 }
 
 -- the lent part of the table
 abbrev pub lentTable : Held → List ℕ
@@ -60,8 +61,8 @@ lendOn h lent = answered (record { desk = h .desk; bytes = h .bytes; table = h .
 
 abbrev pub replaceOn : Held → Answered
 replaceOn h =
-    answered (withLent (withDesk h (replaceOf (h .desk) (h .bytes) (length (lentTable h)) .desk)) (replacedRun (h .desk) (h .bytes) (lentTable h)))
-    (replaceLine (replaceOf (h .desk) (h .bytes) (length (lentTable h)) .answer))
+    answered (withLent (withDesk h (replaceOf (h .desk) (bySet (h .bytes)) (length (lentTable h)) .desk)) (replacedRun (h .desk) (bySet (h .bytes)) (lentTable h)))
+    (replaceLine (replaceOf (h .desk) (bySet (h .bytes)) (length (lentTable h)) .answer))
 
 abbrev pub openOn : Held → Answered
 openOn h = answered (withDesk h (openOf (h .desk) .desk)) (openLine (openOf (h .desk) .answer))

@@ -22,6 +22,7 @@ use Rattle.calling.specs.Calls.{Held, Answered, answered, withDesk, held
 use Rattle.calling.specs.declared.State.{State}
 use Rattle.tables.specs.declared.Built.{Built}
 use Rattle.writing.specs.Buffer.{Buffer, Puts}
+use Rattle.desk.specs.Layout.{bySet}
 
 -- a text that is known under another name
 said : {b a : Buffer} {t u : List ℕ} → t ≡ u → Puts b t a → Puts b u a
@@ -55,18 +56,18 @@ abbrev pub heldAfter : State → Desk → List ℕ → List ℕ → List ℕ →
 heldAfter s d bytes table run n = record { desk = d; bytes = take (s .held) bytes; table = run ++ drop n table; lent = s .lent }
 
 pub did-replace : (s : State) (bytes table run : List ℕ) (r : Replacing) {b a : Buffer}
-    → r ≡ replaceOf (s .desk) (take (s .held - 0) bytes) (length (take (s .lent - 0) table)) → run ≡ replacedRun (s .desk) (take (s .held - 0) bytes) (take (s .lent - 0) table)
+    → r ≡ replaceOf (s .desk) (bySet (take (s .held - 0) bytes)) (length (take (s .lent - 0) table)) → run ≡ replacedRun (s .desk) (bySet (take (s .held - 0) bytes)) (take (s .lent - 0) table)
     → Puts b (replaceLine (r .answer)) a → Did (replaceOn (heldBy s bytes table)) b (heldAfter s (r .desk) bytes table run (s .lent - 0)) a
 did-replace s bytes table run r e f p =
     let z = off (s .held) in
     let y = off (s .lent) in
-    let is : r ≡ replaceOf (s .desk) (take (s .held) bytes) (length (take (s .lent) table)) = rw (z, y) at e in
-    let left : run ≡ replacedRun (s .desk) (take (s .held) bytes) (take (s .lent) table) = rw (z, y) at f in
+    let is : r ≡ replaceOf (s .desk) (bySet (take (s .held) bytes)) (length (take (s .lent) table)) = rw (z, y) at e in
+    let left : run ≡ replacedRun (s .desk) (bySet (take (s .held) bytes)) (take (s .lent) table) = rw (z, y) at f in
     record {
       same =
           ap (λ (x : Replacing). heldAfter s (x .desk) bytes table run (s .lent - 0)) is
-          ∙ ap (λ (l : List ℕ). heldAfter s (replaceOf (s .desk) (take (s .held) bytes) (length (take (s .lent) table)) .desk) bytes table l (s .lent - 0)) left
-          ∙ ap (heldAfter s (replaceOf (s .desk) (take (s .held) bytes) (length (take (s .lent) table)) .desk) bytes table (replacedRun (s .desk) (take (s .held) bytes) (take (s .lent) table))) y;
+          ∙ ap (λ (l : List ℕ). heldAfter s (replaceOf (s .desk) (bySet (take (s .held) bytes)) (length (take (s .lent) table)) .desk) bytes table l (s .lent - 0)) left
+          ∙ ap (heldAfter s (replaceOf (s .desk) (bySet (take (s .held) bytes)) (length (take (s .lent) table)) .desk) bytes table (replacedRun (s .desk) (bySet (take (s .held) bytes)) (take (s .lent) table))) y;
       puts = said (ap (λ (x : Replacing). replaceLine (x .answer)) is) p;
     }
 

@@ -23,6 +23,7 @@ ghost use mathlib.Core.Path.{_≡_};
 ghost use Prim.Native.Nat.{_≤_};
 ghost use lib.ListN.{length};
 ghost use Rattle.writing.specs.Buffer.{buffer};
+ghost use Rattle.desk.specs.Layout.{oneBit};
 ghost use Rattle.desk.specs.Calls.{newDesk};
 ghost use Rattle.script.specs.Calls.{Bounded, meant, callOf};
 ghost use Rattle.calling.specs.Calls.{heldBy, Within, Did, callOn};
@@ -36,7 +37,7 @@ pub struct State {
 }
 
 pub fn new_state() -> State
-    ensures { λ r. ⌜ (r .desk ≡ newDesk) × (r .held ≡ 0) × (r .lent ≡ 11496) × (r .used ≡ 0) ⌝ }
+    ensures { λ r. ⌜ (r .desk ≡ newDesk oneBit) × (r .held ≡ 0) × (r .lent ≡ 11496) × (r .used ≡ 0) ⌝ }
 {
     let desk = Desk::new();
     State {

@@ -7,6 +7,7 @@ use numbers::Answer;
 ghost use mathlib.Core.Path.{_≡_};
 ghost use mathlib.Core.List.{[], _∷_};
 ghost use lib.ListN.{length};
+ghost use Rattle.desk.specs.Layout.{bySet, oneBit};
 ghost use Rattle.desk.specs.Rooms.{serialOf};
 ghost use Rattle.desk.specs.Calls.{newDesk, openOf, closeOf, takeOf};
 ghost use Rattle.desk.specs.Replace.{replaceOf, replacedRun};
@@ -62,14 +63,14 @@ pub extern "C" fn sleet_version() -> u64
 
 #[no_mangle]
 pub extern "C" fn sleet_desk_new() -> Desk
-    ensures { λ r. ⌜ r ≡ newDesk ⌝ }
+    ensures { λ r. ⌜ r ≡ newDesk oneBit ⌝ }
 {
     Desk::new()
 }
 
 #[no_mangle]
 pub extern "C" fn sleet_desk_replace(desk: Desk, set: &[u8], table: &mut [u16]) -> Reply
-    ensures { λ r. ⌜ (r .desk ≡ replaceOf desk (now (set .entry)) (length (now (table .entry))) .desk) × (r .answer ≡ replaceAnswer (replaceOf desk (now (set .entry)) (length (now (table .entry))) .answer)) × (now (table .exit) ≡ replacedRun desk (now (set .entry)) (now (table .entry))) ⌝ }
+    ensures { λ r. ⌜ (r .desk ≡ replaceOf desk (bySet (now (set .entry))) (length (now (table .entry))) .desk) × (r .answer ≡ replaceAnswer (replaceOf desk (bySet (now (set .entry))) (length (now (table .entry))) .answer)) × (now (table .exit) ≡ replacedRun desk (bySet (now (set .entry))) (now (table .entry))) ⌝ }
 {
     let r = desk.replace(set, table);
     let after = r.desk;
@@ -158,14 +159,14 @@ pub extern "C" fn sleet_desk_state(desk: Desk, serial: u32) -> Answer
 
 #[no_mangle]
 pub extern "C" fn sleet_gate_new() -> Gate
-    ensures { λ r. ⌜ r ≡ newGate ⌝ }
+    ensures { λ r. ⌜ r ≡ newGate oneBit ⌝ }
 {
     Gate::new()
 }
 
 #[no_mangle]
 pub extern "C" fn sleet_gate_replace(gate: Gate, set: &[u8], table: &mut [u16]) -> GateReply
-    ensures { λ r. ⌜ (r .gate ≡ changeOf gate (now (set .entry)) (length (now (table .entry))) .gate) × (r .answer ≡ replaceAnswer (changeOf gate (now (set .entry)) (length (now (table .entry))) .answer)) × (now (table .exit) ≡ replacedRun (gate .desk) (now (set .entry)) (now (table .entry))) ⌝ }
+    ensures { λ r. ⌜ (r .gate ≡ changeOf gate (bySet (now (set .entry))) (length (now (table .entry))) .gate) × (r .answer ≡ replaceAnswer (changeOf gate (bySet (now (set .entry))) (length (now (table .entry))) .answer)) × (now (table .exit) ≡ replacedRun (gate .desk) (bySet (now (set .entry))) (now (table .entry))) ⌝ }
 {
     let r = gate.replace(set, table);
     let after = r.gate;

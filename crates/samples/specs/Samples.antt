@@ -13,7 +13,7 @@ use Rattle.desk.specs.Feed.{feedOf}
 use Rattle.desk.specs.Replace.{replaceOf, replacedRun}
 use Rattle.desk.specs.Rooms.{editionOf, firstRoom, roomOf, serialOf}
 use Rattle.desk.specs.Shared.{pushAll, round}
-use Rattle.history.specs.History.{onSerial, run, start, stream}
+use Rattle.history.specs.History.{AsLeft, onSerial, run, start, stream}
 use Rattle.matching.specs.Machine.{longest, next, prefixes, states, vector, vectorBy, walk, withPrefixes, withTags, withWord}
 use Rattle.matching.specs.Occurrence.{numbersWhere, occurAt, occurrences, occurrencesBy, tagsEnding}
 use Rattle.matching.specs.Reading.{allBelow, flagged, halted, nexts, onesOf, read, tableStep, tookByte, vectorsAt}
@@ -21,12 +21,12 @@ use Rattle.matching.specs.Slicing.{anded, reduced, slice}
 use Rattle.matching.specs.Stepping.{readBy, stepped}
 use Rattle.matching.specs.Table.{built, laid, roomFrom, slot, slots, spot, tagsFor}
 use Rattle.matching.specs.Words.{among, ends, indexOf, same}
-use Rattle.samples.specs.Sets.{a-record, acts-254, acts-255, acts-closed, acts-half, acts-open, asSet, at, ers, he-set, hishers, hx, later, long, one-two, singles, split, startPlace, tags, two, ush, ushers}
+use Rattle.samples.specs.Sets.{a-record, calls-254, calls-255, calls-closed, calls-half, calls-open, asSet, at, ers, he-set, hishers, hx, later, long, one-two, singles, split, startPlace, tags, two, ush, ushers}
 use Rattle.tables.specs.Building.{builtOf, tableOf}
 use Rattle.tagset.specs.Answer.{along, cutAt, setRead, tagsLie}
 use Rattle.tagset.specs.Grammar.{distinct, entriesFrom, entryOf, goodSet, badSet, setOf}
 use Rattle.tagset.specs.declared.Verdict.the-variants.{Good}
-use Rattle.desk.specs.Layout.{deskBuilt, deskRead, deskSlots, deskTable, lentFits, placeIn}
+use Rattle.desk.specs.Layout.{deskBuilt, deskRead, deskSlots, deskTable, lentFits, oneBit, placeIn}
 use Rattle.desk.specs.Reached.{callFeed, callOpen}
 
 -- after "hx" each bit machine is in a state: that state's vector, as the table has it, for machines 0 to 7
@@ -76,42 +76,48 @@ pub record OfReading : Type 0 where
 -- of the desk
 pub record OfDesk : Type 0 where
   -- 9: 254 records held, tags a, aa, piece "aa"
-  pub sample-9-held : run start acts-254 .desk .records .count ≡ 254
-  pub sample-9 : feedOf (run start acts-254 .desk) (serialOf 3) (run start acts-254 .table) (97 ∷ 97 ∷ []) .answer ≡ F.Fed 1 1 S.Full
+  pub sample-9-held : run (start oneBit) calls-254 .desk .records .count ≡ 254
+  pub sample-9 : feedOf (run (start oneBit) calls-254 .desk) (serialOf 3) (run (start oneBit) calls-254 .table) (97 ∷ 97 ∷ []) .answer ≡ F.Fed 1 1 S.Full
   -- 10: with 255 held a byte with one match is taken, and one with two is not
-  pub sample-10-held : run start acts-255 .desk .records .count ≡ 255
-  pub sample-10-one : feedOf (run start acts-255 .desk) (serialOf 3) (run start acts-255 .table) (97 ∷ []) .answer ≡ F.Fed 1 1 S.All
-  pub sample-10-two : feedOf (run start acts-255 .desk) (serialOf 4) (run start acts-255 .table) (97 ∷ []) .answer ≡ F.Fed 0 0 S.Full
+  pub sample-10-held : run (start oneBit) calls-255 .desk .records .count ≡ 255
+  pub sample-10-one : feedOf (run (start oneBit) calls-255 .desk) (serialOf 3) (run (start oneBit) calls-255 .table) (97 ∷ []) .answer ≡ F.Fed 1 1 S.All
+  pub sample-10-two : feedOf (run (start oneBit) calls-255 .desk) (serialOf 4) (run (start oneBit) calls-255 .table) (97 ∷ []) .answer ≡ F.Fed 0 0 S.Full
   -- 12: "ush" then "ers" gives the records of "ushers"
-  pub sample-12 : stream (run start (acts-open ++ callFeed (serialOf 1) ush ∷ callFeed (serialOf 1) ers ∷ []))
-      ≡ stream (run start (acts-open ++ callFeed (serialOf 1) ushers ∷ []))
-  pub sample-12-records : stream (run start (acts-open ++ callFeed (serialOf 1) ushers ∷ []))
+  pub sample-12 : stream (run (start oneBit) (calls-open ++ callFeed (serialOf 1) (split 10 tags) ush ∷ callFeed (serialOf 1) (split 10 tags) ers ∷ []))
+      ≡ stream (run (start oneBit) (calls-open ++ callFeed (serialOf 1) (split 10 tags) ushers ∷ []))
+  pub sample-12-records : stream (run (start oneBit) (calls-open ++ callFeed (serialOf 1) (split 10 tags) ushers ∷ []))
       ≡ a-record 1 1 4 0 ∷ a-record 1 1 4 1 ∷ a-record 1 1 6 3 ∷ []
   -- 13: replaced by the same set again, the old ticket is STALE
-  pub sample-13 : feedOf (run start (acts-half tags) .desk) (serialOf 1) (run start (acts-half tags) .table) ers .answer ≡ F.Stale (editionOf 1)
+  pub sample-13 : feedOf (run (start oneBit) (calls-half tags) .desk) (serialOf 1) (run (start oneBit) (calls-half tags) .table) ers .answer ≡ F.Stale (editionOf 1)
   -- 14: a closed serial is NO TICKET, and its room serves the next opening
-  pub sample-14-feed : feedOf (run start acts-closed .desk) (serialOf 1) (run start acts-closed .table) ush .answer ≡ F.NoTicket
-  pub sample-14-close : closeOf (run start acts-closed .desk) (serialOf 1) .answer ≡ C.NoTicket
-  pub sample-14-room : roomOf (run start acts-closed .desk .tickets) (serialOf 2) ≡ 0
+  pub sample-14-feed : feedOf (run (start oneBit) calls-closed .desk) (serialOf 1) (run (start oneBit) calls-closed .table) ush .answer ≡ F.NoTicket
+  pub sample-14-close : closeOf (run (start oneBit) calls-closed .desk) (serialOf 1) .answer ≡ C.NoTicket
+  pub sample-14-room : roomOf (run (start oneBit) calls-closed .desk .tickets) (serialOf 2) ≡ 0
 
 -- the incident: another set comes while an approval is half read
 pub record Incident : Type 0 where
   -- the rest of it is refused, with the edition of its ticket
-  pub refused : feedOf (run start (acts-half later) .desk) (serialOf 1) (run start (acts-half later) .table) ers .answer ≡ F.Stale (editionOf 1)
+  pub refused : feedOf (run (start oneBit) (calls-half later) .desk) (serialOf 1) (run (start oneBit) (calls-half later) .table) ers .answer ≡ F.Stale (editionOf 1)
   -- read again from its opening, it gives the records of the new set, under the new edition, and none under the old ticket
-  pub again : stream (run start (acts-half later ++ callFeed (serialOf 1) ers ∷ callOpen ∷ callFeed (serialOf 2) ushers ∷ []))
+  pub again : stream (run (start oneBit) (calls-half later ++ callFeed (serialOf 1) (split 10 later) ers ∷ callOpen ∷ callFeed (serialOf 2) (split 10 later) ushers ∷ []))
       ≡ a-record 2 2 2 0 ∷ a-record 2 2 2 1 ∷ a-record 2 2 6 0 ∷ []
+
+-- each feed of these histories is lent the table as the last replacement left it
+pub record LentTables : Type 0 where
+  pub half-read : AsLeft (start oneBit) (calls-half later)
+  pub nearly-full : AsLeft (start oneBit) calls-255
 
 pub record Samples : Type 0 where
   pub of-reading : OfReading
   pub of-desk : OfDesk
   pub incident : Incident
+  pub lent : LentTables
 
 -- THE SAMPLES
 pub samples : Samples
 unfolding asSet singles same among ends indexOf withWord withPrefixes withTags prefixes states longest next walk vectorBy vector slice reduced anded
     spot laid slot slots built roomFrom numbersWhere tagsEnding occurAt occurrencesBy nexts vectorsAt onesOf flagged allBelow halted tookByte stepped readBy tableStep read
-    entryOf entriesFrom distinct setOf along tagsLie setRead cutAt builtOf tableOf firstRoom pushAll openOf closeOf takeOf replaceOf replacedRun feedOf onSerial run round
+    entryOf entriesFrom distinct setOf along tagsLie setRead cutAt builtOf tableOf firstRoom pushAll openOf closeOf takeOf replaceOf replacedRun feedOf onSerial run AsLeft round
     Rattle.desk.specs.Layout.startPlace deskSlots lentFits placeIn deskRead deskBuilt deskTable
 samples = record {
   of-reading = record {
@@ -153,4 +159,8 @@ samples = record {
     sample-14-room = refl;
   };
   incident = record { refused = refl; again = refl };
+  lent = record {
+    half-read = (tt, (tt, (refl, (tt, tt))));
+    nearly-full = (tt, (tt, (refl, (tt, (refl, (tt, (tt, (refl, tt))))))));
+  };
 }

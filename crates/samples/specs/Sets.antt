@@ -9,6 +9,7 @@ use Rattle.matching.specs.Occurrence.{Occurrence}
 use Rattle.matching.specs.Table.{built}
 use Rattle.matching.specs.Words.{Word}
 use Rattle.desk.specs.Reached.{Call, callClose, callFeed, callOpen, callReplace}
+use Rattle.desk.specs.Layout.{bySet}
 
 -- the set of these tags: an entry of kind 1 for each, none of 256 bytes or more
 unfoldable pub asSet : List Word → List ℕ
@@ -74,27 +75,27 @@ abbrev pub startPlace : List ℕ
 startPlace = replicate 8 0
 
 -- three slots a machine are enough for "a", "aa"; a ticket's 127 bytes "a" give 253 records, each "a" of another's first bytes one more
-abbrev pub acts-254 : List Call
-acts-254 =
-    callReplace (asSet one-two) (replicate 72 0)
+abbrev pub calls-254 : List Call
+calls-254 =
+    callReplace (bySet (asSet one-two)) (replicate 72 0)
     ∷ callOpen
-    ∷ callFeed (serialOf 1) (replicate 127 97)
+    ∷ callFeed (serialOf 1) (split 3 one-two) (replicate 127 97)
     ∷ callOpen
-    ∷ callFeed (serialOf 2) (97 ∷ [])
+    ∷ callFeed (serialOf 2) (split 3 one-two) (97 ∷ [])
     ∷ callOpen
     ∷ []
 
-abbrev pub acts-255 : List Call
-acts-255 = acts-254 ++ callOpen ∷ callFeed (serialOf 4) (97 ∷ []) ∷ []
+abbrev pub calls-255 : List Call
+calls-255 = calls-254 ++ callOpen ∷ callFeed (serialOf 4) (split 3 one-two) (97 ∷ []) ∷ []
 
 -- ten slots a machine are enough for "he", "she", "his", "hers"
-abbrev pub acts-open : List Call
-acts-open = callReplace (asSet tags) (replicate 240 0) ∷ callOpen ∷ []
+abbrev pub calls-open : List Call
+calls-open = callReplace (bySet (asSet tags)) (replicate 240 0) ∷ callOpen ∷ []
 
 -- an approval is half read, "ush" of "ushers", when the set is replaced: by itself, or by another
-abbrev pub acts-half : List Word → List Call
-acts-half next = acts-open ++ callFeed (serialOf 1) ush ∷ callReplace (asSet next) (replicate 240 0) ∷ []
+abbrev pub calls-half : List Word → List Call
+calls-half next = calls-open ++ callFeed (serialOf 1) (split 10 tags) ush ∷ callReplace (bySet (asSet next)) (replicate 240 0) ∷ []
 
 -- a ticket closed, and another opened
-abbrev pub acts-closed : List Call
-acts-closed = acts-open ++ callClose (serialOf 1) ∷ callOpen ∷ []
+abbrev pub calls-closed : List Call
+calls-closed = calls-open ++ callClose (serialOf 1) ∷ callOpen ∷ []

@@ -24,14 +24,17 @@ use Rattle.verdicts.specs.Laws.Standing.{standing, standing-start}
 use Rattle.verdicts.specs.Laws.Taken.{answers-taken, open-in, part-short, short-part, taken-of-handed}
 use Rattle.verdicts.specs.Laws.Within.{answers-within}
 use Rattle.verdicts.specs.Taken.{AnswersTaken, AnswersWithin, OpenIn, TakenOfHanded, takenIn}
+use Rattle.desk.specs.Layout.{Kind, Order, Sizes}
+use Rattle.matching.specs.Limits.{mostTags}
+use Rattle.matching.specs.Tags.{tagCount}
 
 -- A PIECE: NO TICKET exactly if no undecided approval has the serial, and STALE, with its edition, exactly if a replacement was accepted since it
 -- began, as when it is decided; else it is read, or cut
-pub piece-exactly : (calls : List GateAct) (s : Serial) (table : List ℕ) (piece : Word)
-    → PieceExactly (gateRun gateStart calls) s (pieceOf (gateRun gateStart calls .gate) s table piece .answer)
-piece-exactly calls s table piece =
-    let w = gateRun gateStart calls in
-    let v = standing calls gateStart standing-start in
+pub piece-exactly : (kind : Kind) (calls : List GateAct) (s : Serial) (table : List ℕ) (piece : Word)
+    → PieceExactly (gateRun (gateStart kind) calls) s (pieceOf (gateRun (gateStart kind) calls .gate) s table piece .answer)
+piece-exactly kind calls s table piece =
+    let w = gateRun (gateStart kind) calls in
+    let v = standing calls (gateStart kind) (standing-start kind) in
     pieces-exactly w s (v .numbered) (pieceOf (w .gate) s table piece .answer) (pieces w v s table piece)
 
 -- over any gate and any table, of a serial with a ticket of the edition in force: answered Read exactly if the ticket counts the whole piece
@@ -40,59 +43,59 @@ pub piece-counts : (g : Gate) (s : Serial) → OpenIn g s → (table : List ℕ)
 piece-counts = answers-taken
 
 -- THE NUMBER OF A CUT, after any history: fewer than the piece has, and as many as the ticket counts more
-pub cut-number : (calls : List GateAct) (s : Serial) (table : List ℕ) (piece : Word) (n : ℕ) → let g = gateRun gateStart calls .gate in
+pub cut-number : (kind : Kind) (calls : List GateAct) (s : Serial) (table : List ℕ) (piece : Word) (n : ℕ) → let g = gateRun (gateStart kind) calls .gate in
     pieceOf g s table piece .answer ≡ P.Cut n → (n < length piece) × (takenIn (pieceOf g s table piece .gate) s ≡ takenIn g s + n)
-cut-number calls s table piece n q =
-    let w = gateRun gateStart calls in
-    let z = piece-exactly calls s table piece .fed .1 (inr (n, q)) in
-    answers-taken (w .gate) s (open-in w (standing calls gateStart standing-start) s (z .0) (z .1) (z .2)) table piece .cut n .0 q
+cut-number kind calls s table piece n q =
+    let w = gateRun (gateStart kind) calls in
+    let z = piece-exactly kind calls s table piece .fed .1 (inr (n, q)) in
+    answers-taken (w .gate) s (open-in w (standing calls (gateStart kind) (standing-start kind)) s (z .0) (z .1) (z .2)) table piece .cut n .0 q
 
 -- TAKEN IS HANDED: after any history the ticket of an undecided approval counts no more bytes than were handed in, and all of them exactly if
 -- each piece was answered Read
-pub taken-is-handed : (calls : List GateAct) (s : Serial) (k : ℕ) → Undecided (gateRun gateStart calls) s k → TakenOfHanded (gateRun gateStart calls) s k
-taken-is-handed calls s k u = taken-of-handed (gateRun gateStart calls) (standing calls gateStart standing-start) s k u
+pub taken-is-handed : (kind : Kind) (calls : List GateAct) (s : Serial) (k : ℕ) → Undecided (gateRun (gateStart kind) calls) s k → TakenOfHanded (gateRun (gateStart kind) calls) s k
+taken-is-handed kind calls s k u = taken-of-handed (gateRun (gateStart kind) calls) (standing calls (gateStart kind) (standing-start kind)) s k u
 
 -- so Unread is answered exactly if the ticket counts fewer bytes than were handed in, and Pass or Hold only if it counts every one
-pub unread-is-short : (calls : List GateAct) (s : Serial) → let w = gateRun gateStart calls in
+pub unread-is-short : (kind : Kind) (calls : List GateAct) (s : Serial) → let w = gateRun (gateStart kind) calls in
     (decideOf (w .gate) s .answer ≡ Q.Unread) ↔ ((k : ℕ) × Undecided w s k × NotReplaced w k × (takenIn (w .gate) s < length (approvalAt w k .handed)))
-unread-is-short calls s =
-    let w = gateRun gateStart calls in
-    let v = standing calls gateStart standing-start in
-    let u = over-any-tables calls s .unread in (
+unread-is-short kind calls s =
+    let w = gateRun (gateStart kind) calls in
+    let v = standing calls (gateStart kind) (standing-start kind) in
+    let u = over-any-tables kind calls s .unread in (
       λ q. (let z = u .0 q in (z .0, z .1, z .2, part-short w v s (z .0) (z .1) (z .3))),
       λ z. u .1 (z .0, z .1, z .2, short-part w v s (z .0) (z .1) (z .3)),
     )
 
-pub pass-is-taken : (calls : List GateAct) (s : Serial) → let w = gateRun gateStart calls in
+pub pass-is-taken : (kind : Kind) (calls : List GateAct) (s : Serial) → let w = gateRun (gateStart kind) calls in
     decideOf (w .gate) s .answer ≡ Q.Pass → (k : ℕ) × Undecided w s k × (takenIn (w .gate) s ≡ length (approvalAt w k .handed))
-pass-is-taken calls s q =
-    let z = over-any-tables calls s .pass q in
-    (z .0, z .1 .waits, taken-is-handed calls s (z .0) (z .1 .waits) .whole .0 (z .1 .whole))
+pass-is-taken kind calls s q =
+    let z = over-any-tables kind calls s .pass q in
+    (z .0, z .1 .waits, taken-is-handed kind calls s (z .0) (z .1 .waits) .whole .0 (z .1 .whole))
 
-pub hold-is-taken : (calls : List GateAct) (s : Serial) (mask : ℕ) → let w = gateRun gateStart calls in
+pub hold-is-taken : (kind : Kind) (calls : List GateAct) (s : Serial) (mask : ℕ) → let w = gateRun (gateStart kind) calls in
     decideOf (w .gate) s .answer ≡ Q.Hold mask → (k : ℕ) × Undecided w s k × (takenIn (w .gate) s ≡ length (approvalAt w k .handed))
-hold-is-taken calls s mask q =
-    let z = over-any-tables calls s .hold mask q in
-    (z .0, z .1 .waits, taken-is-handed calls s (z .0) (z .1 .waits) .whole .0 (z .1 .whole))
+hold-is-taken kind calls s mask q =
+    let z = over-any-tables kind calls s .hold mask q in
+    (z .0, z .1 .waits, taken-is-handed kind calls s (z .0) (z .1 .waits) .whole .0 (z .1 .whole))
 
 -- over tables as left, a piece for a current approval is read whole exactly if its ticket then counts no more than 4,294,967,295 bytes, and is
 -- else cut before its first byte
-pub piece-as-left : (calls : List GateAct) → AsLeft gateStart calls → (s : Serial) (k : ℕ) → let w = gateRun gateStart calls in
+pub piece-as-left : (kind : Kind) (calls : List GateAct) → AsLeft (gateStart kind) calls → (s : Serial) (k : ℕ) → let w = gateRun (gateStart kind) calls in
     Undecided w s k → NotReplaced w k → (piece : Word) → Below 256 piece → AnswersWithin (w .gate) s piece (pieceOf (w .gate) s (w .table) piece .answer)
-piece-as-left calls l s k u n =
-    let w = gateRun gateStart calls in
-    answers-within w (came calls gateStart l came-start) s (open-in w (standing calls gateStart standing-start) s k u n)
+piece-as-left kind calls l s k u n =
+    let w = gateRun (gateStart kind) calls in
+    answers-within w (came calls (gateStart kind) l (came-start kind)) s (open-in w (standing calls (gateStart kind) (standing-start kind)) s k u n)
 
 -- A BEGINNING: NO SET exactly if no replacement was accepted; then SERIAL exactly if 4,294,967,295 approvals were begun; then NO ROOM exactly if
 -- 16 of them are undecided; else the serial one above the number begun
-pub begin-exactly : (calls : List GateAct) → BeginExactly (gateRun gateStart calls) (beginOf (gateRun gateStart calls .gate) .answer)
-begin-exactly calls = begins-exactly (gateRun gateStart calls) (standing calls gateStart standing-start) (held-all calls)
+pub begin-exactly : (kind : Kind) (calls : List GateAct) → BeginExactly (gateRun (gateStart kind) calls) (beginOf (gateRun (gateStart kind) calls .gate) .answer)
+begin-exactly kind calls = begins-exactly (gateRun (gateStart kind) calls) (standing calls (gateStart kind) (standing-start kind)) (held-all kind calls)
 
 -- A REPLACEMENT: a set fault or TABLE exactly if building answers it; then EDITION exactly if 4,294,967,295 were accepted; else the edition one
 -- above the number accepted, and the number of tags
-pub replace-exactly : (calls : List GateAct) (set : List ℕ) (len : ℕ) → ReplaceExactly (gateRun gateStart calls) set len (changeOf (gateRun gateStart calls .gate) set len .answer)
-replace-exactly calls = replaces-exactly (gateRun gateStart calls) (standing calls gateStart standing-start) (held-all calls)
+pub replace-exactly : (kind : Kind) (calls : List GateAct) (order : Order) (len : Sizes) → ReplaceExactly (gateRun (gateStart kind) calls) order len (changeOf (gateRun (gateStart kind) calls .gate) order len .answer)
+replace-exactly kind calls = replaces-exactly (gateRun (gateStart kind) calls) (standing calls (gateStart kind) (standing-start kind)) (held-all kind calls)
 
 -- at most 16 tags are in force, so each has its bit in a mask
-pub few-tags : (calls : List GateAct) → length (gateRun gateStart calls .tags) ≤ 16
-few-tags calls = held-all calls .few-tags
+pub few-tags : (kind : Kind) (calls : List GateAct) → tagCount (gateRun (gateStart kind) calls .tags) ≤ mostTags
+few-tags kind calls = held-all kind calls .few-tags

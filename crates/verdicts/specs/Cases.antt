@@ -5,7 +5,6 @@ use Rattle.gate.specs.declared.PieceAnswer.the-variants as P
 use Rattle.gate.specs.declared.Verdict.the-variants as Q
 use Prim.Native.Nat.{ℕ, suc, _<_}
 use mathlib.Core.Bool.{false}
-use mathlib.Core.List.{List}
 use mathlib.Core.Logic.{_↔_, _⊎_}
 use mathlib.Core.Path.{_≡_}
 use lib.ListN.{length}
@@ -18,11 +17,11 @@ use Rattle.gate.specs.declared.Verdict.{Verdict}
 use Rattle.history.specs.Verdict.{EndsAt}
 use Rattle.matching.specs.Tags.{Tags}
 use Rattle.matching.specs.Words.{Word}
-use Rattle.desk.specs.Layout.{DeskBuilds, DeskShort}
-use Rattle.tagset.specs.Refusals.{Refused}
+use Rattle.desk.specs.Layout.{DeskBuilds, DeskRefused, DeskShort, Order, Sizes}
 use Rattle.tagset.specs.declared.SetFault.{SetFault}
 use Rattle.verdicts.specs.GateHistory.{GateWorld, NotReplaced, Readable, Replaced, Undecided, approvalAt, undecidedOf}
 use Rattle.verdicts.specs.Mask.{maskOf}
+use Rattle.matching.specs.Limits.{largest}
 
 -- no tag ends anywhere in the bytes
 abbrev pub Clean : Tags → Word → Type 0
@@ -84,15 +83,15 @@ module _ (w : GateWorld) (s : Serial) where
 -- so that the room of a decided one serves again; else the serial one above the number begun
 pub record BeginExactly (w : GateWorld) (answer : OpenAnswer) : Type 0 where
   pub no-set : (answer ≡ O.NoSet) ↔ (w .accepted ≡ 0)
-  pub serial-end : (answer ≡ O.SerialEnd) ↔ ((0 < w .accepted) × (length (w .approvals) ≡ 4294967295))
-  pub no-room : (answer ≡ O.NoRoom) ↔ ((0 < w .accepted) × (length (w .approvals) < 4294967295) × (undecidedOf (w .approvals) ≡ 16))
+  pub serial-end : (answer ≡ O.SerialEnd) ↔ ((0 < w .accepted) × (length (w .approvals) ≡ largest))
+  pub no-room : (answer ≡ O.NoRoom) ↔ ((0 < w .accepted) × (length (w .approvals) < largest) × (undecidedOf (w .approvals) ≡ 16))
   pub opened : (s : Serial) → (answer ≡ O.Opened s)
-      ↔ ((0 < w .accepted) × (length (w .approvals) < 4294967295) × (undecidedOf (w .approvals) < 16) × (s .0 ≡ suc (length (w .approvals))))
+      ↔ ((0 < w .accepted) × (length (w .approvals) < largest) × (undecidedOf (w .approvals) < 16) × (s .0 ≡ suc (length (w .approvals))))
 
 -- a replacement: a set fault or TABLE exactly where building answers it; then EDITION where the editions are used up; else the edition one
 -- above the number accepted, and the number of tags
-pub record ReplaceExactly (w : GateWorld) (set : List ℕ) (len : ℕ) (answer : ReplaceAnswer) : Type 0 where
-  pub fault : (x : SetFault) → (answer ≡ R.Fault x) ↔ Refused set x
-  pub table : (machine states : ℕ) → (answer ≡ R.Table machine states) ↔ DeskShort set len machine states
-  pub edition-end : (answer ≡ R.EditionEnd) ↔ ((count : ℕ) × DeskBuilds set len count × (w .accepted ≡ 4294967295))
-  pub replaced : (e : Edition) (count : ℕ) → (answer ≡ R.Replaced e count) ↔ (DeskBuilds set len count × (w .accepted < 4294967295) × (e .0 ≡ suc (w .accepted)))
+pub record ReplaceExactly (w : GateWorld) (order : Order) (len : Sizes) (answer : ReplaceAnswer) : Type 0 where
+  pub fault : (x : SetFault) → (answer ≡ R.Fault x) ↔ DeskRefused order x
+  pub table : (machine states : ℕ) → (answer ≡ R.Table machine states) ↔ DeskShort order len machine states
+  pub edition-end : (answer ≡ R.EditionEnd) ↔ ((count : ℕ) × DeskBuilds order len count × (w .accepted ≡ largest))
+  pub replaced : (e : Edition) (count : ℕ) → (answer ≡ R.Replaced e count) ↔ (DeskBuilds order len count × (w .accepted < largest) × (e .0 ≡ suc (w .accepted)))

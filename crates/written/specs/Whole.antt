@@ -19,38 +19,39 @@ use Rattle.desk.specs.State.{stateOf}
 use Rattle.desk.specs.declared.Desk.{Desk}
 use Rattle.desk.specs.declared.Edition.{Edition}
 use Rattle.desk.specs.declared.Feeding.{Feeding}
-use Rattle.history.specs.History.{Account, AllBytes, World, accountAt, grown, noAccount, onSerial, run, start}
-use Rattle.history.specs.Laws.Becomes.{run-append}
+use Rattle.history.specs.History.{Account, accountAt, grown, noAccount, onSerial, Proper, run, start, step, World}
+use Rattle.history.specs.Laws.Becomes.{proper-append, proper-one, run-append}
 use Rattle.history.specs.Laws.Feeding.{agrees}
 use Rattle.history.specs.Laws.Invariant.{Inv}
-use Rattle.history.specs.Laws.LedgerSteps.{sound}
+use Rattle.history.specs.Laws.LedgerSteps.{sound-left}
 use Rattle.history.specs.Laws.States.{state-is, stateOfAccount}
-use Rattle.history.specs.Laws.Takings.{below-rest, bytes-append}
+use Rattle.history.specs.Laws.Takings.{below-rest}
 use Rattle.history.specs.Progress.{progress}
 use Rattle.history.specs.Served.{joined}
-use Rattle.matching.specs.Occurrence.{occurrences}
 use Rattle.matching.specs.Words.{AllBelow, Below, Word}
 use Rattle.serving.specs.Lines.{linesOf}
 use Rattle.serving.specs.Serving.{Served, ServedAll, all-taken, no-piece, none-taken, one-piece, restTaken, some-taken}
 use Rattle.tagset.specs.Grammar.{goodSet, setOf}
 use Rattle.written.specs.Laws.Acts.{Comes, rest-comes-by, served-comes}
 use Rattle.written.specs.Occurrences.{Begun, accountOf, begun, writes-the-occurrences}
-use Rattle.desk.specs.Layout.{Lent, sizesOf}
+use Rattle.desk.specs.Layout.{bySet, Lent, oneBit, sizesOf}
 use Rattle.desk.specs.Reached.{Call, callOpen, callReplace}
+use Rattle.matching.specs.Tags.{exact, foundIn}
+use Rattle.matching.specs.Limits.{largest}
 
 -- a history in which the one ticket is open and has taken these bytes, and no record is held
 pub record Ready (ts : List Word) (before : Word) (calls : List Call) : Type 0 where
-  pub bytes : AllBytes calls
-  pub accounts-are : run start calls .accounts ≡ accountOf ts before ∷ []
-  pub edition-is : run start calls .edition ≡ 1
-  pub empty : run start calls .desk .records .count ≡ 0
+  pub proper : Proper (start oneBit) calls
+  pub accounts-are : run (start oneBit) calls .accounts ≡ accountOf ts before ∷ []
+  pub edition-is : run (start oneBit) calls .edition ≡ 1
+  pub empty : run (start oneBit) calls .desk .records .count ≡ 0
 
 module _ {ts : List Word} {before : Word} {calls : List Call} (ready : Ready ts before calls) where
   abbrev w : World
-  w = run start calls
+  w = run (start oneBit) calls
 
-  v : Inv w
-  v = sound calls (ready .bytes) .inv
+  v : Inv (Unit {0}) w
+  v = sound-left oneBit calls (ready .proper .0) (ready .proper .1) .inv
 
   one : 0 < length (w .accounts)
   one = rw (ready .accounts-are) (omega arith)
@@ -61,7 +62,7 @@ module _ {ts : List Word} {before : Word} {calls : List Call} (ready : Ready ts 
   ticket-open : stateOf (w .desk) (serialOf 1) ≡ A.Open (editionOf 1) (length before)
   ticket-open = state-is w v 0 one ∙ ap (λ (a : Account). stateOfAccount (w .edition) a) account ∙ ap (λ (e : ℕ). stateOfAccount e (accountOf ts before)) (ready .edition-is)
 
-  not-long : (piece : Word) → length before + length piece ≤ 4294967295 → feedOf (w .desk) (serialOf 1) (w .table) piece .answer ≡ F.Long → ⊥
+  not-long : (piece : Word) → length before + length piece ≤ largest → feedOf (w .desk) (serialOf 1) (w .table) piece .answer ≡ F.Long → ⊥
   not-long piece few e = go _ (feeds (w .desk) (serialOf 1) (w .table) piece) e
     where
       go : (r : Feeding) → Feeds (w .desk) (roomOf (w .desk .tickets) (serialOf 1)) (w .table) piece r → r .answer ≡ F.Long → ⊥
@@ -73,19 +74,19 @@ module _ {ts : List Word} {before : Word} {calls : List Call} (ready : Ready ts 
       go r (feed-long h n m l) q =
           omega (arith, l, few, agrees w v (serialOf 1) 0 one refl h .taken, ap (λ (a : Account). length (a .bytes)) account)
 
-  some-bytes : (c : ℕ) (piece : Word) → Below 256 (c ∷ piece) → length before + length (c ∷ piece) ≤ 4294967295 → 0 < restTaken (serialOf 1) (w .table) (w .desk) (c ∷ piece)
+  some-bytes : (c : ℕ) (piece : Word) → Below 256 (c ∷ piece) → length before + length (c ∷ piece) ≤ largest → 0 < restTaken (serialOf 1) (w .table) (w .desk) (c ∷ piece)
   some-bytes c piece below few =
-      progress calls (ready .bytes) (serialOf 1) (editionOf 1) (length before) ticket-open (ready .empty) c piece below (not-long (c ∷ piece) few)
+      progress oneBit calls (ready .proper .0) (serialOf 1) (editionOf 1) (length before) ticket-open (ready .empty) c piece (not-long (c ∷ piece) few)
 
   -- after a history that goes on from there
-  ready-on : {taken : Word} {e : Desk} {lines : List ℕ} (c : Comes w (serialOf 1) taken e lines) → Ready ts (before ++ taken) (calls ++ c .acts)
+  ready-on : {taken : Word} {e : Desk} {lines : List ℕ} (c : Comes w (serialOf 1) taken e lines) → Ready ts (before ++ taken) (calls ++ c .calls)
   unfolding onSerial
   ready-on {taken} c = record {
-    bytes = bytes-append calls (c .acts) (ready .bytes) (c .bytes);
-    accounts-are = ap (λ (x : World). x .accounts) (run-append start calls (c .acts)) ∙ c .accounts-are ∙ ap (λ (l : List Account). onSerial 1 (grown taken) l) (ready .accounts-are);
-    edition-is = ap (λ (x : World). x .edition) (run-append start calls (c .acts)) ∙ c .edition-is ∙ ready .edition-is;
+    proper = proper-append (start oneBit) calls (c .calls) (ready .proper) (c .proper);
+    accounts-are = ap (λ (x : World). x .accounts) (run-append (start oneBit) calls (c .calls)) ∙ c .accounts-are ∙ ap (λ (l : List Account). onSerial 1 (grown taken) l) (ready .accounts-are);
+    edition-is = ap (λ (x : World). x .edition) (run-append (start oneBit) calls (c .calls)) ∙ c .edition-is ∙ ready .edition-is;
     empty =
-        ap (λ (x : World). x .desk .records .count) (run-append start calls (c .acts))
+        ap (λ (x : World). x .desk .records .count) (run-append (start oneBit) calls (c .calls))
         ∙ ap (λ (d : Desk). d .records .count) (c .desk-is)
         ∙ c .empty (v .reached) (ready .empty);
   }
@@ -95,7 +96,7 @@ parts-length before piece t h = omega (arith, length-append before (take t piece
 
 -- a piece that isn't LONG is taken whole
 whole : {ts : List Word} {before : Word} (calls : List Call) {table : Lent} {d e : Desk} {piece : Word} {lines : List ℕ} {n : ℕ} → Ready ts before calls
-    → run start calls .desk ≡ d → run start calls .table ≡ table → Below 256 piece → length before + length piece ≤ 4294967295
+    → run (start oneBit) calls .desk ≡ d → run (start oneBit) calls .table ≡ table → Below 256 piece → length before + length piece ≤ largest
     → Served (serialOf 1) table d piece e lines n → n ≡ length piece
 whole calls ready at lent below few all-taken = refl
 whole calls {table} {d} {piece = []} ready at lent below few (none-taken some none) = absurd (omega arith)
@@ -105,46 +106,50 @@ whole calls {table} {d} {piece = c ∷ piece} ready at lent below few (none-take
 whole {before = before} calls {table} {d} {piece = piece} ready at lent below few (some-taken some more) =
     let s = serialOf 1 in
     let t = restTaken s table d piece in
-    let c = rest-comes-by (run start calls) s table d piece at lent below in
+    let c = rest-comes-by (run (start oneBit) calls) s table d piece at lent below in
     let part = fed-at-most d s table piece in
-    let same = run-append start calls (c .acts) in
-    let left : length (before ++ take t piece) + length (drop t piece) ≤ 4294967295 = omega (arith, parts-length before piece t part, few) in
-    let rest = whole (calls ++ c .acts) (ready-on ready c) (ap (λ (x : World). x .desk) same ∙ c .desk-is) (ap (λ (x : World). x .table) same ∙ c .table-is ∙ lent) (below-rest t piece below) left more in
+    let same = run-append (start oneBit) calls (c .calls) in
+    let left : length (before ++ take t piece) + length (drop t piece) ≤ largest = omega (arith, parts-length before piece t part, few) in
+    let rest = whole (calls ++ c .calls) (ready-on ready c) (ap (λ (x : World). x .desk) same ∙ c .desk-is) (ap (λ (x : World). x .table) same ∙ c .table-is ∙ lent) (below-rest t piece below) left more in
     omega (arith, rest, part, length-drop t piece)
 
 whole-input : {ts : List Word} {before : Word} (calls : List Call) {table : Lent} {d e : Desk} {pieces : List Word} {lines : List ℕ} {bytes : Word} → Ready ts before calls
-    → run start calls .desk ≡ d → run start calls .table ≡ table → AllBelow 256 pieces → length before + length (joined pieces) ≤ 4294967295
+    → run (start oneBit) calls .desk ≡ d → run (start oneBit) calls .table ≡ table → AllBelow 256 pieces → length before + length (joined pieces) ≤ largest
     → ServedAll (serialOf 1) table d pieces e lines bytes → bytes ≡ joined pieces
 unfolding joined
 whole-input calls ready at lent below few no-piece = refl
 whole-input {before = before} calls ready at lent below few (one-piece {piece = piece} {pieces = pieces} {n = n} {bytes = bytes} served more) =
     let sizes = length-append piece (joined pieces) in
     let taken : n ≡ length piece = whole calls ready at lent (below .0) (omega (arith, few, sizes)) served in
-    let c = served-comes (run start calls) (serialOf 1) at lent (below .0) served in
+    let c = served-comes (run (start oneBit) calls) (serialOf 1) at lent (below .0) served in
     let all : take n piece ≡ piece = take-all n piece (omega (arith, taken)) in
-    let same = run-append start calls (c .acts) in
-    let left : length (before ++ take n piece) + length (joined pieces) ≤ 4294967295 = omega (arith, few, sizes, length-append before (take n piece), ap (λ (x : Word). length x) all) in
+    let same = run-append (start oneBit) calls (c .calls) in
+    let left : length (before ++ take n piece) + length (joined pieces) ≤ largest = omega (arith, few, sizes, length-append before (take n piece), ap (λ (x : Word). length x) all) in
     let rest : bytes ≡ joined pieces =
-    whole-input (calls ++ c .acts) (ready-on ready c) (ap (λ (x : World). x .desk) same ∙ c .desk-is) (ap (λ (x : World). x .table) same ∙ c .table-is ∙ lent) (below .1) left more in
+    whole-input (calls ++ c .calls) (ready-on ready c) (ap (λ (x : World). x .desk) same ∙ c .desk-is) (ap (λ (x : World). x .table) same ∙ c .table-is ∙ lent) (below .1) left more in
     ap (λ (x : Word). x ++ bytes) all ∙ ap (λ (x : Word). piece ++ x) rest
 
 -- so bench writes the occurrences in the whole input
 pub whole-input-written : (set : List ℕ) (lent : Lent) (ts : List Word) (edition : Edition) (count : ℕ) (pieces : List Word) (e : Desk) (lines : List ℕ) (bytes : Word)
-    → Below 256 set → setOf set ≡ goodSet ts → replaceOf newDesk set (sizesOf lent) .answer ≡ R.Replaced edition count → AllBelow 256 pieces → length (joined pieces) ≤ 4294967295
-    → ServedAll (serialOf 1) (replacedRun newDesk set lent) (openOf (replaceOf newDesk set (sizesOf lent) .desk) .desk) pieces e lines bytes
-    → (bytes ≡ joined pieces) × (lines ≡ linesOf (recordsOf (serialOf 1) (editionOf 1) (occurrences ts (joined pieces))))
+    → Below 256 set → setOf set ≡ goodSet ts → replaceOf (newDesk oneBit) (bySet set) (sizesOf lent) .answer ≡ R.Replaced edition count → AllBelow 256 pieces → length (joined pieces) ≤ largest
+    → ServedAll (serialOf 1) (replacedRun (newDesk oneBit) (bySet set) lent) (openOf (replaceOf (newDesk oneBit) (bySet set) (sizesOf lent) .desk) .desk) pieces e lines bytes
+    → (bytes ≡ joined pieces) × (lines ≡ linesOf (recordsOf (serialOf 1) (editionOf 1) (foundIn (exact ts) (joined pieces))))
 unfolding run
 whole-input-written set lent ts edition count pieces e lines bytes below tags accepted small few served = (
   taken,
   writes-the-occurrences set lent ts edition count pieces e lines bytes below tags accepted small served
-      ∙ ap (λ (x : Word). linesOf (recordsOf (serialOf 1) (editionOf 1) (occurrences ts x))) taken,
+      ∙ ap (λ (x : Word). linesOf (recordsOf (serialOf 1) (editionOf 1) (foundIn (exact ts) x))) taken,
 )
   where
-    b : Begun ts (run start (callReplace set lent ∷ callOpen ∷ [])) (openOf (replaceOf newDesk set (sizesOf lent) .desk) .desk) (replacedRun newDesk set lent)
+    b : Begun ts (run (start oneBit) (callReplace (bySet set) lent ∷ callOpen ∷ [])) (openOf (replaceOf (newDesk oneBit) (bySet set) (sizesOf lent) .desk) .desk) (replacedRun (newDesk oneBit) (bySet set) lent)
     b = begun set lent ts edition count tags accepted
 
-    ready : Ready ts [] (callReplace set lent ∷ callOpen ∷ [])
-    ready = record { bytes = (below, (tt, tt)); accounts-are = b .accounts-are; edition-is = b .edition-is; empty = b .empty }
+    both : Proper (start oneBit) (callReplace (bySet set) lent ∷ callOpen ∷ [])
+    both = proper-append (start oneBit) (callReplace (bySet set) lent ∷ []) (callOpen ∷ []) (proper-one (start oneBit) (callReplace (bySet set) lent) below tt)
+        (proper-one (step (start oneBit) (callReplace (bySet set) lent)) callOpen tt tt)
+
+    ready : Ready ts [] (callReplace (bySet set) lent ∷ callOpen ∷ [])
+    ready = record { proper = both; accounts-are = b .accounts-are; edition-is = b .edition-is; empty = b .empty }
 
     taken : bytes ≡ joined pieces
-    taken = whole-input (callReplace set lent ∷ callOpen ∷ []) ready (b .desk-is) (b .table-is) small (omega (arith, few)) served
+    taken = whole-input (callReplace (bySet set) lent ∷ callOpen ∷ []) ready (b .desk-is) (b .table-is) small (omega (arith, few)) served

@@ -11,10 +11,11 @@ use Rattle.desk.specs.declared.Desk.{Desk}
 use Rattle.desk.specs.declared.Replacing.{Replacing}
 use Rattle.bench.proofs.replaced.Statement.{statement}
 use Rattle.bench.proofs.replaced.Tie as tie
+use Rattle.desk.specs.Layout.{bySet, oneBit}
 
 -- the desk is new, and the bytes are the set
-by-same : {d : Desk} {bytes set after : List ℕ} {r : Replacing} (run : List ℕ) → d ≡ newDesk → bytes ≡ set → r ≡ replaceOf d bytes (length run) → after ≡ replacedRun d bytes run
-    → (r ≡ replaceOf newDesk set (length run)) × (after ≡ replacedRun newDesk set run)
+by-same : {d : Desk} {bytes set after : List ℕ} {r : Replacing} (run : List ℕ) → d ≡ newDesk oneBit → bytes ≡ set → r ≡ replaceOf d (bySet bytes) (length run) → after ≡ replacedRun d (bySet bytes) run
+    → (r ≡ replaceOf (newDesk oneBit) (bySet set) (length run)) × (after ≡ replacedRun (newDesk oneBit) (bySet set) run)
 by-same run new same replaced left = (cc, cc)
 
 new-requires : tie.Need-new-requires

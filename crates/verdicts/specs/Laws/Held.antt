@@ -8,7 +8,7 @@ use native.Mathlib.Nat.{le-of-eq, le-trans}
 use native.Mathlib.Omega.{arith}
 use lib.Dec.{eqb, ltb}
 use lib.ListN.{getD, length, set}
-use borrow.Author.Tests.{eq-eqb, eqb-true, ltb-true, ne-eqb}
+use borrow.Author.Tests.{eq-eqb, ltb-true, ne-eqb}
 use Rattle.desk.specs.Laws.Good.{good}
 use Rattle.desk.specs.Laws.Rooms.{firstRoom-holds, for-held, free-held, held-set, new-held}
 use Rattle.desk.specs.Laws.Views.{Closes, Opens, Replaces, close-done, close-no-ticket, closes, open-done, open-no-room, open-no-set, open-serial-end, opens, replace-done, replace-edition-end, replace-fault, replace-table, replaces}
@@ -23,19 +23,20 @@ use Rattle.gate.specs.Gate.{beginOf, changeOf, cutIn, decideBy, decideOf, ended
 use Rattle.gate.specs.Noting.{begunSeen, seenIn}
 use Rattle.gate.specs.declared.Seen.{Seen}
 use Rattle.gate.specs.declared.feeding.Fed.{Fed}
-use Rattle.history.specs.History.{tagsOfSet}
 use Rattle.history.specs.Laws.Numbers.{lower}
 use Rattle.history.specs.Laws.Seats.{room-for}
 use Rattle.history.specs.Laws.Snoc.{snoc-length}
 use Rattle.matching.specs.Words.{Word}
-use Rattle.tagset.specs.Grammar.{SetOf, badSet, goodSet, setOf}
-use Rattle.tagset.specs.Laws.Places.{tags-of}
-use Rattle.verdicts.specs.GateHistory.{Approval, GateAct, GateWorld, approvalAt, begunWith, decidedWith, gateBegin, gateDecide, gatePiece, gateReplace, gateRun, gateStart, gateStep, handedCut, handedWhole, handedWith, newApproval, noApproval, onApproval, replacedWith, settled, undecidedOf, withApprovals}
+use Rattle.verdicts.specs.GateHistory.{Approval, GateAct, GateWorld, begunWith, decidedWith, gateBegin, gateDecide, gatePiece, gateReplace, gateRun, gateStart, gateStep, handedCut, handedWhole, handedWith, newApproval, noApproval, onApproval, replacedWith, settled, undecidedOf, withApprovals}
 use Rattle.verdicts.specs.Laws.Alike.{fed-alike}
 use Rattle.verdicts.specs.Laws.Approvals.{on-length, verdict-settles}
 use Rattle.verdicts.specs.Laws.Counted.{fed-counted}
 use Rattle.verdicts.specs.Laws.Deciding.{waiting}
 use Rattle.verdicts.specs.Laws.Standing.{Standing, standing-start, standing-step}
+use Rattle.desk.specs.Layout.{Kind, Lent, Order, sizesOf}
+use Rattle.matching.specs.Tags.{tagCount}
+use Rattle.matching.specs.Limits.{largest, mostTags}
+use Rattle.desk.specs.Laws.Layout.{order-few}
 
 -- ---- counting undecided approvals
 
@@ -94,22 +95,15 @@ same-held (x ∷ a) (y ∷ b) e f =
     let first : _≡_ {A = ℕ} (cond (isHeld x) 1 0) (cond (isHeld y) 1 0) = ap {B = ℕ} (λ (s : Serial). cond (isHeld (newTicket s (x .edition))) 1 0) (f 0) in
     omega (arith, first, same-held a b (omega (arith, e)) (λ i. f (suc i)))
 
-tags-few : (set : List ℕ) → length (tagsOfSet (setOf set)) ≤ 16
-tags-few set = go (setOf set) refl
-  where
-    go : (x : SetOf) → setOf set ≡ x → length (tagsOfSet x) ≤ 16
-    go (goodSet ts) e = tags-of set ts e .few
-    go (badSet fault) e = omega arith
-
 pub record Held (g : GateWorld) : Type 0 where
   pub held : undecidedOf (g .approvals) ≡ ticketsHeld (g .gate .desk .tickets)
-  pub few-serials : length (g .approvals) ≤ 4294967295
-  pub few-editions : g .accepted ≤ 4294967295
-  pub few-tags : length (g .tags) ≤ 16
+  pub few-serials : length (g .approvals) ≤ largest
+  pub few-editions : g .accepted ≤ largest
+  pub few-tags : tagCount (g .tags) ≤ mostTags
 
-held-start : Held gateStart
-unfolding undecidedOf ticketsHeld
-held-start = record { held = refl; few-serials = omega arith; few-editions = omega arith; few-tags = omega arith }
+held-start : (kind : Kind) → Held (gateStart kind)
+unfolding undecidedOf ticketsHeld tagCount
+held-start kind = record { held = refl; few-serials = omega arith; few-editions = omega arith; few-tags = omega arith }
 
 module _ (g : GateWorld) (v : Standing g) (c : Held g) where
   abbrev rooms : List Ticket
@@ -118,11 +112,11 @@ module _ (g : GateWorld) (v : Standing g) (c : Held g) where
   wide : length (g .gate .desk .tickets) ≡ 16
   wide = good (v .reached) .rooms
 
-  held-replace : (bytes lent : List ℕ) → Held (gateStep g (gateReplace bytes lent))
+  held-replace : (order : Order) (lent : Lent) → Held (gateStep g (gateReplace order lent))
   unfolding changeOf
-  held-replace bytes lent = go _ (replaces (g .gate .desk) bytes (length lent))
+  held-replace order lent = go _ (replaces (g .gate .desk) order (sizesOf lent))
     where
-      go : (r : Replacing) → Replaces (g .gate .desk) bytes (length lent) r → Held (replacedWith g bytes lent (record { desk = r .desk; seen = g .gate .seen }) (r .answer))
+      go : (r : Replacing) → Replaces (g .gate .desk) order (sizesOf lent) r → Held (replacedWith g order lent (record { desk = r .desk; seen = g .gate .seen }) (r .answer))
       go r (replace-fault fault p) = c
       go r (replace-table machine needs p) = c
       go r (replace-edition-end n p f) = c
@@ -130,7 +124,7 @@ module _ (g : GateWorld) (v : Standing g) (c : Held g) where
         held = c .held;
         few-serials = c .few-serials;
         few-editions = lower _ _ (c .few-editions) (λ e. f (v .editions ∙ e));
-        few-tags = tags-few bytes;
+        few-tags = order-few order;
       }
 
   held-begin : Held (gateStep g gateBegin)
@@ -231,7 +225,7 @@ module _ (g : GateWorld) (v : Standing g) (c : Held g) where
       go true true = ended (eqb (fed .taken) (length piece))
 
   held-step : (act : GateAct) → Held (gateStep g act)
-  held-step (gateReplace set lent) = held-replace set lent
+  held-step (gateReplace order lent) = held-replace order lent
   held-step gateBegin = held-begin
   held-step (gatePiece s table piece) = held-piece s table piece
   held-step (gateDecide s) = held-decide s
@@ -241,5 +235,5 @@ unfolding gateRun
 held-run [] g v c = c
 held-run (act ∷ calls) g v c = held-run calls (gateStep g act) (standing-step g v act) (held-step g v c act)
 
-pub held-all : (calls : List GateAct) → Held (gateRun gateStart calls)
-held-all calls = held-run calls gateStart standing-start held-start
+pub held-all : (kind : Kind) (calls : List GateAct) → Held (gateRun (gateStart kind) calls)
+held-all kind calls = held-run calls (gateStart kind) (standing-start kind) (held-start kind)

@@ -27,6 +27,7 @@ use Rattle.verdicts.specs.GateHistory.{Approval, GateAct, GateWorld, Und
 use Rattle.verdicts.specs.Laws.Approvals.{on-each, on-length, verdict-settles}
 use Rattle.verdicts.specs.Laws.Deciding.{seated}
 use Rattle.verdicts.specs.Laws.Standing.{Standing}
+use Rattle.desk.specs.Layout.{Lent, Order, sizesOf}
 
 -- approval k is there and was decided
 pub record Done (l : List Approval) (k : ℕ) : Type 0 where
@@ -44,11 +45,11 @@ on-done n f l k keeps d =
     }
 
 module _ (w : GateWorld) (k : ℕ) (d : Done (w .approvals) k) where
-  after-replace : (set run : List ℕ) (g : Gate) (a : ReplaceAnswer) → Done (replacedWith w set run g a .approvals) k
-  after-replace set run g (R.Replaced e count) = d
-  after-replace set run g (R.Fault fault) = d
-  after-replace set run g (R.Table machine needs) = d
-  after-replace set run g R.EditionEnd = d
+  after-replace : (order : Order) (run : Lent) (g : Gate) (a : ReplaceAnswer) → Done (replacedWith w order run g a .approvals) k
+  after-replace order run g (R.Replaced e count) = d
+  after-replace order run g (R.Fault fault) = d
+  after-replace order run g (R.Table machine needs) = d
+  after-replace order run g R.EditionEnd = d
 
   after-begin : (g : Gate) (a : OpenAnswer) → Done (begunWith w g a .approvals) k
   after-begin g (O.Opened s) = record {
@@ -73,7 +74,7 @@ module _ (w : GateWorld) (k : ℕ) (d : Done (w .approvals) k) where
   after-decide s g Q.Unread = on-done (s .0) settled (w .approvals) k (λ p h. refl) d
 
   done-step : (act : GateAct) → Done (gateStep w act .approvals) k
-  done-step (gateReplace set run) = after-replace set run (changeOf (w .gate) set (length run) .gate) (changeOf (w .gate) set (length run) .answer)
+  done-step (gateReplace order run) = after-replace order run (changeOf (w .gate) order (sizesOf run) .gate) (changeOf (w .gate) order (sizesOf run) .answer)
   done-step gateBegin = after-begin (beginOf (w .gate) .gate) (beginOf (w .gate) .answer)
   done-step (gatePiece s table piece) = after-piece s piece (pieceOf (w .gate) s table piece .gate) (pieceOf (w .gate) s table piece .answer)
   done-step (gateDecide s) = after-decide s (decideOf (w .gate) s .gate) (decideOf (w .gate) s .answer)

@@ -18,10 +18,10 @@ use Rattle.gate.specs.declared.PieceAnswer.{PieceAnswer}
 use Rattle.gate.specs.declared.feeding.Fed.{Fed}
 use Rattle.history.specs.Laws.Numbers.{differ, lower}
 use Rattle.matching.specs.Words.{Word}
-use Rattle.verdicts.specs.Cases.{IsCurrent, PieceExactly}
+use Rattle.verdicts.specs.Cases.{PieceExactly}
 use Rattle.verdicts.specs.GateHistory.{GateWorld, NotReplaced, Replaced, Undecided, approvalAt}
 use Rattle.verdicts.specs.Laws.Cases.{same, stale-current}
-use Rattle.verdicts.specs.Laws.Deciding.{Seated, seated, waiting}
+use Rattle.verdicts.specs.Laws.Deciding.{seated, waiting}
 use Rattle.verdicts.specs.Laws.Standing.{Standing}
 
 pub data Pieces (g : GateWorld) (s : Serial) : PieceAnswer → Type 0 where

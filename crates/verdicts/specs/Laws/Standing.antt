@@ -39,6 +39,7 @@ use Rattle.verdicts.specs.Laws.Alike.{Alike, fed-alike, same-unique}
 use Rattle.verdicts.specs.Laws.Approvals.{on-each, on-length, verdict-settles}
 use Rattle.verdicts.specs.Laws.Counted.{FedCounted, fed-counted}
 use Rattle.verdicts.specs.Laws.Masks.{nothingSeen, rooms-apart}
+use Rattle.desk.specs.Layout.{Kind, Lent, Order, sizesOf}
 
 -- what a room keeps for an approval: the ticket is of the edition that the count of replacements was, and unread is 0 while it is whole
 pub record Kept (t : Ticket) (x : Seen) (p : Approval) : Type 0 where
@@ -83,9 +84,9 @@ pub record Standing (g : GateWorld) : Type 0 where
   pub strangers : (s : Serial) → Stranger (length (g .approvals)) (s .0) → 16 ≤ roomOf (g .gate .desk .tickets) s
   pub unique : Unique (g .gate .desk .tickets)
 
-pub standing-start : Standing gateStart
-standing-start = record {
-  reached = fromNew;
+pub standing-start : (kind : Kind) → Standing (gateStart kind)
+standing-start kind = record {
+  reached = fromNew kind;
   wide = refl;
   editions = refl;
   serials = refl;
@@ -105,12 +106,12 @@ module _ (g : GateWorld) (v : Standing g) where
   rooms-wide = good (v .reached) .rooms
 
   -- replacing
-  standing-replace : (bytes lent : List ℕ) → Standing (gateStep g (gateReplace bytes lent))
+  standing-replace : (order : Order) (lent : Lent) → Standing (gateStep g (gateReplace order lent))
   unfolding changeOf
-  standing-replace bytes lent = go _ (replaces (g .gate .desk) bytes (length lent)) (byCall (v .reached) (callReplace bytes lent))
+  standing-replace order lent = go _ (replaces (g .gate .desk) order (sizesOf lent)) (byCall (v .reached) (callReplace order lent))
     where
-      go : (r : Replacing) → Replaces (g .gate .desk) bytes (length lent) r → Reached (r .desk)
-          → Standing (replacedWith g bytes lent (record { desk = r .desk; seen = g .gate .seen }) (r .answer))
+      go : (r : Replacing) → Replaces (g .gate .desk) order (sizesOf lent) r → Reached (r .desk)
+          → Standing (replacedWith g order lent (record { desk = r .desk; seen = g .gate .seen }) (r .answer))
       go r (replace-fault fault p) d = v
       go r (replace-table machine needs p) d = v
       go r (replace-edition-end n p f) d = v
@@ -428,7 +429,7 @@ module _ (g : GateWorld) (v : Standing g) where
         go true e true = ended (eqb (fed .taken) (length piece)) (ltb-true i 16 e) refl
 
   pub standing-step : (act : GateAct) → Standing (gateStep g act)
-  standing-step (gateReplace set lent) = standing-replace set lent
+  standing-step (gateReplace order lent) = standing-replace order lent
   standing-step gateBegin = standing-begin
   standing-step (gatePiece s table piece) = standing-piece s table piece
   standing-step (gateDecide s) = standing-decide s
@@ -439,10 +440,10 @@ standing [] g v = v
 standing (act ∷ calls) g v = standing calls (gateStep g act) (standing-step g v act)
 
 -- an accepted replacement answers the next count
-pub accepts-next : (g : GateWorld) → Standing g → (set run : List ℕ) (e : Edition) (tags : ℕ) → changeOf (g .gate) set (length run) .answer ≡ R.Replaced e tags
+pub accepts-next : (g : GateWorld) → Standing g → (order : Order) (run : Lent) (e : Edition) (tags : ℕ) → changeOf (g .gate) order (sizesOf run) .answer ≡ R.Replaced e tags
     → e .0 ≡ suc (g .accepted)
 unfolding changeOf
-accepts-next g v set run e tags q = go _ (replaces (g .gate .desk) set (length run)) q
+accepts-next g v order run e tags q = go _ (replaces (g .gate .desk) order (sizesOf run)) q
   where
     edition : ReplaceAnswer → ℕ
     edition (R.Replaced x n) = x .0
@@ -450,7 +451,7 @@ accepts-next g v set run e tags q = go _ (replaces (g .gate .desk) set (length r
     edition (R.Table machine needs) = 0
     edition R.EditionEnd = 0
 
-    go : (r : Replacing) → Replaces (g .gate .desk) set (length run) r → r .answer ≡ R.Replaced e tags → e .0 ≡ suc (g .accepted)
+    go : (r : Replacing) → Replaces (g .gate .desk) order (sizesOf run) r → r .answer ≡ R.Replaced e tags → e .0 ≡ suc (g .accepted)
     go r (replace-fault fault p) z = differ cc
     go r (replace-table machine needs p) z = differ cc
     go r (replace-edition-end n p f) z = differ cc

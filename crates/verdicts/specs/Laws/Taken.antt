@@ -1,6 +1,6 @@
 -- What a piece answers, and whether an approval is whole, by the count of its ticket; over any tables.
 use Rattle.gate.specs.declared.PieceAnswer.the-variants as P
-use Prim.Native.Nat.{ℕ, _+_, _<_, _≤_}
+use Prim.Native.Nat.{ℕ, _+_, _<_}
 use mathlib.Core.Bool.{Bool, false, true}
 use mathlib.Core.List.{List}
 use mathlib.Core.Path.{_≡_, _∙_, ap, refl, subst, sym}
@@ -9,7 +9,7 @@ use lib.Dec.{eqb}
 use lib.ListN.{length}
 use borrow.Author.Tests.{eqb-false, eqb-true}
 use Rattle.desk.specs.Laws.Good.{good}
-use Rattle.desk.specs.Rooms.{roomOf, serialOf, ticketIn}
+use Rattle.desk.specs.Rooms.{roomOf, ticketIn}
 use Rattle.desk.specs.declared.Serial.{Serial}
 use Rattle.gate.specs.Feeding.{fedOn}
 use Rattle.gate.specs.Gate.{endedBy, endedOf, pieceOf}
@@ -23,7 +23,7 @@ use Rattle.matching.specs.Words.{Word}
 use Rattle.verdicts.specs.GateHistory.{GateWorld, NotReplaced, Undecided, approvalAt}
 use Rattle.verdicts.specs.Laws.Alike.{fed-alike}
 use Rattle.verdicts.specs.Laws.Counted.{FedCounted, fed-counted}
-use Rattle.verdicts.specs.Laws.Deciding.{Seated, seated}
+use Rattle.verdicts.specs.Laws.Deciding.{seated}
 use Rattle.verdicts.specs.Laws.Standing.{Standing, Tally, tally-most}
 use Rattle.verdicts.specs.Taken.{AnswersTaken, OpenIn, TakenOfHanded, takenIn}
 

@@ -22,11 +22,11 @@ use Rattle.gate.specs.Laws.Feeding.{fed-idle}
 use Rattle.gate.specs.declared.Gate.{Gate}
 use Rattle.gate.specs.declared.Seen.{Seen}
 use Rattle.gate.specs.declared.feeding.Fed.{Fed}
-use Rattle.history.specs.History.{Account, AllBytes, World, accountAt, grown, noAccount, run, start}
+use Rattle.history.specs.History.{Account, accountAt, grown, noAccount, Proper, run, start, World}
 use Rattle.history.specs.Laws.Accounts.{onSerial-length}
 use Rattle.history.specs.Laws.Feeding.{agrees}
 use Rattle.history.specs.Laws.Invariant.{Inv, changed-here}
-use Rattle.history.specs.Laws.LedgerSteps.{sound}
+use Rattle.history.specs.Laws.LedgerSteps.{sound-left}
 use Rattle.history.specs.Laws.Numbers.{differ}
 use Rattle.history.specs.Laws.Takings.{below-rest}
 use Rattle.history.specs.Progress.{takes-a-byte}
@@ -34,6 +34,8 @@ use Rattle.matching.specs.Words.{Below, Word}
 use Rattle.verdicts.specs.Laws.Alike.{SameRooms, rest-alike}
 use Rattle.verdicts.specs.Laws.Onward.{Joined, Onward, rest-onward-by}
 use Rattle.desk.specs.Reached.{Call}
+use Rattle.desk.specs.Layout.{Kind}
+use Rattle.matching.specs.Limits.{largest}
 
 -- a ticket that is open, of account k, with room for so many more bytes
 pub record OpenFor (w : World) (s : Serial) (more : ℕ) : Type 0 where
@@ -42,16 +44,16 @@ pub record OpenFor (w : World) (s : Serial) (more : ℕ) : Type 0 where
   pub serial : s .0 ≡ suc k
   pub room : roomOf (w .desk .tickets) s < 16
   pub current : ticketIn (w .desk .tickets) (roomOf (w .desk .tickets) s) .edition .0 ≡ w .desk .edition .0
-  pub few : length (accountAt w k .bytes) + more ≤ 4294967295
+  pub few : length (accountAt w k .bytes) + more ≤ largest
 
 -- a feed of some bytes takes one
-some-taken : (calls : List Call) → AllBytes calls → (s : Serial) (rest : Word) → run start calls .desk .records .count ≡ 0 → Below 256 rest → OpenFor (run start calls) s (length rest)
-    → 0 < length rest → 0 < takenBy (feedOf (run start calls .desk) s (run start calls .table) rest .answer)
-some-taken calls b s [] empty below o h = absurd (omega (arith, h))
-some-taken calls b s (c ∷ rest) empty below o h = takes-a-byte calls b s (o .room) (o .current) empty c rest below (λ q. not-long _ (feeds (w .desk) s (w .table) (c ∷ rest)) q)
+some-taken : (kind : Kind) (calls : List Call) → Proper (start kind) calls → (s : Serial) (rest : Word) → run (start kind) calls .desk .records .count ≡ 0 → Below 256 rest → OpenFor (run (start kind) calls) s (length rest)
+    → 0 < length rest → 0 < takenBy (feedOf (run (start kind) calls .desk) s (run (start kind) calls .table) rest .answer)
+some-taken kind calls b s [] empty below o h = absurd (omega (arith, h))
+some-taken kind calls b s (c ∷ rest) empty below o h = takes-a-byte kind calls (b .0) s (o .room) (o .current) empty c rest (λ q. not-long _ (feeds (w .desk) s (w .table) (c ∷ rest)) q)
   where
     w : World
-    w = run start calls
+    w = run (start kind) calls
 
     not-long : (r : Feeding) → Feeds (w .desk) (roomOf (w .desk .tickets) s) (w .table) (c ∷ rest) r → r .answer ≡ F.Long → ⊥
     not-long r (feed-no-ticket a) q = differ cc
@@ -59,15 +61,15 @@ some-taken calls b s (c ∷ rest) empty below o h = takes-a-byte calls b s (o .r
     not-long r (feed-other-slots a e n) q = differ cc
     not-long r (feed-no-place a e l m n) q = differ cc
     not-long r (feed-read a e l m) q = differ cc
-    not-long r (feed-long a e l m) q = omega (arith, m, o .few, agrees w (sound calls b .inv) s (o .k) (o .inside) (o .serial) a .taken)
+    not-long r (feed-long a e l m) q = omega (arith, m, o .few, agrees w (sound-left kind calls (b .0) (b .1) .inv) s (o .k) (o .inside) (o .serial) a .taken)
 
 -- the ticket after it took some
-open-on : (calls : List Call) (b : AllBytes calls) (seen : List Seen) (s : Serial) (taken : Word) (g : Gate) (more : ℕ) → SameRooms (run start calls .desk) (g .desk)
-    → (o : Onward calls seen s taken g) → OpenFor (run start calls) s (length taken + more) → OpenFor (run start (o .all)) s more
-open-on calls b seen s taken g more same o f =
-    let w = run start calls in
-    let v : Inv w = sound calls b .inv in
-    let bytes : accountAt (run start (o .all)) (f .k) .bytes ≡ accountAt w (f .k) .bytes ++ taken =
+open-on : (kind : Kind) (calls : List Call) (b : Proper (start kind) calls) (seen : List Seen) (s : Serial) (taken : Word) (g : Gate) (more : ℕ) → SameRooms (run (start kind) calls .desk) (g .desk)
+    → (o : Onward kind calls seen s taken g) → OpenFor (run (start kind) calls) s (length taken + more) → OpenFor (run (start kind) (o .all)) s more
+open-on kind calls b seen s taken g more same o f =
+    let w = run (start kind) calls in
+    let v : Inv (Unit {0}) w = sound-left kind calls (b .0) (b .1) .inv in
+    let bytes : accountAt (run (start kind) (o .all)) (f .k) .bytes ≡ accountAt w (f .k) .bytes ++ taken =
     ap (λ (l : List Account). getD l (f .k) noAccount .bytes) (o .accounts-are)
     ∙ ap (λ (a : Account). a .bytes) (changed-here w v s (f .k) (f .inside) (f .serial) (grown taken)) in
     record {
@@ -82,19 +84,19 @@ open-on calls b seen s taken g more same o f =
     }
 
 -- where the bytes are too many, none is taken
-pub long-none : (calls : List Call) → AllBytes calls → (seen : List Seen) (s : Serial) (piece : Word) (k : ℕ) → k < length (run start calls .accounts) → s .0 ≡ suc k
-    → 4294967295 < length (accountAt (run start calls) k .bytes) + length piece
-    → fedOn (length piece) (record { desk = run start calls .desk; seen = seen }) s (run start calls .table) piece 0 .taken ≡ 0
+pub long-none : (kind : Kind) (calls : List Call) → Proper (start kind) calls → (seen : List Seen) (s : Serial) (piece : Word) (k : ℕ) → k < length (run (start kind) calls .accounts) → s .0 ≡ suc k
+    → largest < length (accountAt (run (start kind) calls) k .bytes) + length piece
+    → fedOn (length piece) (record { desk = run (start kind) calls .desk; seen = seen }) s (run (start kind) calls .table) piece 0 .taken ≡ 0
 unfolding fedOn
-long-none calls b seen s [] k h e long = refl
-long-none calls b seen s (c ∷ rest) k h e long =
+long-none kind calls b seen s [] k h e long = refl
+long-none kind calls b seen s (c ∷ rest) k h e long =
     ap (λ (x : Fed). x .taken) (fed-idle (length rest) g s (w .table) (c ∷ rest) 0 (omega arith) (none _ (feeds (w .desk) s (w .table) (c ∷ rest))))
   where
     w : World
-    w = run start calls
+    w = run (start kind) calls
 
     g : Gate
-    g = record { desk = run start calls .desk; seen = seen }
+    g = record { desk = run (start kind) calls .desk; seen = seen }
 
     none : (r : Feeding) → Feeds (w .desk) (roomOf (w .desk .tickets) s) (w .table) (c ∷ rest) r → takenBy (r .answer) ≡ 0
     none r (feed-no-ticket a) = refl
@@ -102,17 +104,17 @@ long-none calls b seen s (c ∷ rest) k h e long =
     none r (feed-other-slots a q n) = refl
     none r (feed-no-place a q l m n) = refl
     none r (feed-long a q l m) = refl
-    none r (feed-read a q l m) = absurd (omega (arith, m, long, agrees w (sound calls b .inv) s k h e a .taken))
+    none r (feed-read a q l m) = absurd (omega (arith, m, long, agrees w (sound-left kind calls (b .0) (b .1) .inv) s k h e a .taken))
 
-pub fed-all : (most : ℕ) (calls : List Call) → AllBytes calls → (seen : List Seen) → Joined seen (run start calls) → (s : Serial) (d : Desk) (table : List ℕ) (piece : Word) (from : ℕ)
-    → run start calls .desk ≡ d → run start calls .table ≡ table → Below 256 piece → from ≤ length piece → length piece ≤ from + most
-    → OpenFor (run start calls) s (length piece - from)
+pub fed-all : (most : ℕ) (kind : Kind) (calls : List Call) → Proper (start kind) calls → (seen : List Seen) → Joined seen (run (start kind) calls) → (s : Serial) (d : Desk) (table : List ℕ) (piece : Word) (from : ℕ)
+    → run (start kind) calls .desk ≡ d → run (start kind) calls .table ≡ table → Below 256 piece → from ≤ length piece → length piece ≤ from + most
+    → OpenFor (run (start kind) calls) s (length piece - from)
     → fedOn most (record { desk = d; seen = seen }) s table piece from .taken ≡ length piece
 unfolding fedOn
-fed-all zero calls b seen j s d table piece from at lent below h few f = omega (arith, h, few)
-fed-all (suc most) calls b seen j s d table piece from at lent below h few f =
+fed-all zero kind calls b seen j s d table piece from at lent below h few f = omega (arith, h, few)
+fed-all (suc most) kind calls b seen j s d table piece from at lent below h few f =
     go (ltb from (length piece)) (eqb t 0) refl refl
-    (λ z. fed-all most (o .all) (o .bytes) (next .seen) (o .joined) s (next .desk) table piece (from + t) (o .desk-is) (o .table-is ∙ lent) below within (omega (arith, few, z)) open-next)
+    (λ z. fed-all most kind (o .all) (o .bytes) (next .seen) (o .joined) s (next .desk) table piece (from + t) (o .desk-is) (o .table-is ∙ lent) below within (omega (arith, few, z)) open-next)
   where
     g : Gate
     g = record { desk = d; seen = seen }
@@ -123,8 +125,8 @@ fed-all (suc most) calls b seen j s d table piece from at lent below h few f =
     next : Gate
     next = restOf g s table (drop from piece) .gate
 
-    o : Onward calls seen s (take t (drop from piece)) next
-    o = rest-onward-by calls b seen j s d table (drop from piece) at lent (below-rest from piece below)
+    o : Onward kind calls seen s (take t (drop from piece)) next
+    o = rest-onward-by kind calls b seen j s d table (drop from piece) at lent (below-rest from piece below)
 
     part : t ≤ length (drop from piece)
     part = fed-at-most d s table (drop from piece)
@@ -132,18 +134,18 @@ fed-all (suc most) calls b seen j s d table piece from at lent below h few f =
     within : from + t ≤ length piece
     within = omega (arith, h, part, length-drop from piece)
 
-    open-next : OpenFor (run start (o .all)) s (length piece - (from + t))
+    open-next : OpenFor (run (start kind) (o .all)) s (length piece - (from + t))
     open-next =
-        let same : SameRooms (run start calls .desk) (next .desk) = subst (λ (x : Desk). SameRooms x (next .desk)) (sym at) (rest-alike g s table (drop from piece) .same) in
+        let same : SameRooms (run (start kind) calls .desk) (next .desk) = subst (λ (x : Desk). SameRooms x (next .desk)) (sym at) (rest-alike g s table (drop from piece) .same) in
         let size : length piece - from ≡ length (take t (drop from piece)) + (length piece - (from + t)) = omega (arith, length-take-le t (drop from piece) part, within) in
-        open-on calls b seen s (take t (drop from piece)) next (length piece - (from + t)) same o (subst (λ (n : ℕ). OpenFor (run start calls) s n) size f)
+        open-on kind calls b seen s (take t (drop from piece)) next (length piece - (from + t)) same o (subst (λ (n : ℕ). OpenFor (run (start kind) calls) s n) size f)
 
     some : from < length piece → 0 < t
     some p =
-        let q : 0 < takenBy (feedOf (run start calls .desk) s (run start calls .table) (drop from piece) .answer) =
-        some-taken calls b s (drop from piece) (j .empty) (below-rest from piece below)
-        (subst (λ (n : ℕ). OpenFor (run start calls) s n) (sym (length-drop from piece)) f) (omega (arith, p, length-drop from piece)) in
-        subst (λ (l : List ℕ). 0 < takenBy (feedOf d s l (drop from piece) .answer)) lent (subst (λ (x : Desk). 0 < takenBy (feedOf x s (run start calls .table) (drop from piece) .answer)) at q)
+        let q : 0 < takenBy (feedOf (run (start kind) calls .desk) s (run (start kind) calls .table) (drop from piece) .answer) =
+        some-taken kind calls b s (drop from piece) (j .empty) (below-rest from piece below)
+        (subst (λ (n : ℕ). OpenFor (run (start kind) calls) s n) (sym (length-drop from piece)) f) (omega (arith, p, length-drop from piece)) in
+        subst (λ (l : List ℕ). 0 < takenBy (feedOf d s l (drop from piece) .answer)) lent (subst (λ (x : Desk). 0 < takenBy (feedOf x s (run (start kind) calls .table) (drop from piece) .answer)) at q)
 
     go : (x y : Bool) → ltb from (length piece) ≡ x → eqb t 0 ≡ y → (0 < t → fedOn most next s table piece (from + t) .taken ≡ length piece)
         → cond x (cond y (record { gate = next; taken = from }) (fedOn most next s table piece (from + t))) (record { gate = g; taken = from }) .taken ≡ length piece

@@ -13,18 +13,20 @@ use Rattle.desk.specs.declared.Desk.{Desk}
 use Rattle.desk.specs.declared.FeedAnswer.{FeedAnswer}
 use Rattle.desk.specs.declared.Record.{Record}
 use Rattle.desk.specs.declared.Serial.{Serial}
-use Rattle.history.specs.History.{Account, AllBytes, World, feeding, grown, onSerial, run}
-use Rattle.history.specs.Laws.Becomes.{run-append}
-use Rattle.history.specs.Laws.Takings.{below-rest, bytes-append, emptied, fed-accounts, fed-desk, fed-edition, fed-out, fed-table, grown-none, grown-twice, takes-bytes, takes-run, withOut}
+use Rattle.history.specs.History.{Account, feeding, grown, onSerial, Proper, run, withOut, World}
+use Rattle.history.specs.Laws.Becomes.{proper-append, proper-none, run-append}
+use Rattle.history.specs.Laws.Takings.{below-rest, emptied, fed-accounts, fed-desk, fed-edition, fed-out, fed-table, fed-taken, takes-run}
 use Rattle.matching.specs.Words.{AllBelow, Below, Word}
 use Rattle.serving.specs.Lines.{linesOf, recordLine}
 use Rattle.serving.specs.Serving.{Served, ServedAll, all-taken, no-piece, none-taken, one-piece, restDesk, restLines, restTaken, some-taken}
 use Rattle.desk.specs.Layout.{Lent}
+use Rattle.history.specs.Laws.Accounts.{grown-none, grown-twice}
+use Rattle.desk.specs.Limits.{mostRecords}
 
 -- a history from a world in which bytes are taken for a ticket: the desk then, and the lines of the records handed out
 pub record Comes (w : World) (s : Serial) (taken : Word) (e : Desk) (lines : List ℕ) : Type 0 where
   pub calls : List Call
-  pub bytes : AllBytes calls
+  pub proper : Proper w calls
   pub records : List Record
   pub lines-are : lines ≡ linesOf records
   pub desk-is : run w calls .desk ≡ e
@@ -39,8 +41,8 @@ rest-comes : (w : World) (s : Serial) (rest : Word) → Below 256 rest
     → Comes w s (take (restTaken s (w .table) (w .desk) rest) rest) (restDesk s (w .table) (w .desk) rest) (restLines s (w .table) (w .desk) rest)
 unfolding run takeManyOf
 rest-comes w s rest below = record {
-  calls = callFeed s rest ∷ replicate m callTake;
-  bytes = (below, takes-bytes m);
+  calls = callFeed s (w .table) rest ∷ replicate m callTake;
+  proper = fed-taken w s rest m below;
   records = oldest m (fed .records);
   lines-are = refl;
   desk-is = ap (λ (x : World). x .desk) taken;
@@ -65,7 +67,7 @@ rest-comes w s rest below = record {
     after = feeding w s rest fed answer
 
     taken : run after (replicate m callTake) ≡ withOut after (restDesk s (w .table) (w .desk) rest) (after .out ++ oldest m (fed .records))
-    taken = takes-run after (fed-desk w s rest fed answer) (many-takings m fed (min-le-left (fed .records .count) 256))
+    taken = takes-run after (fed-desk w s rest fed answer) (many-takings m fed (min-le-left (fed .records .count) mostRecords))
 
 lines-append : (a b : List Record) → linesOf (a ++ b) ≡ linesOf a ++ linesOf b
 unfolding linesOf
@@ -80,22 +82,22 @@ pub rest-comes-by : (w : World) (s : Serial) (table : Lent) (d : Desk) (rest : W
 rest-comes-by w s table d rest at lent below = rw (← at, ← lent) (rest-comes w s rest below)
 
 -- one after the other
-pub comes-then : (w : World) (s : Serial) (x y : Word) {d e : Desk} {a b : List ℕ} (c : Comes w s x d a) → Comes (run w (c .acts)) s y e b → Comes w s (x ++ y) e (a ++ b)
+pub comes-then : (w : World) (s : Serial) (x y : Word) {d e : Desk} {a b : List ℕ} (c : Comes w s x d a) → Comes (run w (c .calls)) s y e b → Comes w s (x ++ y) e (a ++ b)
 comes-then w s x y c next = record {
-  calls = c .acts ++ next .acts;
-  bytes = bytes-append (c .acts) (next .acts) (c .bytes) (next .bytes);
+  calls = c .calls ++ next .calls;
+  proper = proper-append w (c .calls) (next .calls) (c .proper) (next .proper);
   records = c .records ++ next .records;
   lines-are = ap₂ (λ (a b : List ℕ). a ++ b) (c .lines-are) (next .lines-are) ∙ sym (lines-append (c .records) (next .records));
-  desk-is = ap (λ (v : World). v .desk) (run-append w (c .acts) (next .acts)) ∙ next .desk-is;
-  table-is = ap (λ (v : World). v .table) (run-append w (c .acts) (next .acts)) ∙ next .table-is ∙ c .table-is;
+  desk-is = ap (λ (v : World). v .desk) (run-append w (c .calls) (next .calls)) ∙ next .desk-is;
+  table-is = ap (λ (v : World). v .table) (run-append w (c .calls) (next .calls)) ∙ next .table-is ∙ c .table-is;
   out-is =
-      ap (λ (v : World). v .out) (run-append w (c .acts) (next .acts))
+      ap (λ (v : World). v .out) (run-append w (c .calls) (next .calls))
       ∙ next .out-is
       ∙ ap (λ (l : List Record). l ++ next .records) (c .out-is)
       ∙ append-assoc (w .out) (c .records) (next .records);
-  edition-is = ap (λ (v : World). v .edition) (run-append w (c .acts) (next .acts)) ∙ next .edition-is ∙ c .edition-is;
+  edition-is = ap (λ (v : World). v .edition) (run-append w (c .calls) (next .calls)) ∙ next .edition-is ∙ c .edition-is;
   accounts-are =
-      ap (λ (v : World). v .accounts) (run-append w (c .acts) (next .acts))
+      ap (λ (v : World). v .accounts) (run-append w (c .calls) (next .calls))
       ∙ next .accounts-are
       ∙ ap (λ (l : List Account). onSerial (s .0) (grown y) l) (c .accounts-are)
       ∙ grown-twice (s .0) x y (w .accounts);
@@ -108,7 +110,7 @@ pub comes-none : (w : World) (s : Serial) {d : Desk} → w .desk ≡ d → Comes
 unfolding run linesOf
 comes-none w s at = record {
   calls = [];
-  bytes = tt;
+  proper = proper-none w;
   records = [];
   lines-are = refl;
   desk-is = at;
@@ -129,11 +131,11 @@ served-comes w s {table} {d} {piece = piece} at lent below (some-taken {e = e} {
     let t = restTaken s table d piece in
     let c = rest-comes-by w s table d piece at lent below in
     subst (λ (x : Word). Comes w s x e (restLines s table d piece ++ lines)) (sym (take-add t n piece))
-    (comes-then w s (take t piece) (take n (drop t piece)) c (served-comes (run w (c .acts)) s (c .desk-is) (c .table-is ∙ lent) (below-rest t piece below) more))
+    (comes-then w s (take t piece) (take n (drop t piece)) c (served-comes (run w (c .calls)) s (c .desk-is) (c .table-is ∙ lent) (below-rest t piece below) more))
 
 pub all-comes : (w : World) (s : Serial) {table : Lent} {d e : Desk} {pieces : List Word} {lines : List ℕ} {bytes : Word} → w .desk ≡ d → w .table ≡ table
     → AllBelow 256 pieces → ServedAll s table d pieces e lines bytes → Comes w s bytes e lines
 all-comes w s at lent below no-piece = comes-none w s at
 all-comes w s at lent below (one-piece served more) =
     let c = served-comes w s at lent (below .0) served in
-    comes-then w s _ _ c (all-comes (run w (c .acts)) s (c .desk-is) (c .table-is ∙ lent) (below .1) more)
+    comes-then w s _ _ c (all-comes (run w (c .calls)) s (c .desk-is) (c .table-is ∙ lent) (below .1) more)
