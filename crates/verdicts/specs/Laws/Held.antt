@@ -37,6 +37,7 @@ use Rattle.desk.specs.Layout.{Kind, Lent, Order, sizesOf}
 use Rattle.matching.specs.Tags.{tagCount}
 use Rattle.matching.specs.Limits.{largest, mostTags}
 use Rattle.desk.specs.Laws.Layout.{order-few}
+use Rattle.matching.specs.Laws.Tags.{count-exact}
 
 -- ---- counting undecided approvals
 
@@ -102,8 +103,8 @@ pub record Held (g : GateWorld) : Type 0 where
   pub few-tags : tagCount (g .tags) ≤ mostTags
 
 held-start : (kind : Kind) → Held (gateStart kind)
-unfolding undecidedOf ticketsHeld tagCount
-held-start kind = record { held = refl; few-serials = omega arith; few-editions = omega arith; few-tags = omega arith }
+unfolding undecidedOf ticketsHeld
+held-start kind = record { held = refl; few-serials = omega arith; few-editions = omega arith; few-tags = omega (arith, count-exact []) }
 
 module _ (g : GateWorld) (v : Standing g) (c : Held g) where
   abbrev rooms : List Ticket

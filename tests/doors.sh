@@ -1,0 +1,41 @@
+#!/usr/bin/env bash
+# The doors hold: what a definition says is known to the files that are named here, and all others go by its laws. `unfoldable` keeps
+# a definition shut until a file unfolds it; so this looks for files that do.
+set -euo pipefail
+cd "$(dirname "$0")/.."
+
+# the words that a file unfolds, one to a line; an `unfolding` goes on over lines that stand four further in
+unfolded() { # FILE
+  awk '
+    { match($0, /^ */); indent = RLENGTH }
+    /^ *unfolding / { at = indent; on = 1; sub(/^ *unfolding /, ""); split($0, w, " "); for (i in w) print w[i]; next }
+    on && indent >= at + 4 { split($0, w, " "); for (i in w) print w[i]; next }
+    { on = 0 }
+  ' "$1" | sed 's/.*\.//' | sort -u
+}
+
+failed=0
+door() { # DEFINITIONS FILE_THAT_MAY...
+  local definitions=$1 names file open
+  shift
+  names=$(sed -nE 's/^unfoldable pub ([^ :]+) :.*/\1/p' "$definitions" | sort -u)
+  [[ $names ]] || { echo "doors: $definitions has no definition to keep shut" >&2; failed=1; return; }
+  while IFS= read -r file; do
+    [[ $file == "$definitions" || " $* " == *" $file "* ]] && continue
+    open=$(comm -12 <(unfolded "$file") <(echo "$names") | xargs)
+    [[ -z $open ]] || { echo "doors: $file unfolds $open of $definitions" >&2; failed=1; }
+  done < <(grep -rl --include='*.antt' '^ *unfolding ' crates)
+  for file; do
+    [[ -n $(comm -12 <(unfolded "$file") <(echo "$names")) ]] || { echo "doors: $file need not open $definitions" >&2; failed=1; }
+  done
+}
+
+# how the desk's table is laid out: its laws, the four functions of code that lay it out, and the samples, which are computed
+door crates/desk/specs/Layout.antt crates/desk/specs/Laws/Layout.antt crates/desk/proofs/ByAnswer.antt crates/desk/proofs/layout/build_if/Proof.antt \
+  crates/desk/proofs/rooms/new_ticket/Proof.antt crates/desk/proofs/scan/read_for/Proof.antt crates/samples/specs/Samples.antt
+
+# when a tag of a set ends an input: its laws, and those of readings and tables of tags that are matched byte for byte
+door crates/matching/specs/Tags.antt crates/matching/specs/Laws/Tags.antt crates/desk/specs/Laws/Layout.antt crates/history/specs/Laws/Rows.antt
+
+((failed == 0)) && echo 'doors: shut'
+exit $failed
