@@ -182,25 +182,29 @@ abbrev pub peekBy : Numbers → CallOf
 peekBy (Both at count) = cond (leb (at + count) 131841) (callPeek at count) notACall
 peekBy NotBoth = notACall
 
--- the name of a call
-unfoldable pub nameOf : List ℕ → Name
-nameOf word =
-    cond (same word (115 ∷ 101 ∷ 116 ∷ [])) N.Set
-    (cond (same word (108 ∷ 101 ∷ 110 ∷ 100 ∷ [])) N.Lend
-    (cond (same word (114 ∷ 101 ∷ 112 ∷ 108 ∷ 97 ∷ 99 ∷ 101 ∷ [])) N.Replace
+-- the name of a call on the desk
+unfoldable pub deskName : List ℕ → Name
+deskName word =
+    cond (same word (114 ∷ 101 ∷ 112 ∷ 108 ∷ 97 ∷ 99 ∷ 101 ∷ [])) N.Replace
     (cond (same word (111 ∷ 112 ∷ 101 ∷ 110 ∷ [])) N.Open
     (cond (same word (102 ∷ 101 ∷ 101 ∷ 100 ∷ [])) N.Feed
     (cond (same word (99 ∷ 108 ∷ 111 ∷ 115 ∷ 101 ∷ [])) N.Close
     (cond (same word (115 ∷ 116 ∷ 97 ∷ 116 ∷ 101 ∷ [])) N.State
     (cond (same word (116 ∷ 97 ∷ 107 ∷ 101 ∷ [])) N.Take
-    (cond (same word (115 ∷ 104 ∷ 111 ∷ 119 ∷ [])) N.Show
+    (cond (same word (115 ∷ 104 ∷ 111 ∷ 119 ∷ [])) N.Show N.Other))))))
+
+-- the name of a call
+unfoldable pub nameOf : List ℕ → Name
+nameOf word =
+    cond (same word (115 ∷ 101 ∷ 116 ∷ [])) N.Set
+    (cond (same word (108 ∷ 101 ∷ 110 ∷ 100 ∷ [])) N.Lend
     (cond (same word (98 ∷ 117 ∷ 105 ∷ 108 ∷ 100 ∷ [])) N.Build
     (cond (same word (114 ∷ 101 ∷ 97 ∷ 100 ∷ [])) N.Read
     (cond (same word (112 ∷ 111 ∷ 107 ∷ 101 ∷ [])) N.Poke
-    (cond (same word (112 ∷ 101 ∷ 101 ∷ 107 ∷ [])) N.Peek N.Other))))))))))))
+    (cond (same word (112 ∷ 101 ∷ 101 ∷ 107 ∷ [])) N.Peek (deskName word))))))
 
--- one row of names: this name, where the word is the call's, and else another
-pub record Row (word call : List ℕ) (name other r : Name) : Type 0 where
+-- a row of names: this one, where the word is what it is called by, and else another
+pub record Row {A : Type 0} (word call : List ℕ) (name other r : A) : Type 0 where
   pub is : r ≡ cond (same word call) name other
 
 -- a call that has nothing behind its name

@@ -177,5 +177,5 @@ pub layout-said : (u : List ℕ) {v : List ℕ} {r : Layouts} (x : Layouts) → 
 layout-said u x f e g = sym (ap layoutOf e) ∙ sym f ∙ g
 
 -- a row of names above others
-pub row : {word call : List ℕ} {name other below r : Name} → Row word call name other r → other ≡ below → r ≡ cond (same word call) name below
-row {word} {call} {name} e q = e .is ∙ ap (cond (same word call) name) q
+pub row : {A : Type 0} {word call : List ℕ} {name other below r : A} → Row word call name other r → other ≡ below → r ≡ cond (same word call) name below
+row {word = word} {call = call} {name = name} e q = e .is ∙ ap (cond (same word call) name) q
