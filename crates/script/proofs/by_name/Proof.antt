@@ -8,6 +8,7 @@ ruleset rows = (called, says-filled, filled-plain, plain-alone, plain-none, need
 
 pub by-name-spec : {M : Type 1} → statement M
 by-name-spec = tie.close (tie.spec
+    -- of each row: that it is the name's, and what its calls ask
     (λ c. search rows) (λ c κs. search rows) (λ c κs. search rows)
     (λ c. search rows) (λ c κs. search rows) (λ c κs. search rows)
     (λ c. search rows) (λ c κs. search rows) (λ c κs. search rows)
@@ -18,12 +19,11 @@ by-name-spec = tie.close (tie.spec
     (λ c. search rows) (λ c κs. search rows) (λ c κs. search rows)
     (λ c. search rows) (λ c κs. search rows) (λ c κs. search rows)
     (λ c. search rows) (λ c κs. search rows) (λ c κs. search rows)
-    (λ c. search rows) (λ c κs. search rows) (λ c. search rows)
-    (λ c κs. search rows) (λ c κs. search rows) (λ c. search rows)
-    (λ c κs. search rows) (λ c κs. search rows) (λ c. search rows)
-    (λ c κs. search rows) (λ c. search rows) (λ c. search rows)
-    (λ c. search rows) (λ c. search rows) (λ c. search rows)
-    (λ c. search rows) (λ c. search rows) (λ c. search rows)
-    (λ c. search rows) (λ c. search rows) (λ c. search rows)
-    (λ c. search rows) (λ c. search rows) (λ c. search rows)
-    (λ c. search rows) (λ c. search rows) (λ c. search rows))
+    (λ c. search rows) (λ c κs. search rows)
+    (λ c. search rows) (λ c κs. search rows) (λ c κs. search rows)
+    (λ c. search rows) (λ c κs. search rows) (λ c κs. search rows)
+    (λ c. search rows) (λ c κs. search rows)
+    -- and what it says
+    (λ c. search rows) (λ c. search rows) (λ c. search rows) (λ c. search rows) (λ c. search rows) (λ c. search rows)
+    (λ c. search rows) (λ c. search rows) (λ c. search rows) (λ c. search rows) (λ c. search rows) (λ c. search rows) (λ c. search rows)
+    (λ c. search rows) (λ c. search rows) (λ c. search rows) (λ c. search rows))
