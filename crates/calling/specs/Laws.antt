@@ -16,6 +16,8 @@ use Rattle.reading.specs.Outside.{readOf, splitBy, wholeBy, listBy}
 use Rattle.reading.specs.declared.SplitAnswer.{SplitAnswer}
 use Rattle.reading.specs.declared.WholeAnswer.{WholeAnswer}
 use Rattle.script.specs.Laws.Bytes.{front-put}
+use Rattle.script.specs.Calls.{Bounded}
+use Rattle.script.specs.declared.Call.{Call}
 use Rattle.script.specs.declared.Layout.{Layout}
 use Rattle.script.specs.declared.Layout.the-variants.{Split, Whole}
 use Rattle.calling.specs.Calls.{Held, Answered, answered, withDesk, heldBy, Did, setOn, replaceOn, feedOn, buildOn, builtBy, tableBy, sevens, splitText, wholeText, readText}
@@ -118,3 +120,7 @@ whole-said table piece list before after place count r e f g p =
     (ap (λ (x : WholeAnswer). wholeText x after) is
     ∙ ap (wholeText (wholeBy place (readOf 8 1 table (place ∷ []) count piece (length list)))) (left ∙ ap (λ (l : List ℕ). listBy l (readOf 8 1 table (place ∷ []) count piece (length list))) e))
     p
+
+-- what a call keeps to, as its row has it
+pub bound : {call k : Call} → call ≡ k → Bounded call → Bounded k
+bound e h = subst Bounded e h

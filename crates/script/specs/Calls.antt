@@ -7,13 +7,14 @@ use lib.Dec.{eqb, leb, ltb}
 use lib.ListN.{length, take, getD}
 use Rattle.matching.specs.Words.{same}
 use Rattle.script.specs.Words.{reach, wordOf, behind, skipped}
-use Rattle.script.specs.Numbers.{numberOf}
+use Rattle.script.specs.Numbers.{numberOf, numbersOf}
 use Rattle.script.specs.Bytes.{BytesOf, these, noBytes, bytesOf}
 use Rattle.script.specs.Sets.{setOf}
 use Rattle.script.specs.declared.Layout.{Layout}
 use Rattle.script.specs.declared.Layout.the-variants.{Split, Whole}
 use Rattle.script.specs.declared.Call.{Call}
 use Rattle.script.specs.declared.Call.the-variants as C
+use Rattle.script.specs.declared.Line.{Line}
 use Rattle.script.specs.declared.reads.Place.{Place}
 use Rattle.script.specs.declared.names.Name.{Name}
 use Rattle.script.specs.declared.names.Name.the-variants as N
@@ -21,6 +22,8 @@ use Rattle.script.specs.declared.names.Layouts.{Layouts}
 use Rattle.script.specs.declared.names.Layouts.the-variants.{Named, Unnamed}
 use Rattle.script.specs.declared.numbers.Number.{Number}
 use Rattle.script.specs.declared.numbers.Number.the-variants.{Is, NoNumber}
+use Rattle.script.specs.declared.numbers.Numbers.{Numbers}
+use Rattle.script.specs.declared.numbers.Numbers.the-variants.{Both, NotBoth}
 
 -- a line passed over in silence, a line that is no call, and the calls
 pub data CallOf : Type 0 where
@@ -80,6 +83,21 @@ Bounded (C.Build layout) = Unit {0}
 Bounded (C.Read r) = (r .room ≤ 2048) × (r .piece ≤ 20000)
 Bounded (C.Poke at value) = at < 131841
 Bounded (C.Peek at count) = at + count ≤ 131841
+
+-- a call says this, whatever place and bytes stand beside it, and is bounded
+pub record Plain (says : CallOf) (call : Call) : Type 0 where
+  pub means : (place bytes : List ℕ) → meant place bytes call ≡ says
+  pub bounded : Bounded call
+
+-- a call says this of the bytes that were read with it, and is bounded
+pub record Filled (bytes : List ℕ) (says : CallOf) (call : Call) : Type 0 where
+  pub means : (place : List ℕ) → meant place bytes call ≡ says
+  pub bounded : Bounded call
+
+-- a line says this beside the bytes that were read with it, and its call is bounded
+pub record Says (bytes : List ℕ) (says : CallOf) (line : Line) : Type 0 where
+  pub means : meant (line .place) bytes (line .call) ≡ says
+  pub bounded : Bounded (line .call)
 
 -- the name of a layout
 unfoldable pub layoutOf : List ℕ → Layouts
@@ -155,42 +173,48 @@ abbrev pub readOn : Layouts → List ℕ → CallOf
 readOn (Named layout) words = readOver layout words
 readOn Unnamed words = notACall
 
-abbrev pub pokeBy : Number → Number → CallOf
-pokeBy (Is at) (Is value) = callPoke at value
-pokeBy (Is at) NoNumber = notACall
-pokeBy NoNumber value = notACall
+abbrev pub pokeBy : Numbers → CallOf
+pokeBy (Both at value) = callPoke at value
+pokeBy NotBoth = notACall
 
 -- all numbers that are shown stand in the table buffer
-abbrev pub peekBy : Number → Number → CallOf
-peekBy (Is at) (Is count) = cond (leb (at + count) 131841) (callPeek at count) notACall
-peekBy (Is at) NoNumber = notACall
-peekBy NoNumber count = notACall
+abbrev pub peekBy : Numbers → CallOf
+peekBy (Both at count) = cond (leb (at + count) 131841) (callPeek at count) notACall
+peekBy NotBoth = notACall
+
+-- the name of a call on the desk
+unfoldable pub deskName : List ℕ → Name
+deskName word =
+    cond (same word (114 ∷ 101 ∷ 112 ∷ 108 ∷ 97 ∷ 99 ∷ 101 ∷ [])) N.Replace
+    (cond (same word (111 ∷ 112 ∷ 101 ∷ 110 ∷ [])) N.Open
+    (cond (same word (102 ∷ 101 ∷ 101 ∷ 100 ∷ [])) N.Feed
+    (cond (same word (99 ∷ 108 ∷ 111 ∷ 115 ∷ 101 ∷ [])) N.Close
+    (cond (same word (115 ∷ 116 ∷ 97 ∷ 116 ∷ 101 ∷ [])) N.State
+    (cond (same word (116 ∷ 97 ∷ 107 ∷ 101 ∷ [])) N.Take
+    (cond (same word (115 ∷ 104 ∷ 111 ∷ 119 ∷ [])) N.Show N.Other))))))
 
 -- the name of a call
 unfoldable pub nameOf : List ℕ → Name
 nameOf word =
     cond (same word (115 ∷ 101 ∷ 116 ∷ [])) N.Set
     (cond (same word (108 ∷ 101 ∷ 110 ∷ 100 ∷ [])) N.Lend
-    (cond (same word (114 ∷ 101 ∷ 112 ∷ 108 ∷ 97 ∷ 99 ∷ 101 ∷ [])) N.Replace
-    (cond (same word (111 ∷ 112 ∷ 101 ∷ 110 ∷ [])) N.Open
-    (cond (same word (102 ∷ 101 ∷ 101 ∷ 100 ∷ [])) N.Feed
-    (cond (same word (99 ∷ 108 ∷ 111 ∷ 115 ∷ 101 ∷ [])) N.Close
-    (cond (same word (115 ∷ 116 ∷ 97 ∷ 116 ∷ 101 ∷ [])) N.State
-    (cond (same word (116 ∷ 97 ∷ 107 ∷ 101 ∷ [])) N.Take
-    (cond (same word (115 ∷ 104 ∷ 111 ∷ 119 ∷ [])) N.Show
     (cond (same word (98 ∷ 117 ∷ 105 ∷ 108 ∷ 100 ∷ [])) N.Build
     (cond (same word (114 ∷ 101 ∷ 97 ∷ 100 ∷ [])) N.Read
     (cond (same word (112 ∷ 111 ∷ 107 ∷ 101 ∷ [])) N.Poke
-    (cond (same word (112 ∷ 101 ∷ 101 ∷ 107 ∷ [])) N.Peek N.Other))))))))))))
+    (cond (same word (112 ∷ 101 ∷ 101 ∷ 107 ∷ [])) N.Peek (deskName word))))))
 
--- one row of names: this name, where the word is the call's, and else another
-pub record Row (word call : List ℕ) (name other r : Name) : Type 0 where
+-- a row of names: this one, where the word is what it is called by, and else another
+pub record Row {A : Type 0} (word call : List ℕ) (name other r : A) : Type 0 where
   pub is : r ≡ cond (same word call) name other
 
 -- a call that has nothing behind its name
 abbrev pub alone : Bool → CallOf → CallOf
 alone true call = call
 alone false call = notACall
+
+-- this call where nothing stands behind its name, and else none
+pub record Alone (whole : Bool) (call r : Call) : Type 0 where
+  pub is : r ≡ cond whole call C.NotACall
 
 -- a call by its name, whether that is the whole line, and the words behind it
 abbrev pub callBy : Name → Bool → List ℕ → CallOf
@@ -205,9 +229,13 @@ callBy N.Take whole words = alone whole callTake
 callBy N.Show whole words = alone whole callShow
 callBy N.Build whole words = buildBy (layoutOf words)
 callBy N.Read whole words = readOn (layoutOf (wordOf words)) (behind words)
-callBy N.Poke whole words = pokeBy (numberOf 131840 (wordOf words)) (numberOf 65535 (behind words))
-callBy N.Peek whole words = peekBy (numberOf 4294967295 (wordOf words)) (numberOf 256 (behind words))
+callBy N.Poke whole words = pokeBy (numbersOf 131840 65535 words)
+callBy N.Peek whole words = peekBy (numbersOf 4294967295 256 words)
 callBy N.Other whole words = notACall
+
+-- a line says what its name and the words behind it mean
+pub record Called (name : Name) (whole : Bool) (words bytes : List ℕ) (line : Line) : Type 0 where
+  pub says : Says bytes (callBy name whole words) line
 
 -- the call of a line without its end: a line over 20,000 bytes is none, an empty one and one that begins with # are passed over
 unfoldable pub callOf : List ℕ → CallOf

@@ -4,8 +4,11 @@ use mathlib.Core.Bool.{Bool, true, false, _&&_, not, cond}
 use mathlib.Core.List.{List, [], _∷_}
 use lib.Dec.{eqb, leb, ltb}
 use lib.ListN.{length}
+use Rattle.script.specs.Words.{wordOf, behind}
 use Rattle.script.specs.declared.numbers.Number.{Number}
 use Rattle.script.specs.declared.numbers.Number.the-variants.{Is, NoNumber}
+use Rattle.script.specs.declared.numbers.Numbers.{Numbers}
+use Rattle.script.specs.declared.numbers.Numbers.the-variants.{Both, NotBoth}
 
 -- what a digit counts: 0 to 9, and a to f for 10 to 15; any other byte is no digit and counts 16
 unfoldable pub digitOf : ℕ → ℕ
@@ -28,3 +31,12 @@ numberBy n false = NoNumber
 -- a word as a number of at most `most`
 unfoldable pub numberOf : ℕ → List ℕ → Number
 numberOf most word = numberBy (valueFrom 0 word) (not (eqb (length word) 0) && (allDigits 10 word && leb (valueFrom 0 word) most))
+
+abbrev pub bothBy : Number → Number → Numbers
+bothBy (Is n) (Is m) = Both n m
+bothBy (Is n) NoNumber = NotBoth
+bothBy NoNumber second = NotBoth
+
+-- a word as a number of at most `first`, and what stands behind it as one of at most `last`
+unfoldable pub numbersOf : ℕ → ℕ → List ℕ → Numbers
+numbersOf first last words = bothBy (numberOf first (wordOf words)) (numberOf last (behind words))

@@ -15,21 +15,21 @@ pub use lines::line_part;
 use names::Layouts;
 use names::Name;
 use numbers::Number;
+use numbers::Numbers;
 use numbers::number_of;
+use numbers::numbers_of;
 pub use reads::machines;
 use words::behind;
 use words::word;
 ghost use mathlib.Core.Path.{_≡_};
-ghost use mathlib.Core.Bool.{cond};
-ghost use mathlib.Core.List.{List};
-ghost use Prim.Native.Nat.{ℕ, _≤_};
+ghost use Prim.Native.Nat.{_≤_};
 ghost use lib.ListN.{length};
 ghost use Rattle.script.specs.Words.{wordOf};
 ghost use Rattle.script.specs.Words.{behind as behind·of};
-ghost use Rattle.script.specs.Numbers.{numberOf};
+ghost use Rattle.script.specs.Numbers.{numberOf, numbersOf};
 ghost use Rattle.script.specs.Bytes.{bytesOf};
 ghost use Rattle.script.specs.Sets.{setOf};
-ghost use Rattle.script.specs.Calls.{Bounded, callOf, callBy, meant, setBy, lendBy, feedBy, closeBy, stateBy, buildBy, pokeBy, peekBy, layoutOf};
+ghost use Rattle.script.specs.Calls.{Bounded, Plain, Filled, Alone, Called, callOf, meant, setBy, lendBy, feedBy, closeBy, stateBy, buildBy, pokeBy, peekBy, layoutOf};
 
 pub enum Layout {
     Split,
@@ -102,8 +102,7 @@ fn plain(call: Call) -> Line
 // A call by its name, whether that is the whole line, and the words behind it.
 fn by_name(name: Name, whole: bool, words: &[u8], buffer: &mut [u8]) -> Line
     requires { ⌜ (length (now words) ≤ 20000) × (20000 ≤ length (now buffer)) ⌝ }
-    ensures { λ r. ⌜ meant (r .place) (now (buffer .exit)) (r .call) ≡ callBy name whole (now (words .entry)) ⌝ }
-    ensures { λ r. ⌜ Bounded (r .call) ⌝ }
+    ensures { λ r. ⌜ Called name whole (now (words .entry)) (now (buffer .exit)) r ⌝ }
 {
     match name {
         Name::Set => plain(set(words, buffer)),
@@ -124,7 +123,7 @@ fn by_name(name: Name, whole: bool, words: &[u8], buffer: &mut [u8]) -> Line
 }
 
 fn alone(whole: bool, call: Call) -> Call
-    ensures { λ r. ⌜ r ≡ cond whole call Call.NotACall ⌝ }
+    ensures { λ r. ⌜ Alone whole call r ⌝ }
 {
     if whole {
         return call;
@@ -134,8 +133,7 @@ fn alone(whole: bool, call: Call) -> Call
 
 fn set(words: &[u8], buffer: &mut [u8]) -> Call
     requires { ⌜ (length (now words) ≤ 20000) × (20000 ≤ length (now buffer)) ⌝ }
-    ensures { λ r. ⌜ ((place : List ℕ) → meant place (now (buffer .exit)) r ≡ setBy (setOf (now (words .entry)))) ⌝ }
-    ensures { λ r. ⌜ Bounded r ⌝ }
+    ensures { λ r. ⌜ Filled (now (buffer .exit)) (setBy (setOf (now (words .entry)))) r ⌝ }
 {
     let Bytes::Are(n) = sets::set_bytes(words, buffer) else {
         return Call::NotACall;
@@ -144,8 +142,7 @@ fn set(words: &[u8], buffer: &mut [u8]) -> Call
 }
 
 fn lend(words: &[u8]) -> Call
-    ensures { λ r. ⌜ ((place bytes : List ℕ) → meant place bytes r ≡ lendBy (numberOf 131841 (now (words .entry)))) ⌝ }
-    ensures { λ r. ⌜ Bounded r ⌝ }
+    ensures { λ r. ⌜ Plain (lendBy (numberOf 131841 (now (words .entry)))) r ⌝ }
 {
     let Number::Is(lent) = number_of(words, 131841) else {
         return Call::NotACall;
@@ -155,8 +152,7 @@ fn lend(words: &[u8]) -> Call
 
 fn feed(words: &[u8], buffer: &mut [u8]) -> Call
     requires { ⌜ (length (now words) ≤ 20000) × (20000 ≤ length (now buffer)) ⌝ }
-    ensures { λ r. ⌜ ((place : List ℕ) → meant place (now (buffer .exit)) r ≡ feedBy (numberOf 4294967295 (wordOf (now (words .entry)))) (bytesOf (behind·of (now (words .entry))))) ⌝ }
-    ensures { λ r. ⌜ Bounded r ⌝ }
+    ensures { λ r. ⌜ Filled (now (buffer .exit)) (feedBy (numberOf 4294967295 (wordOf (now (words .entry)))) (bytesOf (behind·of (now (words .entry))))) r ⌝ }
 {
     let Number::Is(serial) = number_of(word(words), LARGEST) else {
         return Call::NotACall;
@@ -168,8 +164,7 @@ fn feed(words: &[u8], buffer: &mut [u8]) -> Call
 }
 
 fn close(words: &[u8]) -> Call
-    ensures { λ r. ⌜ ((place bytes : List ℕ) → meant place bytes r ≡ closeBy (numberOf 4294967295 (now (words .entry)))) ⌝ }
-    ensures { λ r. ⌜ Bounded r ⌝ }
+    ensures { λ r. ⌜ Plain (closeBy (numberOf 4294967295 (now (words .entry)))) r ⌝ }
 {
     let Number::Is(serial) = number_of(words, LARGEST) else {
         return Call::NotACall;
@@ -178,8 +173,7 @@ fn close(words: &[u8]) -> Call
 }
 
 fn state(words: &[u8]) -> Call
-    ensures { λ r. ⌜ ((place bytes : List ℕ) → meant place bytes r ≡ stateBy (numberOf 4294967295 (now (words .entry)))) ⌝ }
-    ensures { λ r. ⌜ Bounded r ⌝ }
+    ensures { λ r. ⌜ Plain (stateBy (numberOf 4294967295 (now (words .entry)))) r ⌝ }
 {
     let Number::Is(serial) = number_of(words, LARGEST) else {
         return Call::NotACall;
@@ -188,8 +182,7 @@ fn state(words: &[u8]) -> Call
 }
 
 fn build(words: &[u8]) -> Call
-    ensures { λ r. ⌜ ((place bytes : List ℕ) → meant place bytes r ≡ buildBy (layoutOf (now (words .entry)))) ⌝ }
-    ensures { λ r. ⌜ Bounded r ⌝ }
+    ensures { λ r. ⌜ Plain (buildBy (layoutOf (now (words .entry)))) r ⌝ }
 {
     let Layouts::Named(layout) = names::layout_of(words) else {
         return Call::NotACall;
@@ -198,26 +191,18 @@ fn build(words: &[u8]) -> Call
 }
 
 fn poke(words: &[u8]) -> Call
-    ensures { λ r. ⌜ ((place bytes : List ℕ) → meant place bytes r ≡ pokeBy (numberOf 131840 (wordOf (now (words .entry)))) (numberOf 65535 (behind·of (now (words .entry))))) ⌝ }
-    ensures { λ r. ⌜ Bounded r ⌝ }
+    ensures { λ r. ⌜ Plain (pokeBy (numbersOf 131840 65535 (now (words .entry)))) r ⌝ }
 {
-    let Number::Is(at) = number_of(word(words), 131840) else {
-        return Call::NotACall;
-    };
-    let Number::Is(value) = number_of(behind(words), 65535) else {
+    let Numbers::Both(at, value) = numbers_of(words, 131840, 65535) else {
         return Call::NotACall;
     };
     Call::Poke(at as usize, value as u16)
 }
 
 fn peek(words: &[u8]) -> Call
-    ensures { λ r. ⌜ ((place bytes : List ℕ) → meant place bytes r ≡ peekBy (numberOf 4294967295 (wordOf (now (words .entry)))) (numberOf 256 (behind·of (now (words .entry))))) ⌝ }
-    ensures { λ r. ⌜ Bounded r ⌝ }
+    ensures { λ r. ⌜ Plain (peekBy (numbersOf 4294967295 256 (now (words .entry)))) r ⌝ }
 {
-    let Number::Is(at) = number_of(word(words), LARGEST) else {
-        return Call::NotACall;
-    };
-    let Number::Is(count) = number_of(behind(words), 256) else {
+    let Numbers::Both(at, count) = numbers_of(words, LARGEST, 256) else {
         return Call::NotACall;
     };
     let from = at as usize;

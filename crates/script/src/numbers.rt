@@ -1,10 +1,18 @@
 // Digits, and NUMBER.
+use crate::words::behind;
+use crate::words::word;
 ghost use mathlib.Core.Path.{_≡_};
-ghost use Rattle.script.specs.Numbers.{digitOf, allDigits, numberOf, valueFrom};
+ghost use Rattle.script.specs.Numbers.{digitOf, allDigits, numberOf, numbersOf};
 
 pub enum Number {
     Is(u32),
     NoNumber,
+}
+
+// A number and another behind it; or one of the two is none.
+pub enum Numbers {
+    Both(u32, u32),
+    NotBoth,
 }
 
 // What a digit counts; 16 for a byte that is no digit.
@@ -61,6 +69,19 @@ pub fn number_of(word: &[u8], most: u32) -> Number
         i += 1;
     }
     Number::Is(n as u32)
+}
+
+// The first word as a number of at most `first`, and what stands behind it as one of at most `last`.
+pub fn numbers_of(words: &[u8], first: u32, last: u32) -> Numbers
+    ensures { λ r. ⌜ r ≡ numbersOf first last (now (words .entry)) ⌝ }
+{
+    let Number::Is(n) = number_of(word(words), first) else {
+        return Numbers::NotBoth;
+    };
+    let Number::Is(m) = number_of(behind(words), last) else {
+        return Numbers::NotBoth;
+    };
+    Numbers::Both(n, m)
 }
 
 fn wide(b: u8) -> u64

@@ -19,7 +19,7 @@ ghost use Prim.Native.Nat.{_≤_};
 ghost use lib.ListN.{length};
 ghost use Rattle.script.specs.Words.{wordOf};
 ghost use Rattle.script.specs.Words.{behind as behind·of};
-ghost use Rattle.script.specs.Calls.{Bounded, meant, layoutOf, machinesOf, placeIn, placeOf, readFrom, readOver, readOn};
+ghost use Rattle.script.specs.Calls.{Says, layoutOf, machinesOf, placeIn, placeOf, readFrom, readOver, readOn};
 
 // How many numbers a place of a layout has.
 pub fn machines(layout: Layout) -> usize
@@ -64,8 +64,7 @@ fn place_of(words: &[u8], k: usize) -> Place
 
 pub fn read(words: &[u8], buffer: &mut [u8]) -> Line
     requires { ⌜ (length (now words) ≤ 20000) × (20000 ≤ length (now buffer)) ⌝ }
-    ensures { λ r. ⌜ meant (r .place) (now (buffer .exit)) (r .call) ≡ readOn (layoutOf (wordOf (now (words .entry)))) (behind·of (now (words .entry))) ⌝ }
-    ensures { λ r. ⌜ Bounded (r .call) ⌝ }
+    ensures { λ r. ⌜ Says (now (buffer .exit)) (readOn (layoutOf (wordOf (now (words .entry)))) (behind·of (now (words .entry)))) r ⌝ }
 {
     let Layouts::Named(layout) = layout_of(word(words)) else {
         return plain(Call::NotACall);
@@ -76,8 +75,7 @@ pub fn read(words: &[u8], buffer: &mut [u8]) -> Line
 // COUNT ROOM PLACE... BYTES
 fn read_over(layout: Layout, words: &[u8], buffer: &mut [u8]) -> Line
     requires { ⌜ (length (now words) ≤ 20000) × (20000 ≤ length (now buffer)) ⌝ }
-    ensures { λ r. ⌜ meant (r .place) (now (buffer .exit)) (r .call) ≡ readOver layout (now (words .entry)) ⌝ }
-    ensures { λ r. ⌜ Bounded (r .call) ⌝ }
+    ensures { λ r. ⌜ Says (now (buffer .exit)) (readOver layout (now (words .entry))) r ⌝ }
 {
     let Number::Is(count) = number_of(word(words), LARGEST) else {
         return plain(Call::NotACall);
@@ -91,8 +89,7 @@ fn read_over(layout: Layout, words: &[u8], buffer: &mut [u8]) -> Line
 // PLACE... BYTES
 fn read_from(layout: Layout, count: u32, room: u32, words: &[u8], buffer: &mut [u8]) -> Line
     requires { ⌜ (length (now words) ≤ 20000) × (20000 ≤ length (now buffer)) × (room ≤ 2048) ⌝ }
-    ensures { λ r. ⌜ meant (r .place) (now (buffer .exit)) (r .call) ≡ readFrom layout count room (now (words .entry)) ⌝ }
-    ensures { λ r. ⌜ Bounded (r .call) ⌝ }
+    ensures { λ r. ⌜ Says (now (buffer .exit)) (readFrom layout count room (now (words .entry))) r ⌝ }
 {
     let k = machines(layout);
     let place = place_of(words, k);

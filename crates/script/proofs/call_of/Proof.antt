@@ -6,29 +6,24 @@ use native.Mathlib.Omega.{arith}
 use lib.ListN.{length}
 use mathlib.Core.Path.{sym, ap, _∙_}
 use Rattle.script.specs.Laws.Words.{length-behind}
-use Rattle.script.specs.Laws.Calls.{by-plain, call-long, call-empty, call-comment, call-named}
-use Rattle.script.specs.Laws.Calls.{by-bounded}
+use Rattle.script.specs.Laws.Calls.{says-none, says-over, call-long, call-empty, call-comment, call-named}
 
 plain-requires : tie.Need-plain-requires
 plain-requires c κs = search needs
 
 returns : tie.Need-returns
 returns c =
-    let args = c .before .before .before .args in (
-      by-plain (args .buffer .now) (c .plain .result) (c .plain .ensures) (λ p. sym (call-long (args .line .now) (c .before .if1 .taken))),
-      by-bounded (c .plain .result) (c .plain .ensures) tt,
-    )
+    let r = says-none {bytes = c .before .before .before .args .buffer .now} (c .plain .ensures) (call-long (c .before .before .before .args .line .now) (c .before .if1 .taken)) in
+    (r .means, r .bounded)
 
 plain-requires-2 : tie.Need-plain-requires-2
 plain-requires-2 c κs = search needs
 
 returns-2 : tie.Need-returns-2
 returns-2 c =
-    let args = c .before .before .before .before .args in (
-      by-plain (args .buffer .now) (c .plain2 .result) (c .plain2 .ensures)
-          (λ p. sym (call-empty (args .line .now) (c .before .if2 .taken))),
-      by-bounded (c .plain2 .result) (c .plain2 .ensures) tt,
-    )
+    let args = c .before .before .before .before .args in
+    let r = says-over {bytes = args .buffer .now} (c .plain2 .ensures) (call-empty (args .line .now) (c .before .if2 .taken)) in
+    (r .means, r .bounded)
 
 shared-slice-read-if3 : tie.Need-shared-slice-read-if3
 shared-slice-read-if3 c = search needs
@@ -39,13 +34,9 @@ plain-requires-3 c κs = search needs
 returns-3 : tie.Need-returns-3
 returns-3 c =
     let c4 = c .before .before .before .before in
-    let if1 = c4 .if1 in
-    let args = c4 .before .before .args in (
-      by-plain (args .buffer .now) (c .plain3 .result) (c .plain3 .ensures)
-          (λ p. sym (call-comment (args .line .now) (if1 .left) (c .before .if3 .taken))),
-      by-bounded (c .plain3 .result) (c .plain3 .ensures)
-          tt,
-    )
+    let args = c4 .before .before .args in
+    let r = says-over {bytes = args .buffer .now} (c .plain3 .ensures) (call-comment (args .line .now) (c4 .if1 .left) (c .before .if3 .taken)) in
+    (r .means, r .bounded)
 
 word-requires : tie.Need-word-requires
 word-requires c κs = search needs
@@ -86,9 +77,9 @@ returns-4 c =
     let c9 = c8 .before in
     let if1 = c9 .if1 in
     let args = c9 .before .before .args in (
-      let l = args .line .now in c .by-name .ensures .0 ∙ call-named l (word .result .now) (behind .result .now) (name-of .result)
+      let l = args .line .now in c .by-name .ensures .says .means ∙ call-named l (word .result .now) (behind .result .now) (name-of .result)
           (reach .result) (if1 .left) (if2 .left) (if3 .left) (word .ensures) (name-of .ensures) (reach .ensures) (behind .ensures),
-      c .by-name .ensures .1,
+      c .by-name .ensures .says .bounded,
     )
 
 pub call-of-spec : {M : Type 1} → statement M

@@ -30,11 +30,12 @@ returns c =
     let number-of = c2 .number-of in
     let c3 = c2 .before in
     let word = c3 .word in
-    let args = c3 .before .before .before .args in (
-      let w = args .words .now in λ place. rw (number-said 4294967295 (wordOf w) NoNumber (number-of .ensures) (word .ensures)
-          (c .enum-told .given .1)),
-      tt,
-    )
+    let args = c3 .before .before .before .args in
+    let w = args .words .now in record {
+      means = λ place. rw (number-said 4294967295 (wordOf w) NoNumber (number-of .ensures) (word .ensures)
+          (c .enum-told .given .1));
+      bounded = tt;
+    }
 
 behind-requires : tie.Need-behind-requires
 behind-requires c κs = search needs
@@ -67,15 +68,16 @@ returns-2 c =
     let number-of = c10 .number-of in
     let c11 = c10 .before in
     let word = c11 .word in
-    let args = c11 .before .before .before .args in (
-      let w = args .words .now in λ place. rw (
+    let args = c11 .before .before .before .args in
+    let w = args .words .now in record {
+      means = λ place. rw (
         number-said 4294967295 (wordOf w) (Is (serial .given .0 .0)) (number-of .ensures)
             (word .ensures) (serial .given .1),
         bytes-said (behind w) (bytes-of .last .1 .0) NoBytes (bytes-of .ensures .0)
             (the-behind .ensures) (c .enum-told2 .given .1),
-      ),
-      tt,
-    )
+      );
+      bounded = tt;
+    }
 
 same-length-2 : tie.Need-same-length-2
 same-length-2 c = search needs
@@ -96,21 +98,22 @@ returns-3 c =
     let word = c12 .word in
     let c15 = c12 .before .before .before in
     let args = c15 .args in
-    let asked = c15 .pre in (
-      let w = args .words .now in λ place. rw (
+    let asked = c15 .pre in
+    let w = args .words .now in record {
+      means = λ place. rw (
         number-said 4294967295 (wordOf w) (Is (serial .given .0 .0)) (number-of .ensures)
             (word .ensures) (serial .given .1),
         bytes-said (behind w) (bytes-of .last .1 .0) (Are (n .given .0 .0)) (bytes-of .ensures .0)
             (the-behind .ensures) (n .given .1),
-      ),
-      omega (
+      );
+      bounded = omega (
         arith,
         rw (n .given .1) at (bytes-of .ensures .1),
         ap length (the-behind .ensures),
         length-behind (args .words .now),
         asked .0,
-      ),
-    )
+      );
+    }
 
 pub feed-spec : {M : Type 1} → statement M
 feed-spec =

@@ -13,9 +13,9 @@ use Rattle.matching.specs.Words.{same}
 use Rattle.script.specs.Words.{reach, wordOf, behind, skipped}
 use Rattle.script.specs.Bytes.{BytesOf, these, noBytes, bytesOf}
 use Rattle.script.specs.Numbers.{numberOf}
-use Rattle.script.specs.Calls.{CallOf, passedOver, notACall, callPeek, peekBy, NumbersOf, numbersAre, noNumbers, placeBy, placeOf, machinesOf, placeIn, readBy, readFrom, readOver, callRead, layoutOf, meant, Bounded, alone, nameOf, Row, callBy, callOf}
+use Rattle.script.specs.Calls.{CallOf, passedOver, notACall, callPeek, peekBy, NumbersOf, numbersAre, noNumbers, placeBy, placeOf, machinesOf, placeIn, readBy, readFrom, readOver, callRead, layoutOf, meant, Bounded, Plain, Filled, Says, alone, Alone, Called, nameOf, Row, callBy, callOf}
 use Rattle.script.specs.declared.Call.{Call}
-use Rattle.script.specs.declared.Call.the-variants.{NotACall}
+use Rattle.script.specs.declared.Call.the-variants.{NotACall, PassedOver}
 use Rattle.script.specs.declared.Layout.{Layout}
 use Rattle.script.specs.declared.Layout.the-variants.{Split, Whole}
 use Rattle.script.specs.declared.Line.{Line}
@@ -24,12 +24,13 @@ use Rattle.script.specs.declared.names.Layouts.{Layouts}
 use Rattle.script.specs.declared.names.Name.{Name}
 use Rattle.script.specs.declared.numbers.Number.{Number}
 use Rattle.script.specs.declared.numbers.Number.the-variants.{Is, NoNumber}
+use Rattle.script.specs.declared.numbers.Numbers.the-variants.{Both}
 
-pub peek-inside : (at count : ℕ) → at + count ≤ 131841 → peekBy (Is at) (Is count) ≡ callPeek at count
-peek-inside at count h = rw (le-leb _ _ h) refl
+pub peek-inside : (at count : ℕ) → at + count ≤ 131841 → peekBy (Both at count) ≡ callPeek at count
+peek-inside at count h = rw (le-leb _ _ h)
 
-pub peek-outside : (at count : ℕ) → 131841 < at + count → peekBy (Is at) (Is count) ≡ notACall
-peek-outside at count h = rw (lt-leb _ _ h) refl
+pub peek-outside : (at count : ℕ) → 131841 < at + count → peekBy (Both at count) ≡ notACall
+peek-outside at count h = rw (lt-leb _ _ h)
 
 -- ---- the place of a read
 
@@ -88,20 +89,33 @@ machines-most Whole = omega arith
 -- ---- a line's call
 
 -- a line without a place says what its call says
-pub by-plain : (bytes : List ℕ) {x : CallOf} (l : Line) {call : Call} → l .call ≡ call → ((place : List ℕ) → meant place bytes call ≡ x) → meant (l .place) bytes (l .call) ≡ x
-by-plain bytes l e f = ap (meant (l .place) bytes) e ∙ f (l .place)
+pub says-filled : {bytes : List ℕ} {says : CallOf} {l : Line} {call : Call} → l .call ≡ call → Filled bytes says call → Says bytes says l
+says-filled {bytes} {says} {l} e p = record { means = ap (meant (l .place) bytes) e ∙ p .means (l .place); bounded = subst Bounded (sym e) (p .bounded) }
 
--- and keeps to its bounds
-pub by-bounded : (l : Line) {call : Call} → l .call ≡ call → Bounded call → Bounded (l .call)
-by-bounded l e h = subst Bounded (sym e) h
+pub filled-plain : {bytes : List ℕ} {says : CallOf} {call : Call} → Plain says call → Filled bytes says call
+filled-plain {bytes} p = record { means = λ place. p .means place bytes; bounded = p .bounded }
 
-pub alone-bounded : (whole : Bool) (call r : Call) → r ≡ cond whole call NotACall → Bounded call → Bounded r
-alone-bounded true call r e h = subst Bounded (sym e) h
-alone-bounded false call r e h = subst Bounded (sym e) tt
+pub says-none : {bytes : List ℕ} {says : CallOf} {l : Line} → l .call ≡ NotACall → says ≡ notACall → Says bytes says l
+says-none {bytes} {says} {l} e f = record { means = ap (meant (l .place) bytes) e ∙ sym f; bounded = subst Bounded (sym e) tt }
 
-pub alone-means : (whole : Bool) (place bytes : List ℕ) (call r : Call) → r ≡ cond whole call NotACall → meant place bytes r ≡ alone whole (meant place bytes call)
-alone-means true place bytes call r e = ap (meant place bytes) e
-alone-means false place bytes call r e = ap (meant place bytes) e
+pub says-over : {bytes : List ℕ} {says : CallOf} {l : Line} → l .call ≡ PassedOver → says ≡ passedOver → Says bytes says l
+says-over {bytes} {says} {l} e f = record { means = ap (meant (l .place) bytes) e ∙ sym f; bounded = subst Bounded (sym e) tt }
+
+pub says-as : {bytes : List ℕ} {x y : CallOf} {l : Line} → Says bytes x l → x ≡ y → Says bytes y l
+says-as s e = record { means = s .means ∙ e; bounded = s .bounded }
+
+pub plain-none : Plain notACall NotACall
+plain-none = record { means = λ place bytes. refl; bounded = tt }
+
+pub plain-alone : {whole : Bool} {says : CallOf} {call r : Call} → Alone whole call r → Plain says call → Plain (alone whole says) r
+plain-alone {whole = true} e p =
+    record { means = λ place bytes. ap (meant place bytes) (e .is) ∙ p .means place bytes; bounded = subst Bounded (sym (e .is)) (p .bounded) }
+plain-alone {whole = false} e p = record { means = λ place bytes. ap (meant place bytes) (e .is); bounded = subst Bounded (sym (e .is)) tt }
+
+-- a row of calls: the name is the row's, and the line says what that row means
+pub called : {name k : Name} {whole : Bool} {words bytes : List ℕ} {l : Line} → name ≡ k → Says bytes (callBy k whole words) l → Called name whole words bytes l
+called {whole = whole} {words = words} {bytes = bytes} {l = l} e s =
+    record { says = subst (λ (n : Name). Says bytes (callBy n whole words) l) (sym e) s }
 
 pub call-long : (l : List ℕ) → 20000 < length l → callOf l ≡ notACall
 unfolding callOf
@@ -163,5 +177,5 @@ pub layout-said : (u : List ℕ) {v : List ℕ} {r : Layouts} (x : Layouts) → 
 layout-said u x f e g = sym (ap layoutOf e) ∙ sym f ∙ g
 
 -- a row of names above others
-pub row : {word call : List ℕ} {name other below r : Name} → Row word call name other r → other ≡ below → r ≡ cond (same word call) name below
-row {word} {call} {name} e q = e .is ∙ ap (cond (same word call) name) q
+pub row : {A : Type 0} {word call : List ℕ} {name other below r : A} → Row word call name other r → other ≡ below → r ≡ cond (same word call) name below
+row {word = word} {call = call} {name = name} e q = e .is ∙ ap (cond (same word call) name) q

@@ -10,9 +10,11 @@ use lib.ListN.{length, getD, drop, drop-of-length-le}
 use lib.Seq.{drop-cons}
 use borrow.Author.Tests.{eq-eqb, ne-eqb, le-leb, lt-leb, lt-ltb, le-ltb, ltb-true, leb-true}
 use Rattle.matching.specs.Laws.Bools.{and-l, and-r}
-use Rattle.script.specs.Numbers.{digitOf, allDigits, valueFrom, numberBy, numberOf}
+use Rattle.script.specs.Numbers.{digitOf, allDigits, valueFrom, numberBy, numberOf, bothBy, numbersOf}
 use Rattle.script.specs.declared.numbers.Number.{Number}
 use Rattle.script.specs.declared.numbers.Number.the-variants.{Is, NoNumber}
+use Rattle.script.specs.declared.numbers.Numbers.the-variants.{Both, NotBoth}
+use Rattle.script.specs.Words.{wordOf, behind}
 
 -- ---- digits
 
@@ -121,3 +123,33 @@ number-most most w n e = go (not (eqb (length w) 0)) (allDigits 10 w) (leb (valu
 -- what was read of a word that is known
 pub number-said : (most : ℕ) (u : List ℕ) {v : List ℕ} {r : Number} (x : Number) → r ≡ numberOf most v → v ≡ u → r ≡ x → numberOf most u ≡ x
 number-said most u x f e g = sym (ap (numberOf most) e) ∙ sym f ∙ g
+
+-- ---- two numbers
+
+both-first : (x y : Number) (n m : ℕ) → bothBy x y ≡ Both n m → x ≡ Is n
+both-first (Is k) (Is l) n m e = cc
+both-first (Is k) NoNumber n m e = cc
+both-first NoNumber y n m e = cc
+
+both-second : (x y : Number) (n m : ℕ) → bothBy x y ≡ Both n m → y ≡ Is m
+both-second (Is k) (Is l) n m e = cc
+both-second (Is k) NoNumber n m e = cc
+both-second NoNumber y n m e = cc
+
+-- each is at most as large as it may be
+pub first-most : (first last : ℕ) (w : List ℕ) (n m : ℕ) → numbersOf first last w ≡ Both n m → n ≤ first
+unfolding numbersOf
+first-most first last w n m e = number-most first (wordOf w) n (both-first (numberOf first (wordOf w)) (numberOf last (behind w)) n m e)
+
+pub second-most : (first last : ℕ) (w : List ℕ) (n m : ℕ) → numbersOf first last w ≡ Both n m → m ≤ last
+unfolding numbersOf
+second-most first last w n m e = number-most last (behind w) m (both-second (numberOf first (wordOf w)) (numberOf last (behind w)) n m e)
+
+-- from what the numbers of two words were found to be
+pub numbers-are : (first last : ℕ) (w : List ℕ) (x y : Number) → numberOf first (wordOf w) ≡ x → numberOf last (behind w) ≡ y → bothBy x y ≡ numbersOf first last w
+unfolding numbersOf
+numbers-are first last w x y e f = rw (e, f)
+
+pub numbers-none : (first last : ℕ) (w : List ℕ) → numberOf first (wordOf w) ≡ NoNumber → NotBoth ≡ numbersOf first last w
+unfolding numbersOf
+numbers-none first last w e = rw e

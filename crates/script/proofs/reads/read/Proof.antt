@@ -12,8 +12,7 @@ use Rattle.script.specs.Calls.{readOn, readOver}
 use Rattle.script.specs.declared.names.Layouts.{Layouts}
 use Rattle.script.specs.declared.names.Layouts.the-variants.{Named, Unnamed}
 use Rattle.script.specs.Laws.Words.{length-behind}
-use Rattle.script.specs.Laws.Calls.{by-plain, layout-said}
-use Rattle.script.specs.Laws.Calls.{by-bounded}
+use Rattle.script.specs.Laws.Calls.{says-none, says-as, layout-said}
 
 word-requires : tie.Need-word-requires
 word-requires c κs = search needs
@@ -36,12 +35,10 @@ returns c =
     let layout-of = c3 .layout-of in
     let c4 = c3 .before in
     let word = c4 .word in
-    let args = c4 .before .before .before .args in (
-      let w = args .words .now in by-plain (args .buffer .now) (c .plain .result) (c .plain .ensures)
-          (λ p. sym (ap (λ (x : Layouts). readOn x (behind w)) (layout-said (wordOf w) Unnamed (layout-of .ensures) (word .ensures)
-          (c .before .enum-told .given .1)))),
-      by-bounded (c .plain .result) (c .plain .ensures) tt,
-    )
+    let args = c4 .before .before .before .args in
+    let w = args .words .now in
+    says-none (c .plain .ensures)
+    (ap (λ (x : Layouts). readOn x (behind w)) (layout-said (wordOf w) Unnamed (layout-of .ensures) (word .ensures) (c .before .enum-told .given .1)))
 
 behind-requires : tie.Need-behind-requires
 behind-requires c κs = search needs
@@ -68,12 +65,12 @@ returns-2 c =
     let layout-of = c8 .layout-of in
     let c9 = c8 .before in
     let word = c9 .word in
-    let args = c9 .before .before .before .args in (
-      let w = args .words .now in let l = layout .given .0 .0 in read-over .ensures .0 ∙ ap (readOver l) (the-behind .ensures) ∙ sym
-          (ap (λ (x : Layouts). readOn x (behind w)) (layout-said (wordOf w) (Named l) (layout-of .ensures) (word .ensures)
-          (layout .given .1))),
-      read-over .ensures .1,
-    )
+    let args = c9 .before .before .before .args in
+    let w = args .words .now in
+    let l = layout .given .0 .0 in
+    says-as (read-over .ensures)
+    (ap (readOver l) (the-behind .ensures)
+    ∙ sym (ap (λ (x : Layouts). readOn x (behind w)) (layout-said (wordOf w) (Named l) (layout-of .ensures) (word .ensures) (layout .given .1))))
 
 pub read-spec : {M : Type 1} → statement M
 read-spec =

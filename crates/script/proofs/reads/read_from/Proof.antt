@@ -10,8 +10,7 @@ use Rattle.script.specs.declared.bytes.Bytes.the-variants.{Are, NoBytes}
 use Rattle.script.specs.Words.{skipped}
 use Rattle.script.specs.Laws.Words.{length-skipped}
 use Rattle.script.specs.Laws.Bytes.{bytes-said}
-use Rattle.script.specs.Laws.Calls.{by-plain, machines-most, read-no-place, read-no-bytes, read-whole}
-use Rattle.script.specs.Laws.Calls.{by-bounded}
+use Rattle.script.specs.Laws.Calls.{says-none, machines-most, read-no-place, read-no-bytes, read-whole}
 
 machines-requires : tie.Need-machines-requires
 machines-requires c κs = search needs
@@ -28,13 +27,10 @@ returns c =
     let place-of = c3 .place-of in
     let c4 = c3 .before in
     let machines = c4 .machines in
-    let args = c4 .before .before .before .args in (
-      let a = args in by-plain (a .buffer .now) (c .plain .result) (c .plain .ensures)
-          (λ p. sym (read-no-place (a .layout) (a .count) (a .room) (machines .result) (a .words .now) (place-of .result) (machines .ensures)
-          (place-of .ensures) (not-true (place-of .result .found) (c .before .if1 .taken)))),
-      by-bounded (c .plain .result)
-          (c .plain .ensures) tt,
-    )
+    let a = c4 .before .before .before .args in
+    says-none (c .plain .ensures)
+    (read-no-place (a .layout) (a .count) (a .room) (machines .result) (a .words .now) (place-of .result) (machines .ensures) (place-of .ensures)
+    (not-true (place-of .result .found) (c .before .if1 .taken)))
 
 skipped-requires : tie.Need-skipped-requires
 skipped-requires c κs = search needs
@@ -68,12 +64,12 @@ returns-2 c =
     let the-skipped = c7 .skipped in
     let c11 = c7 .before .before .before .before in
     let machines = c11 .machines in
-    let args = c11 .before .before .before .args in (
-      let a = args in let b = bytes-of .last .1 .0 in let k = machines .result in by-plain b (c .plain2 .result) (c .plain2 .ensures)
-          (λ p. sym (read-no-bytes (a .layout) (a .count) (a .room) k (a .words .now) (machines .ensures)
-          (bytes-said (skipped k (a .words .now)) b NoBytes (bytes-of .ensures .0) (the-skipped .ensures) (c .before .enum-told .given .1)))),
-      by-bounded (c .plain2 .result) (c .plain2 .ensures) tt,
-    )
+    let a = c11 .before .before .before .args in
+    let k = machines .result in
+    says-none (c .plain2 .ensures)
+    (read-no-bytes (a .layout) (a .count) (a .room) k (a .words .now) (machines .ensures)
+    (bytes-said (skipped k (a .words .now)) (bytes-of .last .1 .0) NoBytes (bytes-of .ensures .0) (the-skipped .ensures)
+    (c .before .enum-told .given .1)))
 
 same-length-2 : tie.Need-same-length-2
 same-length-2 c = search needs
@@ -94,12 +90,13 @@ returns-3 c =
     let machines = c12 .machines in
     let c15 = c12 .before .before .before in
     let args = c15 .args in
-    let asked = c15 .pre in (
-      let a = args in let b = bytes-of .last .1 .0 in let k = machines .result in sym
+    let asked = c15 .pre in
+    let a = args in let b = bytes-of .last .1 .0 in let k = machines .result in record {
+      means = sym
           (read-whole (a .layout) (a .count) (a .room) k (a .words .now) _ (place-of .result) (machines .ensures) (place-of .ensures)
           (not-false (place-of .result .found) (if1 .left)) (bytes-said (skipped k (a .words .now)) b (Are (piece .given .0 .0))
-          (bytes-of .ensures .0) (the-skipped .ensures) (piece .given .1))),
-      (
+          (bytes-of .ensures .0) (the-skipped .ensures) (piece .given .1)));
+      bounded = (
         asked .2,
         omega (
           arith,
@@ -109,8 +106,8 @@ returns-3 c =
               (machines .result) (args .words .now),
           asked .0,
         ),
-      ),
-    )
+      );
+    }
 
 pub read-from-spec : {M : Type 1} → statement M
 read-from-spec =

@@ -10,8 +10,7 @@ use Rattle.script.specs.Words.{wordOf, behind, skipped}
 use Rattle.script.specs.Calls.{readFrom}
 use Rattle.script.specs.Laws.Words.{length-skipped}
 use Rattle.script.specs.Laws.Numbers.{number-said}
-use Rattle.script.specs.Laws.Calls.{by-plain, over-no-count, over-no-room, over-both}
-use Rattle.script.specs.Laws.Calls.{by-bounded}
+use Rattle.script.specs.Laws.Calls.{says-none, says-as, over-no-count, over-no-room, over-both}
 use Rattle.script.specs.Laws.Numbers.{number-most}
 
 word-requires : tie.Need-word-requires
@@ -35,12 +34,10 @@ returns c =
     let number-of = c3 .number-of in
     let c4 = c3 .before in
     let word = c4 .word in
-    let args = c4 .before .before .before .args in (
-      let a = args in let w = a .words .now in by-plain (a .buffer .now) (c .plain .result) (c .plain .ensures)
-          (λ p. sym (over-no-count (a .layout) w (number-said 4294967295 (wordOf w) NoNumber (number-of .ensures) (word .ensures)
-          (c .before .enum-told .given .1)))),
-      by-bounded (c .plain .result) (c .plain .ensures) tt,
-    )
+    let args = c4 .before .before .before .args in
+    let w = args .words .now in
+    says-none (c .plain .ensures)
+    (over-no-count (args .layout) w (number-said 4294967295 (wordOf w) NoNumber (number-of .ensures) (word .ensures) (c .before .enum-told .given .1)))
 
 behind-requires : tie.Need-behind-requires
 behind-requires c κs = search needs
@@ -74,14 +71,13 @@ returns-2 c =
     let number-of = c9 .number-of in
     let c10 = c9 .before in
     let word = c10 .word in
-    let args = c10 .before .before .before .args in (
-      let a = args in let w = a .words .now in by-plain (a .buffer .now) (c .plain2 .result) (c .plain2 .ensures)
-          (λ p. sym (over-no-room (a .layout) w (count .given .0 .0)
-          (number-said 4294967295 (wordOf w) (Is (count .given .0 .0)) (number-of .ensures) (word .ensures) (count .given .1))
-          (number-said 2048 (wordOf (behind w)) NoNumber (number-of2 .ensures) (word2 .ensures ∙ ap wordOf (the-behind .ensures))
-          (c .before .enum-told2 .given .1)))),
-      by-bounded (c .plain2 .result) (c .plain2 .ensures) tt,
-    )
+    let args = c10 .before .before .before .args in
+    let w = args .words .now in
+    says-none (c .plain2 .ensures)
+    (over-no-room (args .layout) w (count .given .0 .0)
+    (number-said 4294967295 (wordOf w) (Is (count .given .0 .0)) (number-of .ensures) (word .ensures) (count .given .1))
+    (number-said 2048 (wordOf (behind w)) NoNumber (number-of2 .ensures) (word2 .ensures ∙ ap wordOf (the-behind .ensures))
+    (c .before .enum-told2 .given .1)))
 
 skipped-requires : tie.Need-skipped-requires
 skipped-requires c κs = search needs
@@ -126,14 +122,15 @@ returns-3 c =
     let number-of = c14 .number-of in
     let c15 = c14 .before in
     let word = c15 .word in
-    let args = c15 .before .before .before .args in (
-      let a = args in let w = a .words .now in read-from .ensures .0 ∙ ap (readFrom (a .layout) (count .given .0 .0) (room .given .0 .0))
-          (skipped .ensures) ∙ sym (over-both (a .layout) w (count .given .0 .0) (room .given .0 .0)
-          (number-said 4294967295 (wordOf w) (Is (count .given .0 .0)) (number-of .ensures) (word .ensures) (count .given .1))
-          (number-said 2048 (wordOf (behind w)) (Is (room .given .0 .0)) (number-of2 .ensures)
-          (word2 .ensures ∙ ap wordOf (the-behind .ensures)) (room .given .1))),
-      read-from .ensures .1,
-    )
+    let args = c15 .before .before .before .args in
+    let w = args .words .now in
+    says-as (read-from .ensures)
+    (ap (readFrom (args .layout) (count .given .0 .0) (room .given .0 .0)) (skipped .ensures)
+    ∙ sym
+    (over-both (args .layout) w (count .given .0 .0) (room .given .0 .0)
+    (number-said 4294967295 (wordOf w) (Is (count .given .0 .0)) (number-of .ensures) (word .ensures) (count .given .1))
+    (number-said 2048 (wordOf (behind w)) (Is (room .given .0 .0)) (number-of2 .ensures) (word2 .ensures ∙ ap wordOf (the-behind .ensures))
+    (room .given .1))))
 
 pub read-over-spec : {M : Type 1} → statement M
 read-over-spec =
