@@ -1,3 +1,4 @@
 -- Laws of answers, for the proofs.
 pub mod Listed
+pub mod Said
 pub mod Show

@@ -6,112 +6,88 @@ use desk::CloseAnswer;
 use desk::Edition;
 use desk::FeedAnswer;
 use desk::OpenAnswer;
-use desk::Record;
 use desk::ReplaceAnswer;
 use desk::StateAnswer;
 use desk::TakeAnswer;
-use matching::Stop;
+use numbers::Answer;
 use reading::Ending;
-use reading::ReadRefusal;
 pub use show::shown;
 use tables::Built;
-use tagset::SetFault;
 pub use texts::not_a_call;
 use texts::put_blank_number;
 use texts::put_numbered;
 use texts::put_numbers;
 use texts::refused;
-use texts::refused_with;
-use texts::refused_with_two;
 pub use texts::word_line;
 use writing::put_line_end;
 use writing::put_words;
 ghost use mathlib.Core.List.{_∷_, [], _++_};
 ghost use Rattle.writing.specs.Buffer.{buffer, Puts};
-ghost use Rattle.reading.specs.Outside.{readNumber};
-ghost use Rattle.answers.specs.Answers.{numbered, listed, ended, refusedLine, faultLine, replaceLine, openLine, stopWord, feedLine, closeLine, heldPart, statePart, stateLine, recordLine, takeLine, builtLine, numbersLine, stoppedLines, readLines};
-
-fn fault(out: &mut [u8; 65536], used: usize, fault: SetFault) -> usize
-    ensures { λ r. ⌜ Puts (buffer (now (out .entry)) used) (faultLine fault) (buffer (now (out .exit)) r) ⌝ }
-{
-    match fault {
-        SetFault::Cut(k) => refused_with(out, used, 1, k as u64),
-        SetFault::Many(k) => refused_with(out, used, 2, k as u64),
-        SetFault::Kind(k) => refused_with(out, used, 3, k as u64),
-        SetFault::Length(k) => refused_with(out, used, 4, k as u64),
-        SetFault::Empty => refused_with(out, used, 5, 0),
-        SetFault::Repeat(k) => refused_with(out, used, 6, k as u64),
-    }
-}
+ghost use Rattle.answers.specs.Answers.{listed, ended, replaceLine, openLine, stopWord, fedPart, feedLine, closeLine, heldPart, statePart, stateLine, recordLine, takeLine, builtLine, numbersLine, stoppedLines, readLines};
 
 pub fn replaced(out: &mut [u8; 65536], used: usize, answer: ReplaceAnswer) -> usize
     ensures { λ r. ⌜ Puts (buffer (now (out .entry)) used) (replaceLine answer) (buffer (now (out .exit)) r) ⌝ }
 {
-    match answer {
-        ReplaceAnswer::Replaced(edition, tags) => {
-            let n = put_numbered(out, used, b"edition ", edition.0 as u64);
-            let n = put_numbered(out, n, b" tags ", tags as u64);
-            put_line_end(out, n)
-        }
-        ReplaceAnswer::Fault(why) => fault(out, used, why),
-        ReplaceAnswer::Table(machine, needs) => refused_with_two(
-            out,
-            used,
-            7,
-            machine as u64,
-            needs as u64,
-        ),
-        ReplaceAnswer::EditionEnd => refused(out, used, 8),
+    let said = numbers::of_replace(answer);
+    let given = said.answer;
+    if given.refusal > 0 {
+        return refused(out, used, said);
     }
+    let n = put_numbered(out, used, b"edition ", given.a);
+    let n = put_numbered(out, n, b" tags ", given.b);
+    put_line_end(out, n)
 }
 
 pub fn opened(out: &mut [u8; 65536], used: usize, answer: OpenAnswer) -> usize
     ensures { λ r. ⌜ Puts (buffer (now (out .entry)) used) (openLine answer) (buffer (now (out .exit)) r) ⌝ }
 {
-    match answer {
-        OpenAnswer::Opened(serial) => word_line(out, used, b"serial ", serial.0 as u64),
-        OpenAnswer::NoSet => refused(out, used, 9),
-        OpenAnswer::SerialEnd => refused(out, used, 10),
-        OpenAnswer::NoRoom => refused(out, used, 11),
+    let said = numbers::of_open(answer);
+    let given = said.answer;
+    if given.refusal > 0 {
+        return refused(out, used, said);
     }
+    word_line(out, used, b"serial ", given.a)
 }
 
-fn put_stop(out: &mut [u8; 65536], used: usize, stop: Stop) -> usize
+fn put_stop(out: &mut [u8; 65536], used: usize, stop: u64) -> usize
     ensures { λ r. ⌜ Puts (buffer (now (out .entry)) used) (stopWord stop) (buffer (now (out .exit)) r) ⌝ }
 {
-    match stop {
-        Stop::All => put_words(out, used, b" stop ALL"),
-        Stop::Full => put_words(out, used, b" stop FULL"),
-        Stop::Damaged => put_words(out, used, b" stop DAMAGED"),
+    if stop == 0 {
+        return put_words(out, used, b" stop ALL");
     }
+    if stop == 1 {
+        return put_words(out, used, b" stop FULL");
+    }
+    put_words(out, used, b" stop DAMAGED")
+}
+
+fn put_fed(out: &mut [u8; 65536], used: usize, given: Answer) -> usize
+    ensures { λ r. ⌜ Puts (buffer (now (out .entry)) used) (fedPart given) (buffer (now (out .exit)) r) ⌝ }
+{
+    let n = put_numbered(out, used, b"taken ", given.a);
+    put_stop(out, n, given.b)
 }
 
 pub fn fed(out: &mut [u8; 65536], used: usize, answer: FeedAnswer) -> usize
     ensures { λ r. ⌜ Puts (buffer (now (out .entry)) used) (feedLine answer) (buffer (now (out .exit)) r) ⌝ }
 {
-    match answer {
-        FeedAnswer::Fed {
-            taken,
-            records: _,
-            stop,
-        } => {
-            let n = put_numbered(out, used, b"taken ", taken as u64);
-            let n = put_stop(out, n, stop);
-            put_line_end(out, n)
-        }
-        FeedAnswer::NoTicket => refused(out, used, 12),
-        FeedAnswer::Stale(edition) => refused_with(out, used, 13, edition.0 as u64),
-        FeedAnswer::Long => refused(out, used, 14),
+    let said = numbers::of_feed(answer);
+    let given = said.answer;
+    if given.refusal > 0 {
+        return refused(out, used, said);
     }
+    let n = put_fed(out, used, given);
+    put_line_end(out, n)
 }
 
 pub fn closed(out: &mut [u8; 65536], used: usize, serial: u32, answer: CloseAnswer) -> usize
     ensures { λ r. ⌜ Puts (buffer (now (out .entry)) used) (closeLine serial answer) (buffer (now (out .exit)) r) ⌝ }
 {
-    match answer {
-        CloseAnswer::Closed => word_line(out, used, b"closed ", serial as u64),
-        CloseAnswer::NoTicket => refused(out, used, 12),
+    let said = numbers::of_close(answer);
+    if said.answer.refusal > 0 {
+        return refused(out, used, said);
     }
+    word_line(out, used, b"closed ", serial as u64)
 }
 
 fn put_held(out: &mut [u8; 65536], used: usize, words: &[u8], edition: Edition, count: u32) -> usize
@@ -140,42 +116,36 @@ pub fn told(out: &mut [u8; 65536], used: usize, serial: u32, answer: StateAnswer
     put_state(out, n, answer)
 }
 
-fn record_line(out: &mut [u8; 65536], used: usize, oldest: Record) -> usize
-    ensures { λ r. ⌜ Puts (buffer (now (out .entry)) used) (recordLine oldest) (buffer (now (out .exit)) r) ⌝ }
+fn record_line(out: &mut [u8; 65536], used: usize, given: Answer) -> usize
+    ensures { λ r. ⌜ Puts (buffer (now (out .entry)) used) (recordLine given) (buffer (now (out .exit)) r) ⌝ }
 {
-    let serial = oldest.serial;
-    let edition = oldest.edition;
-    let tag = oldest.tag;
-    let n = put_numbered(out, used, b"record ", serial.0 as u64);
-    let n = put_blank_number(out, n, edition.0 as u64);
-    let n = put_blank_number(out, n, oldest.end as u64);
-    let n = put_blank_number(out, n, tag.0 as u64);
+    let n = put_numbered(out, used, b"record ", given.a);
+    let n = put_blank_number(out, n, given.b);
+    let n = put_blank_number(out, n, given.c);
+    let n = put_blank_number(out, n, given.d);
     put_line_end(out, n)
 }
 
 pub fn taken(out: &mut [u8; 65536], used: usize, answer: TakeAnswer) -> usize
     ensures { λ r. ⌜ Puts (buffer (now (out .entry)) used) (takeLine answer) (buffer (now (out .exit)) r) ⌝ }
 {
-    match answer {
-        TakeAnswer::Taken(oldest) => record_line(out, used, oldest),
-        TakeAnswer::Nothing => refused(out, used, 16),
+    let said = numbers::of_take(answer);
+    let given = said.answer;
+    if given.refusal > 0 {
+        return refused(out, used, said);
     }
+    record_line(out, used, given)
 }
 
 pub fn built_line(out: &mut [u8; 65536], used: usize, answer: Built) -> usize
     ensures { λ r. ⌜ Puts (buffer (now (out .entry)) used) (builtLine answer) (buffer (now (out .exit)) r) ⌝ }
 {
-    match answer {
-        Built::Tags(count) => word_line(out, used, b"tags ", count as u64),
-        Built::Fault(why) => fault(out, used, why),
-        Built::Table(machine, needs) => refused_with_two(
-            out,
-            used,
-            7,
-            machine as u64,
-            needs as u64,
-        ),
+    let said = numbers::of_built(answer);
+    let given = said.answer;
+    if given.refusal > 0 {
+        return refused(out, used, said);
     }
+    word_line(out, used, b"tags ", given.a)
 }
 
 pub fn numbers_line(out: &mut [u8; 65536], used: usize, numbers: &[u16]) -> usize
@@ -194,20 +164,11 @@ fn put_list(out: &mut [u8; 65536], used: usize, list: &[u32]) -> usize
     put_line_end(out, n)
 }
 
-fn stopped(
-    out: &mut [u8; 65536],
-    used: usize,
-    taken: usize,
-    stop: Stop,
-    records: usize,
-    place: &[u16],
-    list: &[u32],
-) -> usize
-    ensures { λ r. ⌜ Puts (buffer (now (out .entry)) used) (stoppedLines taken stop records (now (place .entry)) (now (list .entry))) (buffer (now (out .exit)) r) ⌝ }
+fn stopped(out: &mut [u8; 65536], used: usize, given: Answer, place: &[u16], list: &[u32]) -> usize
+    ensures { λ r. ⌜ Puts (buffer (now (out .entry)) used) (stoppedLines (now (place .entry)) (now (list .entry)) given) (buffer (now (out .exit)) r) ⌝ }
 {
-    let n = put_numbered(out, used, b"taken ", taken as u64);
-    let n = put_stop(out, n, stop);
-    let n = put_numbered(out, n, b" records ", records as u64);
+    let n = put_fed(out, used, given);
+    let n = put_numbered(out, n, b" records ", given.c);
     let n = put_words(out, n, b" place");
     let n = put_numbers(out, n, place);
     let n = put_line_end(out, n);
@@ -225,17 +186,10 @@ pub fn read_lines(
 ) -> usize
     ensures { λ r. ⌜ Puts (buffer (now (out .entry)) used) (readLines taken ending records (now (place .entry)) (now (list .entry))) (buffer (now (out .exit)) r) ⌝ }
 {
-    match ending {
-        Ending::Stopped(stop) => stopped(out, used, taken, stop, records, place, list),
-        Ending::Refused(why) => read_refused(out, used, why),
+    let said = numbers::of_read(taken, records, ending);
+    let given = said.answer;
+    if given.refusal > 0 {
+        return refused(out, used, said);
     }
-}
-
-fn read_refused(out: &mut [u8; 65536], used: usize, why: ReadRefusal) -> usize
-    ensures { λ r. ⌜ Puts (buffer (now (out .entry)) used) (refusedLine (readNumber why) []) (buffer (now (out .exit)) r) ⌝ }
-{
-    match why {
-        ReadRefusal::Long => refused(out, used, 14),
-        ReadRefusal::Place => refused(out, used, 15),
-    }
+    stopped(out, used, given, place, list)
 }

@@ -1,4 +1,5 @@
 // Words and numbers of an answer.
+use numbers::Said;
 use writing::put_byte;
 use writing::put_line_end;
 use writing::put_number;
@@ -6,7 +7,7 @@ use writing::put_words;
 ghost use mathlib.Core.Path.{_≡_};
 ghost use mathlib.Core.List.{_∷_, []};
 ghost use Rattle.writing.specs.Buffer.{buffer, Puts};
-ghost use Rattle.answers.specs.Answers.{numbered, listed, wordLine, notACallLine, refusedLine};
+ghost use Rattle.answers.specs.Answers.{numbered, listed, wordLine, notACallLine, refusedLine, firstTwo};
 
 pub fn put_numbered(out: &mut [u8; 65536], used: usize, words: &[u8], n: u64) -> usize
     ensures { λ r. ⌜ Puts (buffer (now (out .entry)) used) (numbered (now (words .entry)) n) (buffer (now (out .exit)) r) ⌝ }
@@ -72,31 +73,25 @@ pub fn not_a_call(out: &mut [u8; 65536], used: usize, line: u64) -> usize
     put_words(out, at, b": not a call\n")
 }
 
-pub fn refused(out: &mut [u8; 65536], used: usize, number: u64) -> usize
-    ensures { λ r. ⌜ Puts (buffer (now (out .entry)) used) (refusedLine number []) (buffer (now (out .exit)) r) ⌝ }
+// As many of the first two values as there are.
+fn put_values(out: &mut [u8; 65536], used: usize, count: u64, first: u64, second: u64) -> usize
+    ensures { λ r. ⌜ Puts (buffer (now (out .entry)) used) (listed [] (firstTwo count first second)) (buffer (now (out .exit)) r) ⌝ }
 {
-    word_line(out, used, b"refused ", number)
+    if count == 0 {
+        return used;
+    }
+    let at = put_blank_number(out, used, first);
+    if count == 1 {
+        return at;
+    }
+    put_blank_number(out, at, second)
 }
 
-pub fn refused_with(out: &mut [u8; 65536], used: usize, number: u64, value: u64) -> usize
-    ensures { λ r. ⌜ Puts (buffer (now (out .entry)) used) (refusedLine number (value ∷ [])) (buffer (now (out .exit)) r) ⌝ }
+pub fn refused(out: &mut [u8; 65536], used: usize, said: Said) -> usize
+    ensures { λ r. ⌜ Puts (buffer (now (out .entry)) used) (refusedLine (said .answer .refusal) (firstTwo (said .count) (said .answer .a) (said .answer .b))) (buffer (now (out .exit)) r) ⌝ }
 {
-    let at = put_numbered(out, used, b"refused ", number);
-    let at = put_blank_number(out, at, value);
-    put_line_end(out, at)
-}
-
-pub fn refused_with_two(
-    out: &mut [u8; 65536],
-    used: usize,
-    number: u64,
-    value: u64,
-    next: u64,
-) -> usize
-    ensures { λ r. ⌜ Puts (buffer (now (out .entry)) used) (refusedLine number (value ∷ next ∷ [])) (buffer (now (out .exit)) r) ⌝ }
-{
-    let at = put_numbered(out, used, b"refused ", number);
-    let at = put_blank_number(out, at, value);
-    let at = put_blank_number(out, at, next);
+    let answer = said.answer;
+    let at = put_numbered(out, used, b"refused ", answer.refusal);
+    let at = put_values(out, at, said.count, answer.a, answer.b);
     put_line_end(out, at)
 }

@@ -17,7 +17,8 @@ ghost use Rattle.desk.specs.State.{stateOf};
 ghost use Rattle.gate.specs.Gate.{newGate, changeOf, beginOf, pieceOf, decideOf};
 ghost use Rattle.tables.specs.Building.{builtOf, tableOf, neededOf};
 ghost use Rattle.reading.specs.Outside.{readOf, splitBy, wholeBy, listBy};
-ghost use Rattle.numbers.specs.Answers.{builtAnswer, neededAnswer, replaceAnswer, openAnswer, feedAnswer, closeAnswer, takeAnswer, stateAnswer, pieceAnswer, verdictAnswer, splitSaid, wholeSaid};
+ghost use Rattle.gate_numbers.specs.Answers.{pieceAnswer, verdictAnswer};
+ghost use Rattle.numbers.specs.Answers.{builtAnswer, neededAnswer, replaceAnswer, openAnswer, feedAnswer, closeAnswer, takeAnswer, stateAnswer, splitSaid, wholeSaid};
 
 // A desk after a call, and the call's answer.
 #[repr(C)]
@@ -75,7 +76,7 @@ pub extern "C" fn sleet_desk_replace(desk: Desk, set: &[u8], table: &mut [u16]) 
     let r = desk.replace(set, table);
     let after = r.desk;
     let said = r.answer;
-    let answer = numbers::of_replace(said);
+    let answer = numbers::of_replace(said).answer;
     Reply {
         desk: after,
         answer,
@@ -89,7 +90,7 @@ pub extern "C" fn sleet_desk_open(desk: Desk) -> Reply
     let r = desk.open();
     let after = r.desk;
     let said = r.answer;
-    let answer = numbers::of_open(said);
+    let answer = numbers::of_open(said).answer;
     Reply {
         desk: after,
         answer,
@@ -103,7 +104,7 @@ pub extern "C" fn sleet_desk_feed(desk: Desk, serial: u32, table: &[u16], piece:
     let r = desk.feed(Serial(serial), table, piece);
     let after = r.desk;
     let said = r.answer;
-    let answer = numbers::of_feed(said);
+    let answer = numbers::of_feed(said).answer;
     Reply {
         desk: after,
         answer,
@@ -117,7 +118,7 @@ pub extern "C" fn sleet_desk_close(desk: Desk, serial: u32) -> Reply
     let r = desk.close(Serial(serial));
     let after = r.desk;
     let said = r.answer;
-    let answer = numbers::of_close(said);
+    let answer = numbers::of_close(said).answer;
     Reply {
         desk: after,
         answer,
@@ -131,7 +132,7 @@ pub extern "C" fn sleet_desk_take(desk: Desk) -> Reply
     let r = desk.take();
     let after = r.desk;
     let said = r.answer;
-    let answer = numbers::of_take(said);
+    let answer = numbers::of_take(said).answer;
     Reply {
         desk: after,
         answer,
@@ -154,7 +155,7 @@ pub extern "C" fn sleet_desk_take_many(desk: Desk, list: &mut [u32]) -> TakenMan
 pub extern "C" fn sleet_desk_state(desk: Desk, serial: u32) -> Answer
     ensures { λ r. ⌜ r ≡ stateAnswer (stateOf desk (serialOf serial)) ⌝ }
 {
-    numbers::of_state(desk.state(Serial(serial)))
+    numbers::of_state(desk.state(Serial(serial))).answer
 }
 
 #[no_mangle]
@@ -171,7 +172,7 @@ pub extern "C" fn sleet_gate_replace(gate: Gate, set: &[u8], table: &mut [u16]) 
     let r = gate.replace(set, table);
     let after = r.gate;
     let said = r.answer;
-    let answer = numbers::of_replace(said);
+    let answer = numbers::of_replace(said).answer;
     GateReply {
         gate: after,
         answer,
@@ -185,7 +186,7 @@ pub extern "C" fn sleet_gate_begin(gate: Gate) -> GateReply
     let r = gate.begin();
     let after = r.gate;
     let said = r.answer;
-    let answer = numbers::of_open(said);
+    let answer = numbers::of_open(said).answer;
     GateReply {
         gate: after,
         answer,
@@ -204,7 +205,7 @@ pub extern "C" fn sleet_gate_piece(
     let r = gate.piece(Serial(serial), table, piece);
     let after = r.gate;
     let said = r.answer;
-    let answer = numbers::of_piece(said);
+    let answer = gate_numbers::of_piece(said).answer;
     GateReply {
         gate: after,
         answer,
@@ -218,7 +219,7 @@ pub extern "C" fn sleet_gate_decide(gate: Gate, serial: u32) -> GateReply
     let r = gate.decide(Serial(serial));
     let after = r.gate;
     let said = r.answer;
-    let answer = numbers::of_verdict(said);
+    let answer = gate_numbers::of_verdict(said).answer;
     GateReply {
         gate: after,
         answer,
@@ -229,21 +230,21 @@ pub extern "C" fn sleet_gate_decide(gate: Gate, serial: u32) -> GateReply
 pub extern "C" fn sleet_slots_needed(set: &[u8]) -> Answer
     ensures { λ r. ⌜ r ≡ neededAnswer (neededOf (now (set .entry))) ⌝ }
 {
-    numbers::of_needed(tables::slots_needed(set))
+    numbers::of_needed(tables::slots_needed(set)).answer
 }
 
 #[no_mangle]
 pub extern "C" fn sleet_build_split(set: &[u8], table: &mut [u16]) -> Answer
     ensures { λ r. ⌜ (r ≡ builtAnswer (builtOf 1 8 (now (set .entry)) (length (now (table .entry))))) × (now (table .exit) ≡ tableOf 1 8 (now (set .entry)) (now (table .entry))) ⌝ }
 {
-    numbers::of_built(tables::build_split(set, table))
+    numbers::of_built(tables::build_split(set, table)).answer
 }
 
 #[no_mangle]
 pub extern "C" fn sleet_build_whole(set: &[u8], table: &mut [u16]) -> Answer
     ensures { λ r. ⌜ (r ≡ builtAnswer (builtOf 8 1 (now (set .entry)) (length (now (table .entry))))) × (now (table .exit) ≡ tableOf 8 1 (now (set .entry)) (now (table .entry))) ⌝ }
 {
-    numbers::of_built(tables::build_whole(set, table))
+    numbers::of_built(tables::build_whole(set, table)).answer
 }
 
 #[no_mangle]
@@ -260,7 +261,7 @@ pub extern "C" fn sleet_read_split(
     let r = reading::read_split(table, start, count, piece, list);
     let after = r.place;
     let ending = r.ending;
-    let answer = numbers::of_read(r.taken, r.records, ending);
+    let answer = numbers::of_read(r.taken, r.records, ending).answer;
     SplitReply {
         answer,
         place: after,
@@ -279,7 +280,7 @@ pub extern "C" fn sleet_read_whole(
 {
     let r = reading::read_whole(table, place, count, piece, list);
     let ending = r.ending;
-    let answer = numbers::of_read(r.taken, r.records, ending);
+    let answer = numbers::of_read(r.taken, r.records, ending).answer;
     WholeReply {
         answer,
         place: r.place,

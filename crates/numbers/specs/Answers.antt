@@ -2,7 +2,7 @@
 use Rattle.reading.specs.declared.Ending.the-variants as E
 use Prim.Native.Nat.{ℕ}
 use mathlib.Core.List.{List, [], _∷_}
-use lib.ListN.{getD}
+use lib.ListN.{getD, length}
 use Rattle.desk.specs.Numbers.{closeNumber, closeValues, feedNumber, feedValues, openNumber, openValues, replaceNumber, replaceValues, stateValues, stopNumber, takeNumber, takeValues}
 use Rattle.desk.specs.declared.CloseAnswer.{CloseAnswer}
 use Rattle.desk.specs.declared.FeedAnswer.{FeedAnswer}
@@ -10,10 +10,8 @@ use Rattle.desk.specs.declared.OpenAnswer.{OpenAnswer}
 use Rattle.desk.specs.declared.ReplaceAnswer.{ReplaceAnswer}
 use Rattle.desk.specs.declared.StateAnswer.{StateAnswer}
 use Rattle.desk.specs.declared.TakeAnswer.{TakeAnswer}
-use Rattle.gate.specs.Numbers.{pieceNumber, pieceValues, verdictNumber, verdictValues}
-use Rattle.gate.specs.declared.PieceAnswer.{PieceAnswer}
-use Rattle.gate.specs.declared.Verdict.{Verdict}
 use Rattle.numbers.specs.declared.Answer.{Answer}
+use Rattle.numbers.specs.declared.Said.{Said}
 use Rattle.reading.specs.Outside.{readNumber, readValues}
 use Rattle.reading.specs.declared.Ending.{Ending}
 use Rattle.reading.specs.declared.SplitAnswer.{SplitAnswer}
@@ -34,6 +32,10 @@ answerOf n values = record {
   f = getD values 5 0;
   g = getD values 6 0;
 }
+
+-- with the number of its values
+abbrev pub saidOf : ℕ → List ℕ → Said
+saidOf n values = record { answer = answerOf n values; count = length values }
 
 -- building: the number of tags, or what is returned with its refusal
 abbrev pub builtAnswer : Built → Answer
@@ -63,17 +65,17 @@ takeAnswer r = answerOf (takeNumber r) (takeValues r)
 abbrev pub stateAnswer : StateAnswer → Answer
 stateAnswer r = answerOf 0 (stateValues r)
 
--- the gate's calls, each by the gate's own numbers and values; its replacing and beginning answer as the desk does
-abbrev pub pieceAnswer : PieceAnswer → Answer
-pieceAnswer r = answerOf (pieceNumber r) (pieceValues r)
-
-abbrev pub verdictAnswer : Verdict → Answer
-verdictAnswer r = answerOf (verdictNumber r) (verdictValues r)
-
 -- a read outside: the bytes taken, why it stopped, and the records written
+abbrev pub endingNumber : Ending → ℕ
+endingNumber (E.Stopped stop) = 0
+endingNumber (E.Refused why) = readNumber why
+
+abbrev pub endingValues : ℕ → ℕ → Ending → List ℕ
+endingValues count records (E.Stopped stop) = count ∷ stopNumber stop ∷ records ∷ []
+endingValues count records (E.Refused why) = readValues why
+
 abbrev pub readAnswer : ℕ → ℕ → Ending → Answer
-readAnswer count records (E.Stopped stop) = answerOf 0 (count ∷ stopNumber stop ∷ records ∷ [])
-readAnswer count records (E.Refused why) = answerOf (readNumber why) (readValues why)
+readAnswer count records ending = answerOf (endingNumber ending) (endingValues count records ending)
 
 abbrev pub splitSaid : SplitAnswer → Answer
 splitSaid r = readAnswer (r .taken) (r .records) (r .ending)

@@ -5,8 +5,6 @@ use desk::OpenAnswer;
 use desk::ReplaceAnswer;
 use desk::StateAnswer;
 use desk::TakeAnswer;
-use gate::PieceAnswer;
-use gate::Verdict;
 use matching::Stop;
 use reading::Ending;
 use reading::ReadRefusal;
@@ -16,9 +14,10 @@ use tagset::SetFault;
 ghost use mathlib.Core.Path.{_≡_};
 ghost use mathlib.Core.List.{[], _∷_};
 ghost use Rattle.tagset.specs.Answer.{faultNumber, faultValues};
-ghost use Rattle.reading.specs.Outside.{readNumber};
-ghost use Rattle.desk.specs.Numbers.{stopNumber};
-ghost use Rattle.numbers.specs.Answers.{answerOf, builtAnswer, neededAnswer, replaceAnswer, openAnswer, feedAnswer, closeAnswer, takeAnswer, stateAnswer, readAnswer, pieceAnswer, verdictAnswer};
+ghost use Rattle.tables.specs.Building.{builtNumber, builtValues, neededNumber, neededValues};
+ghost use Rattle.reading.specs.Outside.{readNumber, readValues};
+ghost use Rattle.desk.specs.Numbers.{stopNumber, replaceNumber, replaceValues, openNumber, openValues, feedNumber, feedValues, closeNumber, closeValues, takeNumber, takeValues, stateValues};
+ghost use Rattle.numbers.specs.Answers.{answerOf, saidOf, endingNumber, endingValues};
 
 // No call gives more than four values yet; the others leave the layout as it is when one gives more.
 #[repr(C)]
@@ -33,19 +32,52 @@ pub struct Answer {
     pub g: u64,
 }
 
-fn with(refusal: u64, a: u64, b: u64, c: u64, d: u64) -> Answer
-    ensures { λ r. ⌜ r ≡ answerOf refusal (a ∷ b ∷ c ∷ d ∷ []) ⌝ }
+// An answer, and how many of the values are its own: those behind them are 0.
+pub struct Said {
+    pub answer: Answer,
+    pub count: u64,
+}
+
+fn with(refusal: u64, count: u64, a: u64, b: u64, c: u64, d: u64) -> Said
+    ensures { λ r. ⌜ r ≡ record { answer = answerOf refusal (a ∷ b ∷ c ∷ d ∷ []); count = count } ⌝ }
 {
-    Answer {
-        refusal,
-        a,
-        b,
-        c,
-        d,
-        e: 0,
-        f: 0,
-        g: 0,
+    Said {
+        answer: Answer {
+            refusal,
+            a,
+            b,
+            c,
+            d,
+            e: 0,
+            f: 0,
+            g: 0,
+        },
+        count,
     }
+}
+
+pub fn bare(refusal: u64) -> Said
+    ensures { λ r. ⌜ r ≡ saidOf refusal [] ⌝ }
+{
+    with(refusal, 0, 0, 0, 0, 0)
+}
+
+pub fn one(refusal: u64, a: u64) -> Said
+    ensures { λ r. ⌜ r ≡ saidOf refusal (a ∷ []) ⌝ }
+{
+    with(refusal, 1, a, 0, 0, 0)
+}
+
+pub fn two(refusal: u64, a: u64, b: u64) -> Said
+    ensures { λ r. ⌜ r ≡ saidOf refusal (a ∷ b ∷ []) ⌝ }
+{
+    with(refusal, 2, a, b, 0, 0)
+}
+
+fn three(a: u64, b: u64, c: u64) -> Said
+    ensures { λ r. ⌜ r ≡ saidOf 0 (a ∷ b ∷ c ∷ []) ⌝ }
+{
+    with(0, 3, a, b, c, 0)
 }
 
 fn of_stop(stop: Stop) -> u64
@@ -58,69 +90,69 @@ fn of_stop(stop: Stop) -> u64
     }
 }
 
-fn of_stopped(taken: usize, records: usize, stop: Stop) -> Answer
-    ensures { λ r. ⌜ r ≡ answerOf 0 (taken ∷ stopNumber stop ∷ records ∷ []) ⌝ }
+fn of_stopped(taken: usize, records: usize, stop: Stop) -> Said
+    ensures { λ r. ⌜ r ≡ saidOf 0 (taken ∷ stopNumber stop ∷ records ∷ []) ⌝ }
 {
     let why = of_stop(stop);
-    with(0, taken as u64, why, records as u64, 0)
+    three(taken as u64, why, records as u64)
 }
 
-fn of_fault(fault: SetFault) -> Answer
-    ensures { λ r. ⌜ r ≡ answerOf (faultNumber fault) (faultValues fault) ⌝ }
+fn of_fault(fault: SetFault) -> Said
+    ensures { λ r. ⌜ r ≡ saidOf (faultNumber fault) (faultValues fault) ⌝ }
 {
     match fault {
-        SetFault::Cut(k) => with(1, k as u64, 0, 0, 0),
-        SetFault::Many(k) => with(2, k as u64, 0, 0, 0),
-        SetFault::Kind(k) => with(3, k as u64, 0, 0, 0),
-        SetFault::Length(k) => with(4, k as u64, 0, 0, 0),
-        SetFault::Empty => with(5, 0, 0, 0, 0),
-        SetFault::Repeat(k) => with(6, k as u64, 0, 0, 0),
+        SetFault::Cut(k) => one(1, k as u64),
+        SetFault::Many(k) => one(2, k as u64),
+        SetFault::Kind(k) => one(3, k as u64),
+        SetFault::Length(k) => one(4, k as u64),
+        SetFault::Empty => one(5, 0),
+        SetFault::Repeat(k) => one(6, k as u64),
     }
 }
 
-pub fn of_built(built: Built) -> Answer
-    ensures { λ r. ⌜ r ≡ builtAnswer built ⌝ }
+pub fn of_built(built: Built) -> Said
+    ensures { λ r. ⌜ r ≡ saidOf (builtNumber built) (builtValues built) ⌝ }
 {
     match built {
-        Built::Tags(count) => with(0, count as u64, 0, 0, 0),
+        Built::Tags(count) => one(0, count as u64),
         Built::Fault(fault) => of_fault(fault),
-        Built::Table(machine, needs) => with(7, machine as u64, needs as u64, 0, 0),
+        Built::Table(machine, needs) => two(7, machine as u64, needs as u64),
     }
 }
 
-pub fn of_needed(needed: Needed) -> Answer
-    ensures { λ r. ⌜ r ≡ neededAnswer needed ⌝ }
+pub fn of_needed(needed: Needed) -> Said
+    ensures { λ r. ⌜ r ≡ saidOf (neededNumber needed) (neededValues needed) ⌝ }
 {
     match needed {
-        Needed::Slots(split, whole) => with(0, split as u64, whole as u64, 0, 0),
+        Needed::Slots(split, whole) => two(0, split as u64, whole as u64),
         Needed::Fault(fault) => of_fault(fault),
     }
 }
 
-pub fn of_replace(said: ReplaceAnswer) -> Answer
-    ensures { λ r. ⌜ r ≡ replaceAnswer said ⌝ }
+pub fn of_replace(said: ReplaceAnswer) -> Said
+    ensures { λ r. ⌜ r ≡ saidOf (replaceNumber said) (replaceValues said) ⌝ }
 {
     match said {
-        ReplaceAnswer::Replaced(edition, tags) => with(0, edition.0 as u64, tags as u64, 0, 0),
+        ReplaceAnswer::Replaced(edition, tags) => two(0, edition.0 as u64, tags as u64),
         ReplaceAnswer::Fault(fault) => of_fault(fault),
-        ReplaceAnswer::Table(machine, needs) => with(7, machine as u64, needs as u64, 0, 0),
-        ReplaceAnswer::EditionEnd => with(8, 0, 0, 0, 0),
+        ReplaceAnswer::Table(machine, needs) => two(7, machine as u64, needs as u64),
+        ReplaceAnswer::EditionEnd => bare(8),
     }
 }
 
-pub fn of_open(said: OpenAnswer) -> Answer
-    ensures { λ r. ⌜ r ≡ openAnswer said ⌝ }
+pub fn of_open(said: OpenAnswer) -> Said
+    ensures { λ r. ⌜ r ≡ saidOf (openNumber said) (openValues said) ⌝ }
 {
     match said {
-        OpenAnswer::Opened(serial) => with(0, serial.0 as u64, 0, 0, 0),
-        OpenAnswer::NoSet => with(9, 0, 0, 0, 0),
-        OpenAnswer::SerialEnd => with(10, 0, 0, 0, 0),
-        OpenAnswer::NoRoom => with(11, 0, 0, 0, 0),
+        OpenAnswer::Opened(serial) => one(0, serial.0 as u64),
+        OpenAnswer::NoSet => bare(9),
+        OpenAnswer::SerialEnd => bare(10),
+        OpenAnswer::NoRoom => bare(11),
     }
 }
 
-pub fn of_feed(said: FeedAnswer) -> Answer
-    ensures { λ r. ⌜ r ≡ feedAnswer said ⌝ }
+pub fn of_feed(said: FeedAnswer) -> Said
+    ensures { λ r. ⌜ r ≡ saidOf (feedNumber said) (feedValues said) ⌝ }
 {
     match said {
         FeedAnswer::Fed {
@@ -128,23 +160,23 @@ pub fn of_feed(said: FeedAnswer) -> Answer
             records,
             stop,
         } => of_stopped(taken, records, stop),
-        FeedAnswer::NoTicket => with(12, 0, 0, 0, 0),
-        FeedAnswer::Stale(edition) => with(13, edition.0 as u64, 0, 0, 0),
-        FeedAnswer::Long => with(14, 0, 0, 0, 0),
+        FeedAnswer::NoTicket => bare(12),
+        FeedAnswer::Stale(edition) => one(13, edition.0 as u64),
+        FeedAnswer::Long => bare(14),
     }
 }
 
-pub fn of_close(said: CloseAnswer) -> Answer
-    ensures { λ r. ⌜ r ≡ closeAnswer said ⌝ }
+pub fn of_close(said: CloseAnswer) -> Said
+    ensures { λ r. ⌜ r ≡ saidOf (closeNumber said) (closeValues said) ⌝ }
 {
     match said {
-        CloseAnswer::Closed => with(0, 0, 0, 0, 0),
-        CloseAnswer::NoTicket => with(12, 0, 0, 0, 0),
+        CloseAnswer::Closed => bare(0),
+        CloseAnswer::NoTicket => bare(12),
     }
 }
 
-pub fn of_take(said: TakeAnswer) -> Answer
-    ensures { λ r. ⌜ r ≡ takeAnswer said ⌝ }
+pub fn of_take(said: TakeAnswer) -> Said
+    ensures { λ r. ⌜ r ≡ saidOf (takeNumber said) (takeValues said) ⌝ }
 {
     match said {
         TakeAnswer::Taken(r) => {
@@ -153,62 +185,39 @@ pub fn of_take(said: TakeAnswer) -> Answer
             let tag = r.tag;
             with(
                 0,
+                4,
                 serial.0 as u64,
                 edition.0 as u64,
                 r.end as u64,
                 tag.0 as u64,
             )
         }
-        TakeAnswer::Nothing => with(16, 0, 0, 0, 0),
+        TakeAnswer::Nothing => bare(16),
     }
 }
 
-pub fn of_state(said: StateAnswer) -> Answer
-    ensures { λ r. ⌜ r ≡ stateAnswer said ⌝ }
+pub fn of_state(said: StateAnswer) -> Said
+    ensures { λ r. ⌜ r ≡ saidOf 0 (stateValues said) ⌝ }
 {
     match said {
-        StateAnswer::Never => with(0, 0, 0, 0, 0),
-        StateAnswer::Closed => with(0, 1, 0, 0, 0),
-        StateAnswer::Stale(edition, taken) => with(0, 2, edition.0 as u64, taken as u64, 0),
-        StateAnswer::Open(edition, taken) => with(0, 3, edition.0 as u64, taken as u64, 0),
+        StateAnswer::Never => one(0, 0),
+        StateAnswer::Closed => one(0, 1),
+        StateAnswer::Stale(edition, taken) => three(2, edition.0 as u64, taken as u64),
+        StateAnswer::Open(edition, taken) => three(3, edition.0 as u64, taken as u64),
     }
 }
 
-pub fn of_piece(said: PieceAnswer) -> Answer
-    ensures { λ r. ⌜ r ≡ pieceAnswer said ⌝ }
-{
-    match said {
-        PieceAnswer::Read => with(0, 1, 0, 0, 0),
-        PieceAnswer::Cut(taken) => with(0, 0, taken as u64, 0, 0),
-        PieceAnswer::NoTicket => with(12, 0, 0, 0, 0),
-        PieceAnswer::Stale(edition) => with(13, edition.0 as u64, 0, 0, 0),
-    }
-}
-
-// No verdict is 0, so that an answer of zeros lets nothing pass.
-pub fn of_verdict(said: Verdict) -> Answer
-    ensures { λ r. ⌜ r ≡ verdictAnswer said ⌝ }
-{
-    match said {
-        Verdict::Pass => with(0, 1, 0, 0, 0),
-        Verdict::Hold(mask) => with(0, 2, mask, 0, 0),
-        Verdict::Stale(edition) => with(0, 3, edition.0 as u64, 0, 0),
-        Verdict::Unread => with(0, 4, 0, 0, 0),
-        Verdict::NoTicket => with(12, 0, 0, 0, 0),
-    }
-}
-
-fn of_refusal(why: ReadRefusal) -> Answer
-    ensures { λ r. ⌜ r ≡ answerOf (readNumber why) [] ⌝ }
+fn of_refusal(why: ReadRefusal) -> Said
+    ensures { λ r. ⌜ r ≡ saidOf (readNumber why) (readValues why) ⌝ }
 {
     match why {
-        ReadRefusal::Long => with(14, 0, 0, 0, 0),
-        ReadRefusal::Place => with(15, 0, 0, 0, 0),
+        ReadRefusal::Long => bare(14),
+        ReadRefusal::Place => bare(15),
     }
 }
 
-pub fn of_read(taken: usize, records: usize, ending: Ending) -> Answer
-    ensures { λ r. ⌜ r ≡ readAnswer taken records ending ⌝ }
+pub fn of_read(taken: usize, records: usize, ending: Ending) -> Said
+    ensures { λ r. ⌜ r ≡ saidOf (endingNumber ending) (endingValues taken records ending) ⌝ }
 {
     match ending {
         Ending::Stopped(stop) => of_stopped(taken, records, stop),

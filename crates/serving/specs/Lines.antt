@@ -2,32 +2,19 @@
 use Prim.Native.Nat.{ℕ, zero, suc, _+_, _*_}
 use mathlib.Core.List.{List, [], _∷_, _++_}
 use lib.ListN.{getD}
+use Rattle.answers.specs.Answers.{replaceLine, wordLine}
+use Rattle.desk.specs.Numbers.{replaceNumber}
 use Rattle.desk.specs.declared.Record.{Record}
 use Rattle.desk.specs.declared.ReplaceAnswer.{ReplaceAnswer}
 use Rattle.desk.specs.declared.ReplaceAnswer.the-variants as R
-use Rattle.tagset.specs.Answer.{faultNumber, faultValues}
 use Rattle.writing.specs.Decimal.{decimalOf}
 
--- `edition E tags N`
-abbrev pub acceptedLine : ℕ → ℕ → List ℕ
-acceptedLine edition tags =
-    (101 ∷ 100 ∷ 105 ∷ 116 ∷ 105 ∷ 111 ∷ 110 ∷ 32 ∷ []) ++ (decimalOf edition ++ ((32 ∷ 116 ∷ 97 ∷ 103 ∷ 115 ∷ 32 ∷ []) ++ (decimalOf tags ++ (10 ∷ []))))
-
--- a blank and a number for each, and the line's end
-unfoldable pub valuesLine : List ℕ → List ℕ
-valuesLine [] = 10 ∷ []
-valuesLine (v ∷ vs) = (32 ∷ []) ++ (decimalOf v ++ valuesLine vs)
-
--- `refused N`, and the values
-abbrev pub refusedLine : ℕ → List ℕ → List ℕ
-refusedLine number values = (114 ∷ 101 ∷ 102 ∷ 117 ∷ 115 ∷ 101 ∷ 100 ∷ 32 ∷ []) ++ (decimalOf number ++ valuesLine values)
-
--- the line for the set; refusals 1 to 6 have the entry with them
+-- the line for the set, as `replay` writes it; of TABLE the number alone
 abbrev pub answerLine : ReplaceAnswer → List ℕ
-answerLine (R.Replaced edition tags) = acceptedLine (edition .0) tags
-answerLine (R.Fault fault) = refusedLine (faultNumber fault) (faultValues fault)
-answerLine (R.Table machine needs) = refusedLine 7 []
-answerLine R.EditionEnd = refusedLine 8 []
+answerLine (R.Replaced edition tags) = replaceLine (R.Replaced edition tags)
+answerLine (R.Fault fault) = replaceLine (R.Fault fault)
+answerLine (R.Table machine needs) = wordLine (114 ∷ 101 ∷ 102 ∷ 117 ∷ 115 ∷ 101 ∷ 100 ∷ 32 ∷ []) (replaceNumber (R.Table machine needs))
+answerLine R.EditionEnd = replaceLine R.EditionEnd
 
 -- `SERIAL END TAG`
 abbrev pub recordLine : ℕ → ℕ → ℕ → List ℕ
@@ -45,4 +32,4 @@ linesOf (r ∷ rs) = recordLine (r .serial .0) (r .end) (r .tag .0) ++ linesOf r
 
 -- `taken T`
 abbrev pub takenLine : ℕ → List ℕ
-takenLine taken = (116 ∷ 97 ∷ 107 ∷ 101 ∷ 110 ∷ 32 ∷ []) ++ (decimalOf taken ++ (10 ∷ []))
+takenLine taken = wordLine (116 ∷ 97 ∷ 107 ∷ 101 ∷ 110 ∷ 32 ∷ []) taken

@@ -1,26 +1,19 @@
+use Rattle.numbers.specs.Laws.{answer-is}
 use borrow.Author.Needs.{needs}
 use Rattle.gateway.proofs.sleet_build_whole.Statement.{statement}
 use Rattle.gateway.proofs.sleet_build_whole.Tie as tie
-use Rattle.gateway.proofs.sleet_build_whole.Reads as reads
-use Rattle.gateway.proofs.sleet_build_whole.Lts as lts
-use Rattle.numbers.proofs.of_built.Reads as of-built-reads
-use Rattle.tables.proofs.build_whole.Reads as build-whole-reads
 
--- src/lib.rt:140:23
 build-whole-requires : tie.Need-build-whole-requires
 build-whole-requires c κs = search needs
 
--- src/lib.rt:140:5
 of-built-requires : tie.Need-of-built-requires
 of-built-requires c κs = search needs
 
--- src/lib.rt:136:1
 same-length : tie.Need-same-length
 same-length c = search needs
 
--- src/lib.rt:136:1
 returns : tie.Need-returns
-returns c = ((cc), (cc))
+returns c = let called = c .before .before .before .before .build-whole .ensures in rw (← called .0) (answer-is (c .before .of-built .ensures), called .1)
 
 pub sleet-build-whole-spec : {M : Type 1} → statement M
 sleet-build-whole-spec =

@@ -1,18 +1,31 @@
--- `answers::texts::refused` meets its contract: part by part.
+use Rattle.answers.specs.Answers.{refusedLine}
+use Rattle.writing.specs.Laws.Waiting.{put-then}
+use borrow.Author.Needs.{needs}
 use Rattle.answers.proofs.texts.refused.Statement.{statement}
 use Rattle.answers.proofs.texts.refused.Tie as tie
-use borrow.Author.Needs.{needs}
-use Rattle.answers.specs.Answers.{refusedLine, listed}
 
-slice-aggregate-word-line : tie.Need-slice-aggregate-word-line
-slice-aggregate-word-line c = search needs
+slice-aggregate-put-numbered : tie.Need-slice-aggregate-put-numbered
+slice-aggregate-put-numbered c = search needs
 
-word-line-requires : tie.Need-word-line-requires
-word-line-requires c κs = search needs
+put-numbered-requires : tie.Need-put-numbered-requires
+put-numbered-requires c κs = search needs
+
+put-values-requires : tie.Need-put-values-requires
+put-values-requires c κs = search needs
+
+put-line-end-requires : tie.Need-put-line-end-requires
+put-line-end-requires c κs = search needs
 
 returns : tie.Need-returns
-unfolding refusedLine listed
-returns c = c .word-line .ensures
+unfolding refusedLine
+returns c = put-then (put-then (c .before .before .before .before .put-numbered .ensures) (c .before .before .put-values .ensures)) (c .put-line-end .ensures)
 
 pub refused-spec : {M : Type 1} → statement M
-refused-spec = tie.close (tie.spec slice-aggregate-word-line word-line-requires returns)
+refused-spec =
+    tie.close
+    (tie.spec
+    slice-aggregate-put-numbered
+    put-numbered-requires
+    put-values-requires
+    put-line-end-requires
+    returns)
