@@ -45,10 +45,11 @@ use Rattle.desk.specs.Laws.Layout.{desk-kept}
 use Rattle.matching.specs.Occurrence.{Occurrence}
 use Rattle.matching.specs.Words.{Word}
 use Rattle.desk.specs.Layout.{Kind, Lent, Order, sizesOf}
+use Rattle.desk.specs.Limits.{mostTickets}
 
 -- a gate as its calls make it: 16 masks, a desk that the desk's calls make, and no record held
 pub record Settled (g : Gate) : Type 0 where
-  pub masks : length (g .seen) ≡ 16
+  pub masks : length (g .seen) ≡ mostTickets
   pub reached : Reached (g .desk)
   pub none : held (g .desk .records) ≡ []
 
@@ -116,7 +117,7 @@ module _ (d : Desk) (s : Serial) (table : List ℕ) (piece : Word) (r : Reached 
           ∙ ap (λ (l : List Record). ofSerial n (held (d .records)) ++ l) (ofSerial-none n (t .serial) (t .edition) found (λ q. other (sym q ∙ its)))
           ∙ append-nil (ofSerial n (held (d .records)))
 
-module _ (g : Gate) (s : Serial) (table : List ℕ) (rest : Word) (masks : length (g .seen) ≡ 16) (r : Reached (g .desk)) where
+module _ (g : Gate) (s : Serial) (table : List ℕ) (rest : Word) (masks : length (g .seen) ≡ mostTickets) (r : Reached (g .desk)) where
   -- one feed of what is left: the records then held are those held before and those of this feed, and each goes to its own
   pub rest-own : ToTheirOwn (g .desk .tickets) (g .seen) (restOf g s table rest .gate .seen) (held (feedOf (g .desk) s table rest .desk .records))
   rest-own =
@@ -204,7 +205,7 @@ untouched-rest g s table x rest u = record {
 pub piece-others : (g : Gate) (s : Serial) (table : List ℕ) (piece : Word) → Settled g → (i : ℕ) → (ticketIn (g .desk .tickets) i .serial .0 ≡ s .0 → ⊥)
     → seenIn (pieceOf g s table piece .gate .seen) i ≡ seenIn (g .seen) i
 unfolding pieceOf
-piece-others g s table piece k i n = go (ltb room 16) (eqb (ticketIn (g .desk .tickets) room .edition .0) (g .desk .edition .0)) refl
+piece-others g s table piece k i n = go (ltb room mostTickets) (eqb (ticketIn (g .desk .tickets) room .edition .0) (g .desk .edition .0)) refl
   where
     room : ℕ
     room = roomOf (g .desk .tickets) s
@@ -215,17 +216,17 @@ piece-others g s table piece k i n = go (ltb room 16) (eqb (ticketIn (g .desk .t
     all : Untouched g s (fed .gate)
     all = fed-keeps (Untouched g s) s table piece (untouched-rest g s table) (length piece) g 0 (record { settled = k; serials = λ j. refl; same = λ j m. refl })
 
-    ended : (b : Bool) → room < 16 → seenIn (endedBy (fed .gate) room (fed .taken) b .gate .seen) i ≡ seenIn (g .seen) i
+    ended : (b : Bool) → room < mostTickets → seenIn (endedBy (fed .gate) room (fed .taken) b .gate .seen) i ≡ seenIn (g .seen) i
     ended true h = all .same i n
     ended false h =
         getD-set-other (fed .gate .seen) room i _ (record { mask = 0; unread = 1 })
         (λ e. n (ap (λ (j : ℕ). ticketIn (g .desk .tickets) j .serial .0) e ∙ for-held s (ticketIn (g .desk .tickets) room) (room-held (g .desk) s (good (k .reached)) h) .1))
         ∙ all .same i n
 
-    go : (a b : Bool) → ltb room 16 ≡ a → seenIn (pieceBy g s room (ticketIn (g .desk .tickets) room) table piece a b .gate .seen) i ≡ seenIn (g .seen) i
+    go : (a b : Bool) → ltb room mostTickets ≡ a → seenIn (pieceBy g s room (ticketIn (g .desk .tickets) room) table piece a b .gate .seen) i ≡ seenIn (g .seen) i
     go false b h = refl
     go true false h = refl
-    go true true h = ended (eqb (fed .taken) (length piece)) (ltb-true room 16 h)
+    go true true h = ended (eqb (fed .taken) (length piece)) (ltb-true room mostTickets h)
 
 -- ---- a new gate is settled, and each call leaves it so
 
@@ -263,7 +264,7 @@ settled-begin g k =
 
 pub settled-piece : (g : Gate) (s : Serial) (table : List ℕ) (piece : Word) → Settled g → Settled (pieceOf g s table piece .gate)
 unfolding pieceOf
-settled-piece g s table piece k = go (ltb room 16) (eqb (ticketIn (g .desk .tickets) room .edition .0) (g .desk .edition .0))
+settled-piece g s table piece k = go (ltb room mostTickets) (eqb (ticketIn (g .desk .tickets) room .edition .0) (g .desk .edition .0))
   where
     room : ℕ
     room = roomOf (g .desk .tickets) s
@@ -285,7 +286,7 @@ settled-piece g s table piece k = go (ltb room 16) (eqb (ticketIn (g .desk .tick
 
 pub settled-decide : (g : Gate) (s : Serial) → Settled g → Settled (decideOf g s .gate)
 unfolding decideOf
-settled-decide g s k = go (ltb (roomOf (g .desk .tickets) s) 16)
+settled-decide g s k = go (ltb (roomOf (g .desk .tickets) s) mostTickets)
   where
     same : (r : Closing) → Closes (g .desk) s r → r .desk .records ≡ g .desk .records
     same r (close-no-ticket h) = refl

@@ -19,16 +19,17 @@ use Rattle.gate.specs.Laws.Own.{all-oldest, noted-free, noted-length, no
 use Rattle.gate.specs.Noting.{noted, seenIn}
 use Rattle.gate.specs.declared.Gate.{Gate}
 use Rattle.gate.specs.declared.Seen.{Seen}
+use Rattle.desk.specs.Limits.{mostTickets}
 
 -- a gate's masks and a desk: 16 of each, no two rooms held under one serial, and at most 256 records held
 pub record Roomed (g : Gate) (d : Desk) : Type 0 where
-  pub masks : length (g .seen) ≡ 16
-  pub rooms : length (d .tickets) ≡ 16
+  pub masks : length (g .seen) ≡ mostTickets
+  pub rooms : length (d .tickets) ≡ mostTickets
   pub apart : Apart (d .tickets)
   pub most : d .records .count ≤ 256
 
 -- so is a gate with its 16 masks and every desk that the calls make
-pub reached-roomed : (g : Gate) (d : Desk) → length (g .seen) ≡ 16 → Reached d → Roomed g d
+pub reached-roomed : (g : Gate) (d : Desk) → length (g .seen) ≡ mostTickets → Reached d → Roomed g d
 reached-roomed g d w r = record { masks = w; rooms = good r .rooms; apart = reached-apart r; most = good r .count }
 
 -- what is kept for some rooms, before some records were noted and after
@@ -53,8 +54,8 @@ emptied-own g d p =
     })
 
 -- a record of a serial that has no room, wherever it stands among others, is noted nowhere: all is kept as if it were not there
-pub nowhere : (rooms : List Ticket) (seen : List Seen) (before : List Record) (r : Record) (after : List Record) → length seen ≡ 16
-    → 16 ≤ roomOf rooms (serialOf (r .serial .0)) → noted rooms seen (before ++ r ∷ after) ≡ noted rooms seen (before ++ after)
+pub nowhere : (rooms : List Ticket) (seen : List Seen) (before : List Record) (r : Record) (after : List Record) → length seen ≡ mostTickets
+    → mostTickets ≤ roomOf rooms (serialOf (r .serial .0)) → noted rooms seen (before ++ r ∷ after) ≡ noted rooms seen (before ++ after)
 nowhere = noted-nowhere
 
 -- no record is held then, and the tickets are as before

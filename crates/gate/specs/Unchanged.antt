@@ -26,13 +26,14 @@ use Rattle.gate.specs.declared.Seen.{Seen}
 use Rattle.gate.specs.declared.Verdict.the-variants as Q
 use Rattle.matching.specs.Words.{Word}
 use Rattle.desk.specs.Layout.{Lent, Order, sizesOf}
+use Rattle.desk.specs.Limits.{mostTickets}
 
 -- a piece refused NO TICKET or STALE
 pub piece-refused : (g : Gate) (s : Serial) (table : List ℕ) (piece : Word) → (pieceNumber (pieceOf g s table piece .answer) ≡ 0 → ⊥)
     → pieceOf g s table piece .gate ≡ g
 unfolding pieceOf
 piece-refused g s table piece =
-    go (ltb i 16) (eqb (ticketIn (g .desk .tickets) i .edition .0) (g .desk .edition .0))
+    go (ltb i mostTickets) (eqb (ticketIn (g .desk .tickets) i .edition .0) (g .desk .edition .0))
   where
     i : ℕ
     i = roomOf (g .desk .tickets) s
@@ -56,7 +57,7 @@ piece-refused g s table piece =
 -- a decision refused NO TICKET
 pub decide-refused : (g : Gate) (s : Serial) → (verdictNumber (decideOf g s .answer) ≡ 0 → ⊥) → decideOf g s .gate ≡ g
 unfolding decideOf
-decide-refused g s = room (ltb i 16)
+decide-refused g s = room (ltb i mostTickets)
   where
     i : ℕ
     i = roomOf (g .desk .tickets) s
@@ -100,7 +101,7 @@ change-refused g order run n =
 -- a piece of no bytes: nothing is fed and no record is taken out, so the gate is as before, whatever the answer
 pub piece-empty : (g : Gate) (s : Serial) (table : List ℕ) → pieceOf g s table [] .gate ≡ g
 unfolding pieceOf fedOn
-piece-empty g s table = go (ltb i 16) (eqb (ticketIn (g .desk .tickets) i .edition .0) (g .desk .edition .0))
+piece-empty g s table = go (ltb i mostTickets) (eqb (ticketIn (g .desk .tickets) i .edition .0) (g .desk .edition .0))
   where
     i : ℕ
     i = roomOf (g .desk .tickets) s
@@ -111,7 +112,7 @@ piece-empty g s table = go (ltb i 16) (eqb (ticketIn (g .desk .tickets) i .editi
     go true true = refl
 
 -- and for a ticket of the edition in force it is read
-pub piece-empty-read : (g : Gate) (s : Serial) (table : List ℕ) → roomOf (g .desk .tickets) s < 16
+pub piece-empty-read : (g : Gate) (s : Serial) (table : List ℕ) → roomOf (g .desk .tickets) s < mostTickets
     → ticketIn (g .desk .tickets) (roomOf (g .desk .tickets) s) .edition .0 ≡ g .desk .edition .0 → pieceOf g s table [] .answer ≡ P.Read
 unfolding pieceOf fedOn
-piece-empty-read g s table h e = rw (lt-ltb _ 16 h, eq-eqb _ _ e) refl
+piece-empty-read g s table h e = rw (lt-ltb _ mostTickets h, eq-eqb _ _ e) refl

@@ -23,6 +23,7 @@ pub mod States
 pub mod Later
 pub mod Rows
 pub mod Held
+pub mod Streams
 pub mod Answering
 pub mod Answered
 pub mod ByRoom

@@ -1,7 +1,7 @@
--- What each call makes of the records that a desk holds.
+-- What each call makes of the records that a desk holds, and of the stream of all records of a history.
 use Rattle.desk.specs.declared.FeedAnswer.the-variants as F
 use Rattle.desk.specs.declared.TakeAnswer.the-variants as K
-use Prim.Native.Nat.{_-_, ℕ}
+use Prim.Native.Nat.{_+_, _-_, ℕ}
 use mathlib.Core.List.{List, [], _++_, _∷_}
 use mathlib.Core.Path.{_≡_}
 use lib.ListN.{length}
@@ -19,6 +19,8 @@ use Rattle.desk.specs.declared.Serial.{Serial}
 use Rattle.matching.specs.Occurrence.{Occurrence, Ordered}
 use Rattle.matching.specs.Words.{Word}
 use Rattle.matching.specs.declared.Stop.{Stop}
+use Rattle.history.specs.History.{Account, World, recordsFor, stream}
+use Rattle.matching.specs.Tags.{foundIn}
 
 -- a taking hands out the oldest of those held, and leaves the others; where none is held it hands out none
 pub record HandsOut (d : Desk) : Type 0 where
@@ -43,3 +45,23 @@ HeldAfter d callOpen = held (afterCall d callOpen .records) ≡ held (d .records
 HeldAfter d (callFeed s table piece) = PutsBehind d s table piece
 HeldAfter d (callClose s) = held (afterCall d (callClose s) .records) ≡ held (d .records)
 HeldAfter d callTake = HandsOut d
+
+-- ---- the stream
+
+-- what a call adds to the stream: records of its serial, if it is a feed, and else none
+abbrev pub AddedBy : Call → List Record → Type 0
+AddedBy (callReplace order run) rs = rs ≡ []
+AddedBy callOpen rs = rs ≡ []
+AddedBy (callFeed s table piece) rs = recordsFor (s .0) rs ≡ rs
+AddedBy (callClose s) rs = rs ≡ []
+AddedBy callTake rs = rs ≡ []
+
+pub record Adds (w v : World) (a : Call) : Type 0 where
+  pub records : List Record
+  pub behind : stream v ≡ stream w ++ records
+  pub of-call : AddedBy a records
+
+-- the occurrences in all bytes taken for some accounts
+unfoldable pub occurrencesIn : List Account → ℕ
+occurrencesIn [] = 0
+occurrencesIn (a ∷ l) = length (foundIn (a .tags) (a .bytes)) + occurrencesIn l

@@ -22,6 +22,7 @@ use Rattle.tagset.specs.declared.SetFault.{SetFault}
 use Rattle.verdicts.specs.GateHistory.{GateWorld, NotReplaced, Readable, Replaced, Undecided, approvalAt, undecidedOf}
 use Rattle.verdicts.specs.Mask.{maskOf}
 use Rattle.matching.specs.Limits.{largest}
+use Rattle.desk.specs.Limits.{mostTickets}
 
 -- no tag ends anywhere in the bytes
 abbrev pub Clean : Tags → Word → Type 0
@@ -84,9 +85,9 @@ module _ (w : GateWorld) (s : Serial) where
 pub record BeginExactly (w : GateWorld) (answer : OpenAnswer) : Type 0 where
   pub no-set : (answer ≡ O.NoSet) ↔ (w .accepted ≡ 0)
   pub serial-end : (answer ≡ O.SerialEnd) ↔ ((0 < w .accepted) × (length (w .approvals) ≡ largest))
-  pub no-room : (answer ≡ O.NoRoom) ↔ ((0 < w .accepted) × (length (w .approvals) < largest) × (undecidedOf (w .approvals) ≡ 16))
+  pub no-room : (answer ≡ O.NoRoom) ↔ ((0 < w .accepted) × (length (w .approvals) < largest) × (undecidedOf (w .approvals) ≡ mostTickets))
   pub opened : (s : Serial) → (answer ≡ O.Opened s)
-      ↔ ((0 < w .accepted) × (length (w .approvals) < largest) × (undecidedOf (w .approvals) < 16) × (s .0 ≡ suc (length (w .approvals))))
+      ↔ ((0 < w .accepted) × (length (w .approvals) < largest) × (undecidedOf (w .approvals) < mostTickets) × (s .0 ≡ suc (length (w .approvals))))
 
 -- a replacement: a set fault or TABLE exactly where building answers it; then EDITION where the editions are used up; else the edition one
 -- above the number accepted, and the number of tags

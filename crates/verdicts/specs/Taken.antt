@@ -12,6 +12,8 @@ use Rattle.gate.specs.declared.PieceAnswer.{PieceAnswer}
 use Rattle.gate.specs.declared.Piecing.{Piecing}
 use Rattle.matching.specs.Words.{Word}
 use Rattle.verdicts.specs.GateHistory.{GateWorld, approvalAt}
+use Rattle.desk.specs.Limits.{mostTickets}
+use Rattle.matching.specs.Limits.{largest}
 
 -- the count of the ticket in the room of a serial
 abbrev pub takenIn : Gate → Serial → ℕ
@@ -19,8 +21,8 @@ takenIn g s = ticketIn (g .desk .tickets) (roomOf (g .desk .tickets) s) .taken
 
 -- a gate of 16 rooms in which a serial has one, with a ticket of the edition in force
 pub record OpenIn (g : Gate) (s : Serial) : Type 0 where
-  pub wide : length (g .desk .tickets) ≡ 16
-  pub room : roomOf (g .desk .tickets) s < 16
+  pub wide : length (g .desk .tickets) ≡ mostTickets
+  pub room : roomOf (g .desk .tickets) s < mostTickets
   pub current : ticketIn (g .desk .tickets) (roomOf (g .desk .tickets) s) .edition .0 ≡ g .desk .edition .0
 
 -- what a piece answers, by the count: Read exactly if it rose by the whole piece, and Cut exactly with the fewer bytes that it rose by
@@ -35,5 +37,5 @@ pub record TakenOfHanded (w : GateWorld) (s : Serial) (k : ℕ) : Type 0 where
 
 -- a piece by what the count would come to: all of it is taken if that is no more than 4,294,967,295, and else none of it
 pub record AnswersWithin (g : Gate) (s : Serial) (piece : Word) (answer : PieceAnswer) : Type 0 where
-  pub read : (answer ≡ P.Read) ↔ (takenIn g s + length piece ≤ 4294967295)
-  pub cut : (n : ℕ) → (answer ≡ P.Cut n) ↔ ((n ≡ 0) × (4294967295 < takenIn g s + length piece))
+  pub read : (answer ≡ P.Read) ↔ (takenIn g s + length piece ≤ largest)
+  pub cut : (n : ℕ) → (answer ≡ P.Cut n) ↔ ((n ≡ 0) × (largest < takenIn g s + length piece))

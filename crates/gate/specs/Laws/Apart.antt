@@ -29,6 +29,7 @@ use Rattle.gate.specs.Bits.{Apart}
 use Rattle.matching.specs.Laws.Bools.{not-both}
 use Rattle.matching.specs.Words.{Word}
 use Rattle.desk.specs.Layout.{Kind, Order, Sizes, sizesOf}
+use Rattle.desk.specs.Limits.{mostTickets}
 
 -- no room is held under a serial that was not given yet, and no two under one
 record Told (d : Desk) : Type 0 where
@@ -67,9 +68,9 @@ none (suc n) zero = refl
 none (suc n) (suc i) = none n i
 
 told-new : (kind : Kind) → Told (newDesk kind)
-told-new kind = record { given = λ i h. absurd (not-both h (none 16 i)); apart = λ i j h k e. absurd (not-both h (none 16 i)) }
+told-new kind = record { given = λ i h. absurd (not-both h (none mostTickets i)); apart = λ i j h k e. absurd (not-both h (none mostTickets i)) }
 
-module _ (d : Desk) (wide : length (d .tickets) ≡ 16) (k : Told d) where
+module _ (d : Desk) (wide : length (d .tickets) ≡ mostTickets) (k : Told d) where
   told-opens : (r : Opening) → Opens d r → Told (r .desk)
   told-opens r (open-no-set a) = k
   told-opens r (open-serial-end a b) = k
@@ -100,7 +101,7 @@ module _ (d : Desk) (wide : length (d .tickets) ≡ 16) (k : Told d) where
   told-replaces order len r (replace-edition-end count e l) = k
   told-replaces order len r (replace-done count e l) = record { given = k .given; apart = k .apart }
 
-  told-feeds : (i : ℕ) (table : List ℕ) (piece : Word) (r : Feeding) → (i < 16 → isHeld (ticketIn (d .tickets) i) ≡ true) → Feeds d i table piece r → Told (r .desk)
+  told-feeds : (i : ℕ) (table : List ℕ) (piece : Word) (r : Feeding) → (i < mostTickets → isHeld (ticketIn (d .tickets) i) ≡ true) → Feeds d i table piece r → Told (r .desk)
   told-feeds i table piece r f (feed-no-ticket a) = k
   told-feeds i table piece r f (feed-stale a b) = k
   told-feeds i table piece r f (feed-other-slots a b c) = k

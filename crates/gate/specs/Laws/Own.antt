@@ -26,6 +26,7 @@ use Rattle.gate.specs.Noting.{marked, noted, notedOne, seenIn}
 use Rattle.gate.specs.declared.Gate.{Gate}
 use Rattle.gate.specs.declared.Seen.{Seen}
 use Rattle.matching.specs.Laws.Bools.{not-both}
+use Rattle.desk.specs.Limits.{mostTickets}
 
 abbrev nothingSeen : Seen
 nothingSeen = record { mask = 0; unread = 1 }
@@ -56,31 +57,31 @@ noted-unread rooms seen (r ∷ rs) j = noted-unread rooms (notedOne rooms seen (
     go (no n) = ap (λ (y : Seen). y .unread) (getD-set-other seen i j x nothingSeen n)
 
 -- a record without a room
-one-nowhere : (rooms : List Ticket) (seen : List Seen) (serial tag : ℕ) → length seen ≡ 16 → 16 ≤ roomOf rooms (serialOf serial) → notedOne rooms seen serial tag ≡ seen
+one-nowhere : (rooms : List Ticket) (seen : List Seen) (serial tag : ℕ) → length seen ≡ mostTickets → mostTickets ≤ roomOf rooms (serialOf serial) → notedOne rooms seen serial tag ≡ seen
 one-nowhere rooms seen serial tag w h = set-out seen (roomOf rooms (serialOf serial)) _ (omega (arith, w, h))
 
-pub noted-nowhere : (rooms : List Ticket) (seen : List Seen) (before : List Record) (r : Record) (after : List Record) → length seen ≡ 16
-    → 16 ≤ roomOf rooms (serialOf (r .serial .0)) → noted rooms seen (before ++ r ∷ after) ≡ noted rooms seen (before ++ after)
+pub noted-nowhere : (rooms : List Ticket) (seen : List Seen) (before : List Record) (r : Record) (after : List Record) → length seen ≡ mostTickets
+    → mostTickets ≤ roomOf rooms (serialOf (r .serial .0)) → noted rooms seen (before ++ r ∷ after) ≡ noted rooms seen (before ++ after)
 unfolding noted
 noted-nowhere rooms seen [] r after w h = ap (λ (l : List Seen). noted rooms l after) (one-nowhere rooms seen (r .serial .0) (r .tag .0) w h)
 noted-nowhere rooms seen (x ∷ before) r after w h =
     noted-nowhere rooms (notedOne rooms seen (x .serial .0) (x .tag .0)) before r after (length-set seen (roomOf rooms (serialOf (x .serial .0))) _ ∙ w) h
 
-module _ (rooms : List Ticket) (wide : length rooms ≡ 16) where
+module _ (rooms : List Ticket) (wide : length rooms ≡ mostTickets) where
   -- the ticket of a serial that has a room
-  has-room : (s : Serial) → roomOf rooms s < 16 → (isHeld (ticketIn rooms (roomOf rooms s)) ≡ true) × (ticketIn rooms (roomOf rooms s) .serial .0 ≡ s .0)
+  has-room : (s : Serial) → roomOf rooms s < mostTickets → (isHeld (ticketIn rooms (roomOf rooms s)) ≡ true) × (ticketIn rooms (roomOf rooms s) .serial .0 ≡ s .0)
   has-room s h = for-held s (ticketIn rooms (roomOf rooms s)) (firstRoom-holds (isFor s) rooms (omega (arith, wide, h)))
 
   -- a record leaves every room but that of its serial
-  one-other : (seen : List Seen) (serial tag i : ℕ) → length seen ≡ 16 → (roomOf rooms (serialOf serial) < 16 → i ≡ roomOf rooms (serialOf serial) → ⊥)
+  one-other : (seen : List Seen) (serial tag i : ℕ) → length seen ≡ mostTickets → (roomOf rooms (serialOf serial) < mostTickets → i ≡ roomOf rooms (serialOf serial) → ⊥)
       → seenIn (notedOne rooms seen serial tag) i ≡ seenIn seen i
-  one-other seen serial tag i w n = go (decLt (roomOf rooms (serialOf serial)) 16)
+  one-other seen serial tag i w n = go (decLt (roomOf rooms (serialOf serial)) mostTickets)
     where
-      go : Dec (roomOf rooms (serialOf serial) < 16) → seenIn (notedOne rooms seen serial tag) i ≡ seenIn seen i
+      go : Dec (roomOf rooms (serialOf serial) < mostTickets) → seenIn (notedOne rooms seen serial tag) i ≡ seenIn seen i
       go (yes h) = getD-set-other seen (roomOf rooms (serialOf serial)) i _ nothingSeen (n h)
       go (no h) = ap (λ (l : List Seen). seenIn l i) (one-nowhere rooms seen serial tag w (omega (arith, h)))
 
-  pub noted-free : (seen : List Seen) (rs : List Record) → length seen ≡ 16 → (i : ℕ) → isHeld (ticketIn rooms i) ≡ false → seenIn (noted rooms seen rs) i ≡ seenIn seen i
+  pub noted-free : (seen : List Seen) (rs : List Record) → length seen ≡ mostTickets → (i : ℕ) → isHeld (ticketIn rooms i) ≡ false → seenIn (noted rooms seen rs) i ≡ seenIn seen i
   unfolding noted
   noted-free seen [] w i f = refl
   noted-free seen (r ∷ rs) w i f =
@@ -96,7 +97,7 @@ module _ (rooms : List Ticket) (wide : length rooms ≡ 16) where
       let k = has-room s (omega (arith, most, wide, held-inside rooms i h)) in
       apart (roomOf rooms s) i (k .0) h (k .1)
 
-  pub noted-own : Apart rooms → (seen : List Seen) (rs : List Record) → length seen ≡ 16 → (i : ℕ) → isHeld (ticketIn rooms i) ≡ true
+  pub noted-own : Apart rooms → (seen : List Seen) (rs : List Record) → length seen ≡ mostTickets → (i : ℕ) → isHeld (ticketIn rooms i) ≡ true
       → seenIn (noted rooms seen rs) i .mask ≡ withBits (seenIn seen i .mask) (ofSerial (ticketIn rooms i .serial .0) rs)
   unfolding noted withBits ofSerial
   noted-own apart seen [] w i h = refl

@@ -18,12 +18,14 @@ use Rattle.verdicts.specs.Cases.{BeginExactly}
 use Rattle.verdicts.specs.GateHistory.{GateWorld, undecidedOf}
 use Rattle.verdicts.specs.Laws.Held.{Held}
 use Rattle.verdicts.specs.Laws.Standing.{Standing}
+use Rattle.desk.specs.Limits.{mostTickets}
+use Rattle.matching.specs.Limits.{largest}
 
 data Begins (w : GateWorld) : OpenAnswer → Type 0 where
   begins-no-set : w .accepted ≡ 0 → Begins w O.NoSet
-  begins-serial-end : 0 < w .accepted → length (w .approvals) ≡ 4294967295 → Begins w O.SerialEnd
-  begins-no-room : 0 < w .accepted → length (w .approvals) < 4294967295 → undecidedOf (w .approvals) ≡ 16 → Begins w O.NoRoom
-  begins-next : 0 < w .accepted → length (w .approvals) < 4294967295 → undecidedOf (w .approvals) < 16
+  begins-serial-end : 0 < w .accepted → length (w .approvals) ≡ largest → Begins w O.SerialEnd
+  begins-no-room : 0 < w .accepted → length (w .approvals) < largest → undecidedOf (w .approvals) ≡ mostTickets → Begins w O.NoRoom
+  begins-next : 0 < w .accepted → length (w .approvals) < largest → undecidedOf (w .approvals) < mostTickets
       → Begins w (O.Opened (serialOf (suc (length (w .approvals)))))
 
 begins-by : (w : GateWorld) → Standing w → Held w → Begins w (beginOf (w .gate) .answer)
@@ -33,20 +35,20 @@ begins-by w v c = go _ (opens (w .gate .desk))
     rooms : List Ticket
     rooms = w .gate .desk .tickets
 
-    wide : length rooms ≡ 16
+    wide : length rooms ≡ mostTickets
     wide = good (v .reached) .rooms
 
     some : (w .gate .desk .edition .0 ≡ 0 → ⊥) → 0 < w .accepted
     some n = lower 0 _ (omega arith) (λ e. n (omega (arith, e, v .editions)))
 
-    few : (w .gate .desk .serial .0 ≡ 4294967295 → ⊥) → length (w .approvals) < 4294967295
+    few : (w .gate .desk .serial .0 ≡ largest → ⊥) → length (w .approvals) < largest
     few n = lower _ _ (c .few-serials) (λ e. n (sym (v .serials) ∙ e))
 
     -- a room is free exactly where fewer than 16 are undecided
-    free : freeRoom rooms < 16 → undecidedOf (w .approvals) < 16
+    free : freeRoom rooms < mostTickets → undecidedOf (w .approvals) < mostTickets
     free h = lower _ _ (omega (arith, c .held, held-le rooms, wide)) (λ e. omega (arith, h, all-held-iff rooms wide .1 (sym (c .held) ∙ e)))
 
-    full : 16 ≤ freeRoom rooms → undecidedOf (w .approvals) ≡ 16
+    full : mostTickets ≤ freeRoom rooms → undecidedOf (w .approvals) ≡ mostTickets
     full h = c .held ∙ all-held-iff rooms wide .0 h
 
     go : (r : Opening) → Opens (w .gate .desk) r → Begins w (r .answer)

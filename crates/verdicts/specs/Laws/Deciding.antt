@@ -20,6 +20,7 @@ use Rattle.history.specs.Laws.Numbers.{lower}
 use Rattle.matching.specs.Laws.Bools.{not-both}
 use Rattle.verdicts.specs.GateHistory.{GateWorld, NotReplaced, Readable, Replaced, Undecided, approvalAt}
 use Rattle.verdicts.specs.Laws.Standing.{Kept, Sits, Standing, sits, stood}
+use Rattle.desk.specs.Limits.{mostTickets}
 
 -- the tags kept for a serial
 abbrev pub maskIn : GateWorld → Serial → ℕ
@@ -34,7 +35,7 @@ pub data Decides (g : GateWorld) (s : Serial) : Verdict → Type 0 where
 
 -- what is kept for an approval that has a room
 pub record Seated (g : GateWorld) (s : Serial) (k : ℕ) : Type 0 where
-  pub room : roomOf (g .gate .desk .tickets) s < 16
+  pub room : roomOf (g .gate .desk .tickets) s < mostTickets
   pub kept : Kept (ticketIn (g .gate .desk .tickets) (roomOf (g .gate .desk .tickets) s)) (seenIn (g .gate .seen) (roomOf (g .gate .desk .tickets) s)) (approvalAt g k)
 
 module _ (g : GateWorld) (v : Standing g) where
@@ -46,7 +47,7 @@ module _ (g : GateWorld) (v : Standing g) where
       go (sits c h x) = record { room = h; kept = x }
 
   -- a serial that has a room is that of an undecided approval
-  pub waiting : (s : Serial) → roomOf (g .gate .desk .tickets) s < 16 → (k : ℕ) × Undecided g s k
+  pub waiting : (s : Serial) → roomOf (g .gate .desk .tickets) s < mostTickets → (k : ℕ) × Undecided g s k
   waiting s h = go (s .0) refl
     where
       go : (n : ℕ) → s .0 ≡ n → (k : ℕ) × Undecided g s k
@@ -64,7 +65,7 @@ module _ (g : GateWorld) (v : Standing g) where
               live (sits c r x) = c
               live (stood c r) =
                   let z : serialOf (approvalAt g k .serial) ≡ s = λ d. record { 0 = same d } in
-                  absurd (omega (arith, h, subst (λ (n : Serial). 16 ≤ roomOf (g .gate .desk .tickets) n) z r))
+                  absurd (omega (arith, h, subst (λ (n : Serial). mostTickets ≤ roomOf (g .gate .desk .tickets) n) z r))
 
   module _ (s : Serial) (k : ℕ) (u : Undecided g s k) where
     abbrev i : ℕ
@@ -95,10 +96,10 @@ module _ (g : GateWorld) (v : Standing g) where
 
   pub decides : (s : Serial) → Decides g s (decideOf (g .gate) s .answer)
   unfolding decideOf
-  decides s = go (ltb (roomOf (g .gate .desk .tickets) s) 16) refl
+  decides s = go (ltb (roomOf (g .gate .desk .tickets) s) mostTickets) refl
     where
-      go : (c : Bool) → ltb (roomOf (g .gate .desk .tickets) s) 16 ≡ c → Decides g s (decideBy (g .gate) s (roomOf (g .gate .desk .tickets) s) c .answer)
+      go : (c : Bool) → ltb (roomOf (g .gate .desk .tickets) s) mostTickets ≡ c → Decides g s (decideBy (g .gate) s (roomOf (g .gate .desk .tickets) s) c .answer)
       go true q =
-          let w = waiting s (ltb-true (roomOf (g .gate .desk .tickets) s) 16 q) in
+          let w = waiting s (ltb-true (roomOf (g .gate .desk .tickets) s) mostTickets q) in
           by-edition s (w .0) (w .1) (eqb (ticketIn (g .gate .desk .tickets) (roomOf (g .gate .desk .tickets) s) .edition .0) (g .gate .desk .edition .0)) refl
-      go false q = decides-none (λ k u. omega (arith, ltb-false (roomOf (g .gate .desk .tickets) s) 16 q, seated s k u .room))
+      go false q = decides-none (λ k u. omega (arith, ltb-false (roomOf (g .gate .desk .tickets) s) mostTickets q, seated s k u .room))

@@ -38,6 +38,7 @@ use Rattle.matching.specs.Tags.{tagCount}
 use Rattle.matching.specs.Limits.{largest, mostTags}
 use Rattle.desk.specs.Laws.Layout.{order-few}
 use Rattle.matching.specs.Laws.Tags.{count-exact}
+use Rattle.desk.specs.Limits.{mostTickets}
 
 -- ---- counting undecided approvals
 
@@ -110,7 +111,7 @@ module _ (g : GateWorld) (v : Standing g) (c : Held g) where
   abbrev rooms : List Ticket
   rooms = g .gate .desk .tickets
 
-  wide : length (g .gate .desk .tickets) ≡ 16
+  wide : length (g .gate .desk .tickets) ≡ mostTickets
   wide = good (v .reached) .rooms
 
   held-replace : (order : Order) (lent : Lent) → Held (gateStep g (gateReplace order lent))
@@ -167,7 +168,7 @@ module _ (g : GateWorld) (v : Standing g) (c : Held g) where
       i : ℕ
       i = roomOf (g .gate .desk .tickets) s
 
-      closed : (r : Closing) → Closes (g .gate .desk) s r → roomOf (g .gate .desk .tickets) s < 16
+      closed : (r : Closing) → Closes (g .gate .desk) s r → roomOf (g .gate .desk .tickets) s < mostTickets
           → Held (withApprovals g (record { desk = r .desk; seen = g .gate .seen }) (onApproval (s .0) settled (g .approvals)))
       closed r (close-no-ticket f) h = absurd (omega (arith, f, h))
       closed r (close-done k f hk) h = record {
@@ -189,16 +190,16 @@ module _ (g : GateWorld) (v : Standing g) (c : Held g) where
               let is-none : _≡_ {A = ℕ} (cond (isHeld freeTicket) 1 0) 0 = refl in
               omega (arith, held-set rooms k freeTicket (omega (arith, hk, wide)), was-one, is-none, one, c .held)
 
-      go : (x : Bool) → ltb (roomOf (g .gate .desk .tickets) s) 16 ≡ x
+      go : (x : Bool) → ltb (roomOf (g .gate .desk .tickets) s) mostTickets ≡ x
           → Held (decidedWith g s (decideBy (g .gate) s i x .gate) (decideBy (g .gate) s i x .answer))
       go false e = c
       go true e =
           subst Held (sym (verdict-settles g s _ (ticketIn rooms i .edition) (seenIn (g .gate .seen) i) (eqb (ticketIn rooms i .edition .0) (g .gate .desk .edition .0))))
-          (closed _ (closes (g .gate .desk) s) (ltb-true i 16 e))
+          (closed _ (closes (g .gate .desk) s) (ltb-true i mostTickets e))
 
   held-piece : (s : Serial) (table : List ℕ) (piece : Word) → Held (gateStep g (gatePiece s table piece))
   unfolding pieceOf
-  held-piece s table piece = go (ltb i 16) (eqb (ticketIn rooms i .edition .0) (g .gate .desk .edition .0))
+  held-piece s table piece = go (ltb i mostTickets) (eqb (ticketIn rooms i .edition .0) (g .gate .desk .edition .0))
     where
       i : ℕ
       i = roomOf (g .gate .desk .tickets) s

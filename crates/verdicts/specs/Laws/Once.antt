@@ -28,6 +28,7 @@ use Rattle.verdicts.specs.Laws.Approvals.{on-each, on-length, verdict-se
 use Rattle.verdicts.specs.Laws.Deciding.{seated}
 use Rattle.verdicts.specs.Laws.Standing.{Standing}
 use Rattle.desk.specs.Layout.{Lent, Order, sizesOf}
+use Rattle.desk.specs.Limits.{mostTickets}
 
 -- approval k is there and was decided
 pub record Done (l : List Approval) (k : ℕ) : Type 0 where
@@ -88,7 +89,7 @@ done-run (act ∷ calls) w k d = done-run calls (gateStep w act) k (done-step w 
 pub decided-now : (w : GateWorld) → Standing w → (s : Serial) (k : ℕ) → Undecided w s k → Done (gateStep w (gateDecide s) .approvals) k
 unfolding decideOf
 decided-now w v s k u =
-    subst (λ (b : Bool). Done (decidedWith w s (decideBy (w .gate) s i b .gate) (decideBy (w .gate) s i b .answer) .approvals) k) (sym (lt-ltb i 16 (seated w v s k u .room)))
+    subst (λ (b : Bool). Done (decidedWith w s (decideBy (w .gate) s i b .gate) (decideBy (w .gate) s i b .answer) .approvals) k) (sym (lt-ltb i mostTickets (seated w v s k u .room)))
     (subst (λ (x : GateWorld). Done (x .approvals) k)
     (sym (verdict-settles w s (decideBy (w .gate) s i true .gate) (ticketIn (w .gate .desk .tickets) i .edition) (seenIn (w .gate .seen) i)
     (eqb (ticketIn (w .gate .desk .tickets) i .edition .0) (w .gate .desk .edition .0)))) done)

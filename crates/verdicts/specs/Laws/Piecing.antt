@@ -23,6 +23,7 @@ use Rattle.verdicts.specs.GateHistory.{GateWorld, NotReplaced, Replaced,
 use Rattle.verdicts.specs.Laws.Cases.{same, stale-current}
 use Rattle.verdicts.specs.Laws.Deciding.{seated, waiting}
 use Rattle.verdicts.specs.Laws.Standing.{Standing}
+use Rattle.desk.specs.Limits.{mostTickets}
 
 pub data Pieces (g : GateWorld) (s : Serial) : PieceAnswer → Type 0 where
   pieces-none : ((k : ℕ) → Undecided g s k → ⊥) → Pieces g s P.NoTicket
@@ -32,7 +33,7 @@ pub data Pieces (g : GateWorld) (s : Serial) : PieceAnswer → Type 0 where
 
 pub pieces : (g : GateWorld) → Standing g → (s : Serial) (table : List ℕ) (piece : Word) → Pieces g s (pieceOf (g .gate) s table piece .answer)
 unfolding pieceOf
-pieces g v s table piece = go (ltb i 16) refl (eqb (its .0) (g .gate .desk .edition .0)) refl
+pieces g v s table piece = go (ltb i mostTickets) refl (eqb (its .0) (g .gate .desk .edition .0)) refl
   where
     i : ℕ
     i = roomOf (g .gate .desk .tickets) s
@@ -47,16 +48,16 @@ pieces g v s table piece = go (ltb i 16) refl (eqb (its .0) (g .gate .desk .edit
     ended k u n true = pieces-read k u n
     ended k u n false = pieces-cut k (fed .taken) u n
 
-    go : (x : Bool) → ltb i 16 ≡ x → (y : Bool) → eqb (its .0) (g .gate .desk .edition .0) ≡ y
+    go : (x : Bool) → ltb i mostTickets ≡ x → (y : Bool) → eqb (its .0) (g .gate .desk .edition .0) ≡ y
         → Pieces g s (pieceBy (g .gate) s i (ticketIn (g .gate .desk .tickets) i) table piece x y .answer)
-    go false e y q = pieces-none (λ k u. omega (arith, ltb-false i 16 e, seated g v s k u .room))
+    go false e y q = pieces-none (λ k u. omega (arith, ltb-false i mostTickets e, seated g v s k u .room))
     go true e false q =
-        let w = waiting g v s (ltb-true i 16 e) in
+        let w = waiting g v s (ltb-true i mostTickets e) in
         let z = seated g v s (w .0) (w .1) in
         pieces-stale (w .0) its (w .1) (z .kept .edition)
         (lower _ _ (v .upto (w .0) (w .1 .inside)) (λ d. eqb-false (its .0) (g .gate .desk .edition .0) q (z .kept .edition ∙ d ∙ sym (v .editions))))
     go true e true q =
-        let w = waiting g v s (ltb-true i 16 e) in
+        let w = waiting g v s (ltb-true i mostTickets e) in
         let z = seated g v s (w .0) (w .1) in
         ended (w .0) (w .1) (sym (z .kept .edition) ∙ eqb-true _ _ q ∙ v .editions) (eqb (fed .taken) (length piece))
 

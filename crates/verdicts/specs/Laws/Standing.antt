@@ -40,6 +40,8 @@ use Rattle.verdicts.specs.Laws.Approvals.{on-each, on-length, verdict-se
 use Rattle.verdicts.specs.Laws.Counted.{FedCounted, fed-counted}
 use Rattle.verdicts.specs.Laws.Masks.{nothingSeen, rooms-apart}
 use Rattle.desk.specs.Layout.{Kind, Lent, Order, sizesOf}
+use Rattle.desk.specs.Limits.{mostTickets}
+use Rattle.desk.specs.Calls.{openedIn}
 
 -- what a room keeps for an approval: the ticket is of the edition that the count of replacements was, and unread is 0 while it is whole
 pub record Kept (t : Ticket) (x : Seen) (p : Approval) : Type 0 where
@@ -48,8 +50,8 @@ pub record Kept (t : Ticket) (x : Seen) (p : Approval) : Type 0 where
 
 -- an approval has a room exactly while it is not decided
 pub data Sits (rooms : List Ticket) (seen : List Seen) (p : Approval) : Type 0 where
-  stood : p .decided ≡ true → 16 ≤ roomOf rooms (serialOf (p .serial)) → Sits rooms seen p
-  sits : p .decided ≡ false → roomOf rooms (serialOf (p .serial)) < 16
+  stood : p .decided ≡ true → mostTickets ≤ roomOf rooms (serialOf (p .serial)) → Sits rooms seen p
+  sits : p .decided ≡ false → roomOf rooms (serialOf (p .serial)) < mostTickets
       → Kept (ticketIn rooms (roomOf rooms (serialOf (p .serial)))) (seenIn seen (roomOf rooms (serialOf (p .serial)))) p → Sits rooms seen p
 
 -- a count of bytes taken: all that were handed in while it is whole, and else fewer
@@ -68,20 +70,20 @@ tally-most n p c = go (p .whole) refl
     go true e = le-of-eq (c .all e)
     go false e = omega (arith, c .part e)
 
-room-in : {rooms : List Ticket} {seen : List Seen} {p : Approval} → Sits rooms seen p → p .decided ≡ false → roomOf rooms (serialOf (p .serial)) < 16
+room-in : {rooms : List Ticket} {seen : List Seen} {p : Approval} → Sits rooms seen p → p .decided ≡ false → roomOf rooms (serialOf (p .serial)) < mostTickets
 room-in (stood c h) d = absurd (not-both c d)
 room-in (sits c h k) d = h
 
 pub record Standing (g : GateWorld) : Type 0 where
   pub reached : Reached (g .gate .desk)
-  pub wide : length (g .gate .seen) ≡ 16
+  pub wide : length (g .gate .seen) ≡ mostTickets
   pub editions : g .gate .desk .edition .0 ≡ g .accepted
   pub serials : length (g .approvals) ≡ g .gate .desk .serial .0
   pub numbered : (k : ℕ) → k < length (g .approvals) → approvalAt g k .serial ≡ suc k
   pub upto : (k : ℕ) → k < length (g .approvals) → approvalAt g k .accepted ≤ g .accepted
   pub seats : (k : ℕ) → k < length (g .approvals) → Sits (g .gate .desk .tickets) (g .gate .seen) (approvalAt g k)
   pub counts : (k : ℕ) → k < length (g .approvals) → Counts (g .gate .desk .tickets) (approvalAt g k)
-  pub strangers : (s : Serial) → Stranger (length (g .approvals)) (s .0) → 16 ≤ roomOf (g .gate .desk .tickets) s
+  pub strangers : (s : Serial) → Stranger (length (g .approvals)) (s .0) → mostTickets ≤ roomOf (g .gate .desk .tickets) s
   pub unique : Unique (g .gate .desk .tickets)
 
 pub standing-start : (kind : Kind) → Standing (gateStart kind)
@@ -102,7 +104,7 @@ module _ (g : GateWorld) (v : Standing g) where
   abbrev rooms : List Ticket
   rooms = g .gate .desk .tickets
 
-  rooms-wide : length (g .gate .desk .tickets) ≡ 16
+  rooms-wide : length (g .gate .desk .tickets) ≡ mostTickets
   rooms-wide = good (v .reached) .rooms
 
   -- replacing
@@ -129,7 +131,7 @@ module _ (g : GateWorld) (v : Standing g) where
       }
 
   -- a new approval
-  module _ (i : ℕ) (free : i ≡ freeRoom (g .gate .desk .tickets)) (hi : i < 16) where
+  module _ (i : ℕ) (free : i ≡ freeRoom (g .gate .desk .tickets)) (hi : i < mostTickets) where
     abbrev s : Serial
     s = serialOf (g .gate .desk .serial .0 + 1)
 
@@ -154,7 +156,7 @@ module _ (g : GateWorld) (v : Standing g) where
     mine : isFor s t ≡ true
     mine = held-for s t (new-held (g .gate .desk .serial .0) (g .gate .desk .edition)) refl
 
-    unknown : 16 ≤ roomOf rooms s
+    unknown : mostTickets ≤ roomOf rooms s
     unknown = v .strangers s (inr (omega (arith, number)))
 
     was-free : (n : Serial) → isFor n (ticketIn rooms i) ≡ false
@@ -177,7 +179,7 @@ module _ (g : GateWorld) (v : Standing g) where
     old p ne (sits c h k) =
         let n = serialOf (p .serial) in
         let r = stays n ne in
-        let h2 : roomOf rooms2 n < 16 = rw r h in
+        let h2 : roomOf rooms2 n < mostTickets = rw r h in
         sits c h2 (record {
           edition = ap (λ (x : Ticket). x .edition .0) (ticket-kept rooms rooms-wide i t hi n (was-free n) (not-its n ne) h) ∙ k .edition;
           read =
@@ -205,9 +207,9 @@ module _ (g : GateWorld) (v : Standing g) where
     strange n (inl e) q = omega (arith, e, q)
     strange n (inr e) q = omega (arith, e, q, count, number)
 
-    begun : Reached (record { tickets = rooms2; records = g .gate .desk .records; edition = g .gate .desk .edition; serial = s; slots = g .gate .desk .slots })
+    begun : Reached (openedIn (g .gate .desk) i)
         → Standing (withApprovals g
-        (record { desk = record { tickets = rooms2; records = g .gate .desk .records; edition = g .gate .desk .edition; serial = s; slots = g .gate .desk .slots }; seen = seen2 })
+        (record { desk = openedIn (g .gate .desk) i; seen = seen2 })
         (g .approvals ++ new ∷ []))
     begun d = record {
       reached = d;
@@ -246,7 +248,7 @@ module _ (g : GateWorld) (v : Standing g) where
       i : ℕ
       i = roomOf (g .gate .desk .tickets) s
 
-      closed : (r : Closing) → Closes (g .gate .desk) s r → roomOf (g .gate .desk .tickets) s < 16 → Reached (r .desk)
+      closed : (r : Closing) → Closes (g .gate .desk) s r → roomOf (g .gate .desk .tickets) s < mostTickets → Reached (r .desk)
           → Standing (withApprovals g (record { desk = r .desk; seen = g .gate .seen }) (onApproval (s .0) settled (g .approvals)))
       closed r (close-no-ticket f) h d = absurd (omega (arith, f, h))
       closed r (close-done k f hk) h d = record {
@@ -257,7 +259,7 @@ module _ (g : GateWorld) (v : Standing g) where
         numbered = on-each (s .0) settled (g .approvals) (λ j p. p .serial ≡ suc j) (λ j z e. v .numbered j z) (λ j z e. v .numbered j z);
         upto = on-each (s .0) settled (g .approvals) (λ j p. p .accepted ≤ g .accepted) (λ j z e. v .upto j z) (λ j z e. v .upto j z);
         seats = on-each (s .0) settled (g .approvals) (λ j p. Sits (set rooms k freeTicket) (g .gate .seen) p)
-            (λ j z e. stood refl (subst (λ (n : ℕ). 16 ≤ roomOf (set rooms k freeTicket) (serialOf n)) (sym e) gone))
+            (λ j z e. stood refl (subst (λ (n : ℕ). mostTickets ≤ roomOf (set rooms k freeTicket) (serialOf n)) (sym e) gone))
             (λ j z e. other (approvalAt g j) e (v .seats j z));
         counts = on-each (s .0) settled (g .approvals) (λ j p. Counts (set rooms k freeTicket) p)
             (λ j z e d. differ cc)
@@ -269,11 +271,11 @@ module _ (g : GateWorld) (v : Standing g) where
           its : isFor s (ticketIn rooms k) ≡ true
           its = subst (λ (y : ℕ). isFor s (ticketIn rooms y) ≡ true) (sym f) (room-for rooms rooms-wide s h)
 
-          gone : 16 ≤ roomOf (set rooms k freeTicket) s
+          gone : mostTickets ≤ roomOf (set rooms k freeTicket) s
           gone = seat-gone rooms rooms-wide s k (v .unique) f hk
 
-          apart : (n : Serial) → n .0 ≡ s .0 → 16 ≤ roomOf rooms n → ⊥
-          apart n e q = let z : n ≡ s = λ d. record { 0 = e d } in omega (arith, h, subst (λ (y : Serial). 16 ≤ roomOf rooms y) z q)
+          apart : (n : Serial) → n .0 ≡ s .0 → mostTickets ≤ roomOf rooms n → ⊥
+          apart n e q = let z : n ≡ s = λ d. record { 0 = e d } in omega (arith, h, subst (λ (y : Serial). mostTickets ≤ roomOf rooms y) z q)
 
           not-its : (n : Serial) → (n .0 ≡ s .0 → ⊥) → isFor n (ticketIn rooms k) ≡ false
           not-its n ne = for-other s n (ticketIn rooms k) its (λ q. ne (sym q))
@@ -296,12 +298,12 @@ module _ (g : GateWorld) (v : Standing g) where
               let n = serialOf (p .serial) in
               subst (λ (y : Ticket). Tally (y .taken) p) (sym (ticket-kept rooms rooms-wide k freeTicket hk n (not-its n ne) refl (room-in x d))) (c d)
 
-      go : (x : Bool) → ltb (roomOf (g .gate .desk .tickets) s) 16 ≡ x
+      go : (x : Bool) → ltb (roomOf (g .gate .desk .tickets) s) mostTickets ≡ x
           → Standing (decidedWith g s (decideBy (g .gate) s i x .gate) (decideBy (g .gate) s i x .answer))
       go false e = v
       go true e =
           subst Standing (sym (verdict-settles g s _ (ticketIn rooms i .edition) (seenIn (g .gate .seen) i) (eqb (ticketIn rooms i .edition .0) (g .gate .desk .edition .0))))
-          (closed _ (closes (g .gate .desk) s) (ltb-true i 16 e) (byCall (v .reached) (callClose s)))
+          (closed _ (closes (g .gate .desk) s) (ltb-true i mostTickets e) (byCall (v .reached) (callClose s)))
 
   -- a piece
   module _ (s : Serial) (table : List ℕ) (piece : Word) where
@@ -361,7 +363,7 @@ module _ (g : GateWorld) (v : Standing g) where
     whole-sits seen p (sits c h k) = sits c h (record { edition = k .edition; read = k .read })
 
     -- the history after it
-    handed : (seen : List Seen) (f : Approval → Approval) → length seen ≡ 16 → ((p : Approval) → f p .serial ≡ p .serial) → ((p : Approval) → f p .accepted ≡ p .accepted)
+    handed : (seen : List Seen) (f : Approval → Approval) → length seen ≡ mostTickets → ((p : Approval) → f p .serial ≡ p .serial) → ((p : Approval) → f p .accepted ≡ p .accepted)
         → ((p : Approval) → p .serial ≡ s .0 → Sits rooms (g .gate .seen) p → Sits (fed .gate .desk .tickets) seen (f p))
         → ((p : Approval) → (p .serial ≡ s .0 → ⊥) → Sits rooms (g .gate .seen) p → Sits (fed .gate .desk .tickets) seen p)
         → ((p : Approval) → p .serial ≡ s .0 → Counts rooms p → Counts (fed .gate .desk .tickets) (f p))
@@ -380,13 +382,13 @@ module _ (g : GateWorld) (v : Standing g) where
       unique = same-unique (a .same) (v .unique);
     }
 
-    fed-wide : length (fed .gate .seen) ≡ 16
+    fed-wide : length (fed .gate .seen) ≡ mostTickets
     fed-wide = a .wide ∙ v .wide
 
     read : fed .taken ≡ length piece → Standing (withApprovals g (fed .gate) (onApproval (s .0) (handedWhole piece) (g .approvals)))
     read z = handed (fed .gate .seen) (handedWhole piece) fed-wide (λ p. refl) (λ p. refl) (λ p e x. whole-sits (fed .gate .seen) p (fed-sits p x)) (λ p e x. fed-sits p x) (whole-counts z)
 
-    cut : i < 16 → (fed .taken ≡ length piece → ⊥) → Standing (withApprovals g (record { desk = fed .gate .desk; seen = cutIn (fed .gate .seen) i }) (onApproval (s .0) (handedCut piece) (g .approvals)))
+    cut : i < mostTickets → (fed .taken ≡ length piece → ⊥) → Standing (withApprovals g (record { desk = fed .gate .desk; seen = cutIn (fed .gate .seen) i }) (onApproval (s .0) (handedCut piece) (g .approvals)))
     cut h z = handed (cutIn (fed .gate .seen) i) (handedCut piece) (length-set (fed .gate .seen) i _ ∙ fed-wide) (λ p. refl) (λ p. refl) (λ p e x. hit p e (fed-sits p x)) (λ p e x. miss p e (fed-sits p x)) (cut-counts z)
       where
         room : roomOf (fed .gate .desk .tickets) s ≡ i
@@ -415,18 +417,18 @@ module _ (g : GateWorld) (v : Standing g) where
 
     standing-piece : Standing (gateStep g (gatePiece s table piece))
     unfolding pieceOf
-    standing-piece = go (ltb i 16) refl (eqb (ticketIn rooms i .edition .0) (g .gate .desk .edition .0))
+    standing-piece = go (ltb i mostTickets) refl (eqb (ticketIn rooms i .edition .0) (g .gate .desk .edition .0))
       where
-        ended : (x : Bool) → i < 16 → eqb (fed .taken) (length piece) ≡ x
+        ended : (x : Bool) → i < mostTickets → eqb (fed .taken) (length piece) ≡ x
             → Standing (handedWith g s piece (endedBy (fed .gate) i (fed .taken) x .gate) (endedBy (fed .gate) i (fed .taken) x .answer))
         ended true h e = read (eqb-true (fed .taken) (length piece) e)
         ended false h e = cut h (eqb-false (fed .taken) (length piece) e)
 
-        go : (x : Bool) → ltb i 16 ≡ x → (y : Bool)
+        go : (x : Bool) → ltb i mostTickets ≡ x → (y : Bool)
             → Standing (handedWith g s piece (pieceBy (g .gate) s i (ticketIn rooms i) table piece x y .gate) (pieceBy (g .gate) s i (ticketIn rooms i) table piece x y .answer))
         go false e y = v
         go true e false = v
-        go true e true = ended (eqb (fed .taken) (length piece)) (ltb-true i 16 e) refl
+        go true e true = ended (eqb (fed .taken) (length piece)) (ltb-true i mostTickets e) refl
 
   pub standing-step : (act : GateAct) → Standing (gateStep g act)
   standing-step (gateReplace order lent) = standing-replace order lent

@@ -36,13 +36,14 @@ use Rattle.verdicts.specs.Laws.Onward.{Joined, Onward, rest-onward-by}
 use Rattle.desk.specs.Reached.{Call}
 use Rattle.desk.specs.Layout.{Kind}
 use Rattle.matching.specs.Limits.{largest}
+use Rattle.desk.specs.Limits.{mostTickets}
 
 -- a ticket that is open, of account k, with room for so many more bytes
 pub record OpenFor (w : World) (s : Serial) (more : ℕ) : Type 0 where
   pub k : ℕ
   pub inside : k < length (w .accounts)
   pub serial : s .0 ≡ suc k
-  pub room : roomOf (w .desk .tickets) s < 16
+  pub room : roomOf (w .desk .tickets) s < mostTickets
   pub current : ticketIn (w .desk .tickets) (roomOf (w .desk .tickets) s) .edition .0 ≡ w .desk .edition .0
   pub few : length (accountAt w k .bytes) + more ≤ largest
 
@@ -77,7 +78,7 @@ open-on kind calls b seen s taken g more same o f =
       inside = omega (arith, ap (λ (l : List Account). length l) (o .accounts-are), onSerial-length (s .0) (grown taken) (w .accounts), f .inside);
       serial = f .serial;
       few = omega (arith, ap (λ (l : Word). length l) bytes, length-append (accountAt w (f .k) .bytes) taken, f .few);
-      room = subst (λ (d : Desk). roomOf (d .tickets) s < 16) (sym (o .desk-is)) (rw (same .rooms s) (f .room));
+      room = subst (λ (d : Desk). roomOf (d .tickets) s < mostTickets) (sym (o .desk-is)) (rw (same .rooms s) (f .room));
       current = subst (λ (d : Desk). ticketIn (d .tickets) (roomOf (d .tickets) s) .edition .0 ≡ d .edition .0) (sym (o .desk-is))
           (ap (λ (i : ℕ). ticketIn (g .desk .tickets) i .edition .0) (same .rooms s)
           ∙ ap (λ (e : Edition). e .0) (same .editions (roomOf (w .desk .tickets) s)) ∙ f .current ∙ ap (λ (e : Edition). e .0) (sym (same .edition)));
