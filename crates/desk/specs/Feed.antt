@@ -18,6 +18,8 @@ use Rattle.desk.specs.declared.FeedAnswer.the-variants as F
 use Rattle.desk.specs.Layout.{Lent, deskRead, lentFits, placeIn, sizesOf}
 use Rattle.desk.specs.Limits.{mostRecords, mostTickets}
 use Rattle.matching.specs.Limits.{largest}
+use Rattle.desk.specs.declared.Advance.{Advance}
+use Rattle.matching.specs.declared.Stop.{Stop}
 
 -- the reading of a piece for a ticket, into the room that the list has left
 abbrev pub readFor : Desk → Ticket → Lent → Word → Outcome
@@ -27,11 +29,15 @@ readFor d t table piece = deskRead (d .slots) table (t .place) (t .taken) (mostR
 abbrev pub readOn : Ticket → Outcome → Ticket
 readOn t r = record { serial = t .serial; edition = t .edition; taken = t .taken + r .taken; place = r .place }
 
+-- what a feed answers that is not refused: the bytes taken, the records added, and why it stopped
+abbrev pub advance : ℕ → ℕ → Stop → Advance
+advance taken records stop = record { taken = taken; records = records; stop = stop }
+
 -- the desk after a reading for the ticket in room i: the records have the ticket's serial and edition
 abbrev pub fedBy : Desk → ℕ → Ticket → Outcome → Feeding
 fedBy d i t r = record {
   desk = withRecords (withTicket d i (readOn t r)) (pushAll (d .records) (recordsOf (t .serial) (t .edition) (r .found)));
-  answer = F.Fed (r .taken) (length (r .found)) (r .stop);
+  answer = F.Fed (advance (r .taken) (length (r .found)) (r .stop));
 }
 
 -- by whether the serial has a room, whether its ticket is of the edition in force, whether the table has the slots of the last
@@ -40,9 +46,9 @@ fedBy d i t r = record {
 abbrev pub feedBy : Desk → ℕ → Ticket → Lent → Word → Bool → Bool → Bool → Bool → Bool → Feeding
 feedBy d i t table piece false ours same long below = record { desk = d; answer = F.NoTicket }
 feedBy d i t table piece true false same long below = record { desk = d; answer = F.Stale (t .edition) }
-feedBy d i t table piece true true false long below = record { desk = d; answer = F.Fed 0 0 Damaged }
+feedBy d i t table piece true true false long below = record { desk = d; answer = F.Fed (advance 0 0 Damaged) }
 feedBy d i t table piece true true true true below = record { desk = d; answer = F.Long }
-feedBy d i t table piece true true true false false = record { desk = d; answer = F.Fed 0 0 Damaged }
+feedBy d i t table piece true true true false false = record { desk = d; answer = F.Fed (advance 0 0 Damaged) }
 feedBy d i t table piece true true true false true = fedBy d i t (readFor d t table piece)
 
 -- for the ticket in room i, once nothing refuses it
@@ -64,7 +70,7 @@ feedOf d s table piece = feedIn d (roomOf (d .tickets) s) table piece
 
 -- the bytes that a feed took; none where it was refused
 abbrev pub takenBy : FeedAnswer → ℕ
-takenBy (F.Fed count records stop) = count
+takenBy (F.Fed a) = a .taken
 takenBy F.NoTicket = 0
 takenBy (F.Stale edition) = 0
 takenBy F.Long = 0

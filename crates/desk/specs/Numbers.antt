@@ -51,14 +51,14 @@ openValues O.SerialEnd = []
 openValues O.NoRoom = []
 
 abbrev pub feedNumber : FeedAnswer → ℕ
-feedNumber (F.Fed taken records stop) = 0
+feedNumber (F.Fed a) = 0
 feedNumber F.NoTicket = 12
 feedNumber (F.Stale edition) = 13
 feedNumber F.Long = 14
 
 -- the bytes taken, why it stopped and the records added; the edition of a stale ticket
 abbrev pub feedValues : FeedAnswer → List ℕ
-feedValues (F.Fed taken records stop) = taken ∷ stopNumber stop ∷ records ∷ []
+feedValues (F.Fed a) = a .taken ∷ stopNumber (a .stop) ∷ a .records ∷ []
 feedValues F.NoTicket = []
 feedValues (F.Stale edition) = edition .0 ∷ []
 feedValues F.Long = []

@@ -1,4 +1,5 @@
 // What a feed answers once its ticket is found and current.
+use crate::Advance;
 use crate::Desk;
 use crate::FeedAnswer;
 use crate::Feeding;
@@ -10,22 +11,24 @@ use reading::Ending;
 ghost use mathlib.Core.Path.{_≡_};
 ghost use Prim.Native.Nat.{_+_, _<_, _≤_};
 ghost use lib.ListN.{length};
-ghost use Rattle.desk.specs.Feed.{readIn};
+ghost use Rattle.matching.specs.Limits.{largest};
+ghost use Rattle.desk.specs.Limits.{mostTickets};
+ghost use Rattle.desk.specs.Feed.{advance, readIn};
 
 pub fn damaged(desk: Desk) -> Feeding
-    ensures { λ r. ⌜ (r .desk ≡ desk) × (r .answer ≡ FeedAnswer.Fed 0 0 Stop.Damaged) ⌝ }
+    ensures { λ r. ⌜ (r .desk ≡ desk) × (r .answer ≡ FeedAnswer.Fed (advance 0 0 Stop.Damaged)) ⌝ }
 {
-    let answer = FeedAnswer::Fed {
+    let answer = FeedAnswer::Fed(Advance {
         taken: 0,
         records: 0,
         stop: Stop::Damaged,
-    };
+    });
     Feeding { desk, answer }
 }
 
 // The reading for the ticket in room i, once nothing refuses it; its records go behind those held.
 pub fn read_on(desk: Desk, i: usize, t: Ticket, table: &[u16], piece: &[u8]) -> Feeding
-    requires { ⌜ (i < 16) × (t .taken + length (now piece) ≤ 4294967295) ⌝ }
+    requires { ⌜ (i < mostTickets) × (t .taken + length (now piece) ≤ largest) ⌝ }
     ensures { λ r. ⌜ r ≡ readIn desk i t (now (table .entry)) (now (piece .entry)) ⌝ }
 {
     let held = desk.records;
@@ -50,10 +53,10 @@ pub fn read_on(desk: Desk, i: usize, t: Ticket, table: &[u16], piece: &[u8]) -> 
         place: after,
     };
     fed.records = records;
-    let answer = FeedAnswer::Fed {
+    let answer = FeedAnswer::Fed(Advance {
         taken: read.taken,
         records: read.records,
         stop,
-    };
+    });
     Feeding { desk: fed, answer }
 }

@@ -16,11 +16,7 @@ pub fn taken_by(answer: FeedAnswer) -> usize
     ensures { λ r. ⌜ r ≡ takenBy answer ⌝ }
 {
     match answer {
-        FeedAnswer::Fed {
-            taken,
-            records: _,
-            stop: _,
-        } => taken,
+        FeedAnswer::Fed(advance) => advance.taken,
         FeedAnswer::NoTicket => 0,
         FeedAnswer::Stale(_) => 0,
         FeedAnswer::Long => 0,

@@ -32,6 +32,8 @@ use Rattle.matching.specs.Reading.{Outcome}
 use Rattle.matching.specs.Words.{Word}
 use Rattle.matching.specs.declared.Stop.{Stop}
 use Rattle.tagset.specs.declared.SetFault.{SetFault}
+use Rattle.desk.specs.Feed.{advance}
+use Rattle.desk.specs.declared.Advance.{Advance}
 
 -- ---- a feed
 
@@ -41,7 +43,7 @@ use Rattle.tagset.specs.declared.SetFault.{SetFault}
 pub record FedAsDemanded (w : World) (s : Serial) (a : Account) (piece : Word) (answer : FeedAnswer) : Type 0 where
   pub outcome : Outcome
   pub demanded : Demanded (a .tags) (a .bytes) piece (mostRecords - length (held (w .desk .records))) outcome
-  pub answered : answer ≡ F.Fed (outcome .taken) (length (outcome .found)) (outcome .stop)
+  pub answered : answer ≡ F.Fed (advance (outcome .taken) (length (outcome .found)) (outcome .stop))
   pub added : stream (step w (callFeed s (w .table) piece)) ≡ stream w ++ recordsOf s (editionOf (a .edition)) (outcome .found)
   pub place : ticketOf (step w (callFeed s (w .table) piece) .desk) s .place ≡ deskPlace (a .tags) (a .bytes ++ take (outcome .taken) piece)
 
@@ -52,9 +54,9 @@ pub record FedAsDemanded (w : World) (s : Serial) (a : Account) (piece : Word) (
 pub record FeedAnswers (Left : Type 0) (w : World) (s : Serial) (table : Lent) (piece : Word) (answer : FeedAnswer) : Type 0 where
   pub no-ticket : (answer ≡ F.NoTicket) ↔ Gone w s
   pub stale : (e : Edition) → (answer ≡ F.Stale e) ↔ ((k : ℕ) × StaleTicket w s k × (e .0 ≡ accountAt w k .edition))
-  pub other-slots : (k : ℕ) → OpenTicket w s k → (SameSlots (w .desk) table → ⊥) → answer ≡ F.Fed 0 0 S.Damaged
+  pub other-slots : (k : ℕ) → OpenTicket w s k → (SameSlots (w .desk) table → ⊥) → answer ≡ F.Fed (advance 0 0 S.Damaged)
   pub long : (answer ≡ F.Long) ↔ ((k : ℕ) × OpenTicket w s k × SameSlots (w .desk) table × (largest < length (accountAt w k .bytes) + length piece))
-  pub fed : (taken records : ℕ) (stop : Stop) → answer ≡ F.Fed taken records stop → (k : ℕ) × OpenTicket w s k
+  pub fed : (a : Advance) → answer ≡ F.Fed a → (k : ℕ) × OpenTicket w s k
   pub reads : Left → table ≡ w .table → (k : ℕ) → OpenTicket w s k → length (accountAt w k .bytes) + length piece ≤ largest → FedAsDemanded w s (accountAt w k) piece answer
 
 -- ---- an opening

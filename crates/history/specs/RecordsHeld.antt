@@ -21,6 +21,7 @@ use Rattle.matching.specs.Words.{Word}
 use Rattle.matching.specs.declared.Stop.{Stop}
 use Rattle.history.specs.History.{Account, World, recordsFor, stream}
 use Rattle.matching.specs.Tags.{foundIn}
+use Rattle.desk.specs.declared.Advance.{Advance}
 
 -- a taking hands out the oldest of those held, and leaves the others; where none is held it hands out none
 pub record HandsOut (d : Desk) : Type 0 where
@@ -34,7 +35,7 @@ pub record PutsBehind (d : Desk) (s : Serial) (table : Lent) (piece : Word) : Ty
   pub ordered : Ordered found
   pub behind : held (feedOf d s table piece .desk .records) ≡ held (d .records) ++ recordsOf s (ticketOf d s .edition) found
   pub refused : (feedNumber (feedOf d s table piece .answer) ≡ 0 → ⊥) → found ≡ []
-  pub counted : (taken records : ℕ) (stop : Stop) → feedOf d s table piece .answer ≡ F.Fed taken records stop → records ≡ length found
+  pub counted : (a : Advance) → feedOf d s table piece .answer ≡ F.Fed a → a .records ≡ length found
   pub read : HasRoom d s → Current d s → SameSlots d table → (TooLong d s piece → ⊥)
       → found ≡ deskRead (d .slots) table (ticketOf d s .place) (ticketOf d s .taken) (mostRecords - d .records .count) piece .found
 

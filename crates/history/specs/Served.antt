@@ -18,6 +18,7 @@ use Rattle.history.specs.History.{Account, Replacement, run, start, step
 use Rattle.matching.specs.Words.{Word}
 use Rattle.desk.specs.Layout.{Kind, sizesOf}
 use Rattle.desk.specs.Reached.{Call, callClose, callFeed, callOpen, callReplace, callTake}
+use Rattle.matching.specs.declared.Stop.{Stop}
 
 -- calls to come, which may go by what the calls before them have left
 abbrev pub Script : Type 0
@@ -40,10 +41,13 @@ abbrev pub emptied : Script
 emptied w = replicate (w .desk .records .count) callTake
 
 -- where a feed stops FULL the list is emptied, and then goes what is given for the bytes that it didn't take
+abbrev pub onFull : Stop → Script → Script
+onFull S.All more = nothing
+onFull S.Full more = more
+onFull S.Damaged more = nothing
+
 abbrev pub afterFull : FeedAnswer → (ℕ → Script) → Script
-afterFull (F.Fed count records S.All) more = nothing
-afterFull (F.Fed count records S.Full) more = then emptied (more count)
-afterFull (F.Fed count records S.Damaged) more = nothing
+afterFull (F.Fed a) more = onFull (a .stop) (then emptied (more (a .taken)))
 afterFull F.NoTicket more = nothing
 afterFull (F.Stale e) more = nothing
 afterFull F.Long more = nothing

@@ -155,11 +155,7 @@ pub fn of_feed(said: FeedAnswer) -> Said
     ensures { λ r. ⌜ r ≡ saidOf (feedNumber said) (feedValues said) ⌝ }
 {
     match said {
-        FeedAnswer::Fed {
-            taken,
-            records,
-            stop,
-        } => of_stopped(taken, records, stop),
+        FeedAnswer::Fed(advance) => of_stopped(advance.taken, advance.records, advance.stop),
         FeedAnswer::NoTicket => bare(12),
         FeedAnswer::Stale(edition) => one(13, edition.0 as u64),
         FeedAnswer::Long => bare(14),

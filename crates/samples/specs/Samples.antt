@@ -9,7 +9,7 @@ use mathlib.Core.List.{List, [], _++_, _∷_, map}
 use mathlib.Core.Path.{_≡_, refl}
 use lib.ListN.{getD, replicate}
 use Rattle.desk.specs.Calls.{closeOf, openOf, takeOf}
-use Rattle.desk.specs.Feed.{feedOf}
+use Rattle.desk.specs.Feed.{advance, feedOf}
 use Rattle.desk.specs.Replace.{replaceOf, replacedRun}
 use Rattle.desk.specs.Rooms.{editionOf, firstRoom, roomOf, serialOf}
 use Rattle.desk.specs.Shared.{pushAll, round}
@@ -77,11 +77,11 @@ pub record OfReading : Type 0 where
 pub record OfDesk : Type 0 where
   -- 9: 254 records held, tags a, aa, piece "aa"
   pub sample-9-held : run (start oneBit) calls-254 .desk .records .count ≡ 254
-  pub sample-9 : feedOf (run (start oneBit) calls-254 .desk) (serialOf 3) (run (start oneBit) calls-254 .table) (97 ∷ 97 ∷ []) .answer ≡ F.Fed 1 1 S.Full
+  pub sample-9 : feedOf (run (start oneBit) calls-254 .desk) (serialOf 3) (run (start oneBit) calls-254 .table) (97 ∷ 97 ∷ []) .answer ≡ F.Fed (advance 1 1 S.Full)
   -- 10: with 255 held a byte with one match is taken, and one with two is not
   pub sample-10-held : run (start oneBit) calls-255 .desk .records .count ≡ 255
-  pub sample-10-one : feedOf (run (start oneBit) calls-255 .desk) (serialOf 3) (run (start oneBit) calls-255 .table) (97 ∷ []) .answer ≡ F.Fed 1 1 S.All
-  pub sample-10-two : feedOf (run (start oneBit) calls-255 .desk) (serialOf 4) (run (start oneBit) calls-255 .table) (97 ∷ []) .answer ≡ F.Fed 0 0 S.Full
+  pub sample-10-one : feedOf (run (start oneBit) calls-255 .desk) (serialOf 3) (run (start oneBit) calls-255 .table) (97 ∷ []) .answer ≡ F.Fed (advance 1 1 S.All)
+  pub sample-10-two : feedOf (run (start oneBit) calls-255 .desk) (serialOf 4) (run (start oneBit) calls-255 .table) (97 ∷ []) .answer ≡ F.Fed (advance 0 0 S.Full)
   -- 12: "ush" then "ers" gives the records of "ushers"
   pub sample-12 : stream (run (start oneBit) (calls-open ++ callFeed (serialOf 1) (split 10 tags) ush ∷ callFeed (serialOf 1) (split 10 tags) ers ∷ []))
       ≡ stream (run (start oneBit) (calls-open ++ callFeed (serialOf 1) (split 10 tags) ushers ∷ []))

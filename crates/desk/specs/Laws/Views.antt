@@ -15,7 +15,7 @@ use lib.Dec.{eqb, ltb}
 use lib.ListN.{getD, length}
 use borrow.Author.Tests.{eqb-false, eqb-true, ltb-false, ltb-true, not-true}
 use Rattle.desk.specs.Calls.{closeBy, closeOf, openBy, openOf, openedIn, takeBy, takeOf, withRecords, withTicket}
-use Rattle.desk.specs.Feed.{fedBy, feedBy, feedIn, feedOf, readFor}
+use Rattle.desk.specs.Feed.{advance, fedBy, feedBy, feedIn, feedOf, readFor}
 use Rattle.desk.specs.Replace.{replaceBy, replaceOf, underNext}
 use Rattle.desk.specs.Rooms.{editionOf, freeRoom, freeTicket, roomOf, serialOf, ticketIn}
 use Rattle.desk.specs.Shared.{noRecord, popped}
@@ -112,12 +112,12 @@ pub data Feeds (d : Desk) (i : ℕ) (table : Lent) (piece : Word) : Feeding → 
   feed-stale : i < mostTickets → Not (ticketIn (d .tickets) i .edition .0) (d .edition .0)
       → Feeds d i table piece (record { desk = d; answer = F.Stale (ticketIn (d .tickets) i .edition) })
   feed-other-slots : i < mostTickets → ticketIn (d .tickets) i .edition .0 ≡ d .edition .0 → (Fits (sizesOf table) (d .slots) → ⊥)
-      → Feeds d i table piece (record { desk = d; answer = F.Fed 0 0 Damaged })
+      → Feeds d i table piece (record { desk = d; answer = F.Fed (advance 0 0 Damaged) })
   feed-long : i < mostTickets → ticketIn (d .tickets) i .edition .0 ≡ d .edition .0 → Fits (sizesOf table) (d .slots)
       → largest < ticketIn (d .tickets) i .taken + length piece → Feeds d i table piece (record { desk = d; answer = F.Long })
   feed-no-place : i < mostTickets → ticketIn (d .tickets) i .edition .0 ≡ d .edition .0 → Fits (sizesOf table) (d .slots)
       → ticketIn (d .tickets) i .taken + length piece ≤ largest → placeIn (sizesOf table) (d .slots) (ticketIn (d .tickets) i .place) ≡ false
-      → Feeds d i table piece (record { desk = d; answer = F.Fed 0 0 Damaged })
+      → Feeds d i table piece (record { desk = d; answer = F.Fed (advance 0 0 Damaged) })
   feed-read : i < mostTickets → ticketIn (d .tickets) i .edition .0 ≡ d .edition .0 → Fits (sizesOf table) (d .slots)
       → ticketIn (d .tickets) i .taken + length piece ≤ largest
       → Feeds d i table piece (fedBy d i (ticketIn (d .tickets) i) (readFor d (ticketIn (d .tickets) i) table piece))

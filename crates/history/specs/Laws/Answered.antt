@@ -9,7 +9,7 @@ use mathlib.Core.Path.{_∙_, _≡_, ap, refl, subst, sym}
 use native.Mathlib.Omega.{arith}
 use lib.ListN.{length}
 use Rattle.desk.specs.Calls.{closeOf, openOf, takeOf}
-use Rattle.desk.specs.Feed.{feedOf}
+use Rattle.desk.specs.Feed.{advance, feedOf}
 use Rattle.desk.specs.Laws.Shared.{held-popped}
 use Rattle.desk.specs.Laws.Views.{Closes, close-done, close-no-ticket, closes}
 use Rattle.desk.specs.Laws.Views.{Replaces, replace-done, replace-edition-end, replace-fault, replace-table, replaces}
@@ -67,7 +67,7 @@ feed-answered {Left} w v s table piece c = go _ (feeds-for w v s table piece c) 
       stale = λ i. (λ e. differ cc, λ z. absurd (not-gone w s (z .0) g (z .1 .0)));
       other-slots = λ k o n. absurd (not-gone w s k g (o .0));
       long = (λ e. differ cc, λ z. absurd (not-gone w s (z .0) g (z .1 .0)));
-      fed = λ m n t e. differ cc;
+      fed = λ m e. differ cc;
       reads = λ l f k o m. absurd (not-gone w s k g (o .0));
     }
     go r (for-stale j o) q = record {
@@ -75,7 +75,7 @@ feed-answered {Left} w v s table piece c = go _ (feeds-for w v s table piece c) 
       stale = λ i. (λ e. (j, o, cc), λ z d. F.Stale (record { 0 = sym (same (λ k. i .0 ≡ accountAt w k .edition) (z .0) j (z .1 .0) (o .0) (z .2)) d }));
       other-slots = λ k x n. absurd (omega (arith, o .1, current k j x (o .0)));
       long = (λ e. differ cc, λ z. absurd (omega (arith, o .1, current (z .0) j (z .1) (o .0))));
-      fed = λ m n t e. differ cc;
+      fed = λ m e. differ cc;
       reads = λ l f k x m. absurd (omega (arith, o .1, current k j x (o .0)));
     }
     go r (for-slots j o n) q = record {
@@ -83,7 +83,7 @@ feed-answered {Left} w v s table piece c = go _ (feeds-for w v s table piece c) 
       stale = λ i. (λ e. differ cc, λ z. absurd (omega (arith, z .1 .1, current j (z .0) o (z .1 .0))));
       other-slots = λ k x f. refl;
       long = (λ e. differ cc, λ z. absurd (n (z .2)));
-      fed = λ m k t e. (j, o);
+      fed = λ m e. (j, o);
       reads = λ l f k x m. absurd (n (fits-left w v s j o table f));
     }
     go r (for-long j o f l) q = record {
@@ -91,7 +91,7 @@ feed-answered {Left} w v s table piece c = go _ (feeds-for w v s table piece c) 
       stale = λ i. (λ e. differ cc, λ z. absurd (omega (arith, z .1 .1, current j (z .0) o (z .1 .0))));
       other-slots = λ k x n. absurd (n f);
       long = (λ e. (j, o, f, l), λ z. refl);
-      fed = λ m n t e. differ cc;
+      fed = λ m e. differ cc;
       reads = λ p t k x m. absurd (omega (arith, m, same (λ i. largest < length (accountAt w i .bytes) + length piece) j k (o .0) (x .0) l));
     }
     go r (for-read j o f l x d y a) q = record {
@@ -102,9 +102,9 @@ feed-answered {Left} w v s table piece c = go _ (feeds-for w v s table piece c) 
         λ e. differ cc,
         λ z. absurd (omega (arith, l, same (λ i. largest < length (accountAt w i .bytes) + length piece) (z .0) j (z .1 .0) (o .0) (z .3))),
       );
-      fed = λ m n t e. (j, o);
-      reads = λ p t k u m. same (λ i. FedAsDemanded w s (accountAt w i) piece (F.Fed (x .taken) (length (x .found)) (x .stop))) j k (o .0) (u .0)
-          (let here : feedOf (w .desk) s (w .table) piece ≡ record { desk = d; answer = F.Fed (x .taken) (length (x .found)) (x .stop) } =
+      fed = λ m e. (j, o);
+      reads = λ p t k u m. same (λ i. FedAsDemanded w s (accountAt w i) piece (F.Fed (advance (x .taken) (length (x .found)) (x .stop)))) j k (o .0) (u .0)
+          (let here : feedOf (w .desk) s (w .table) piece ≡ record { desk = d; answer = F.Fed (advance (x .taken) (length (x .found)) (x .stop)) } =
           ap (λ (z : Lent). feedOf (w .desk) s z piece) (sym t) ∙ q in
           record {
             outcome = x;

@@ -71,7 +71,7 @@ feed-held d r s table piece = go _ (feeds d s table piece) refl
       ordered = tt;
       behind = same x q refl ∙ sym (append-nil (held (d .records)));
       refused = λ n. refl;
-      counted = λ m n t e. (let z = ap (λ (y : Feeding). y .answer) (sym q) ∙ e in differ cc);
+      counted = λ m e. (let z = ap (λ (y : Feeding). y .answer) (sym q) ∙ e in differ cc);
       read = λ a b c e. absurd (omega (arith, h, a));
     }
     go x (feed-stale h e) q = record {
@@ -79,7 +79,7 @@ feed-held d r s table piece = go _ (feeds d s table piece) refl
       ordered = tt;
       behind = same x q refl ∙ sym (append-nil (held (d .records)));
       refused = λ n. refl;
-      counted = λ m n t p. (let z = ap (λ (y : Feeding). y .answer) (sym q) ∙ p in differ cc);
+      counted = λ m p. (let z = ap (λ (y : Feeding). y .answer) (sym q) ∙ p in differ cc);
       read = λ a b c f. absurd (e b);
     }
     go x (feed-other-slots h e l) q = record {
@@ -87,7 +87,7 @@ feed-held d r s table piece = go _ (feeds d s table piece) refl
       ordered = tt;
       behind = same x q refl ∙ sym (append-nil (held (d .records)));
       refused = λ n. refl;
-      counted = λ m n t p. (let z = ap (λ (y : Feeding). y .answer) (sym q) ∙ p in cc);
+      counted = λ m p. (let z = ap (λ (y : Feeding). y .answer) (sym q) ∙ p in cc);
       read = λ a b c f. absurd (l c);
     }
     go x (feed-long h e l m) q = record {
@@ -95,7 +95,7 @@ feed-held d r s table piece = go _ (feeds d s table piece) refl
       ordered = tt;
       behind = same x q refl ∙ sym (append-nil (held (d .records)));
       refused = λ n. refl;
-      counted = λ i n t p. (let z = ap (λ (y : Feeding). y .answer) (sym q) ∙ p in differ cc);
+      counted = λ i p. (let z = ap (λ (y : Feeding). y .answer) (sym q) ∙ p in differ cc);
       read = λ a b c f. absurd (f m);
     }
     go x (feed-no-place h e l m n) q = absurd (on-place d s table (good r) h e l n)
@@ -111,7 +111,7 @@ feed-held d r s table piece = go _ (feeds d s table piece) refl
               ∙ held-pushAll (d .records) (recordsOf (t .serial) (t .edition) (o .found)) (g .ring) (omega (arith, k .fits, recordsOf-length (t .serial) (t .edition) (o .found), g .count))
               ∙ λ i. held (d .records) ++ recordsOf (record { 0 = for-held s t (room-held d s g h) .1 i }) (t .edition) (o .found);
           refused = λ n. absurd (n (ap (λ (y : Feeding). feedNumber (y .answer)) q));
-          counted = λ i n j p. (let z = ap (λ (y : Feeding). y .answer) (sym q) ∙ p in cc);
+          counted = λ i p. (let z = ap (λ (y : Feeding). y .answer) (sym q) ∙ p in cc);
           read = λ a b c f. refl;
         }
 

@@ -23,6 +23,7 @@ use Rattle.matching.specs.declared.Stop.{Stop}
 use Rattle.desk.specs.Reached.{callFeed}
 use Rattle.history.specs.Laws.Accounts.{grown-more, grown-nothing}
 use Rattle.matching.specs.Limits.{largest}
+use Rattle.desk.specs.Feed.{advance}
 
 below-drop : (m n : ℕ) (x : Word) → Below m x → Below m (drop n x)
 below-drop m zero x h = h
@@ -105,16 +106,16 @@ at-fedWhole (suc most) w pre x t b small short enough =
     cases : ((v : World) (l : List Account) (y : Account) → Served v l y → (p : Word) → Below 256 p → length (y .bytes) + length p ≤ largest → Enough most v p
         → Becomes v (fedWhole most (serialOf (y .serial)) p v) (v .orders) (l ++ grown p y ∷ []))
         → ((f .stop ≡ S.All) × (c ≡ length b)) ⊎ ((f .stop ≡ S.Full) × (c < length b) × (w .desk .records .count ≡ 0 → 0 < c))
-        → Becomes w (callFeed n (w .table) b ∷ afterFull (F.Fed c (f .records) (f .stop)) more w1) (w .orders) (pre ++ grown b x ∷ [])
+        → Becomes w (callFeed n (w .table) b ∷ afterFull (F.Fed (advance c (f .records) (f .stop))) more w1) (w .orders) (pre ++ grown b x ∷ [])
     cases more-feeds (inl q) =
-        subst (λ (y : Stop). Becomes w (callFeed n (w .table) b ∷ afterFull (F.Fed c (f .records) y) more w1) (w .orders) (pre ++ grown b x ∷ [])) (sym (q .0))
+        subst (λ (y : Stop). Becomes w (callFeed n (w .table) b ∷ afterFull (F.Fed (advance c (f .records) y)) more w1) (w .orders) (pre ++ grown b x ∷ [])) (sym (q .0))
         (subst (λ (p : Word). Becomes w (callFeed n (w .table) b ∷ []) (w .orders) (pre ++ grown p x ∷ [])) (take-all c b (le-of-eq (sym (q .1)))) (f .becomes))
     cases more-feeds (inr q) =
         let rest = more-feeds w2 pre x1 t2 (drop c b) (below-drop 256 c b small)
         (omega (arith, short, length-append (x .bytes) (take c b), length-take-le c b (omega (arith, q .1)), length-drop c b, q .1)) (inr (left (q .2) (q .1) enough, e .empty)) in
         let o2 : w2 .orders ≡ w .orders = e .becomes .orders-are ∙ f .becomes .orders-are in
         let whole : grown (drop c b) x1 ≡ grown b x = grown-more x (take c b) (drop c b) ∙ ap (λ (p : Word). grown p x) (take-append-drop c b) in
-        subst (λ (y : Stop). Becomes w (callFeed n (w .table) b ∷ afterFull (F.Fed c (f .records) y) more w1) (w .orders) (pre ++ grown b x ∷ [])) (sym (q .0))
+        subst (λ (y : Stop). Becomes w (callFeed n (w .table) b ∷ afterFull (F.Fed (advance c (f .records) y)) more w1) (w .orders) (pre ++ grown b x ∷ [])) (sym (q .0))
         (becomes-append w (callFeed n (w .table) b ∷ []) (then emptied (more c) w1) _ _ _ _ (f .becomes)
         (becomes-append w1 (emptied w1) (more c w2) _ _ _ _ (e .becomes)
         (subst₂ (λ (os : List Replacement) (y : Account). Becomes w2 (more c w2) os (pre ++ y ∷ [])) o2 whole rest)))
