@@ -12,6 +12,7 @@ ghost use Rattle.tagset.specs.Answer.{placed, passedUp, setRead, verdict
 
 // The limits of a set: `mostTags` and `longestTag` in matching's specs/Limits.antt.
 const MOST_TAGS: usize = 16;
+
 const LONGEST_TAG: usize = 32;
 
 // Why a set is refused, with the entry at fault.

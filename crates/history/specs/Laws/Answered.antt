@@ -41,7 +41,6 @@ use Rattle.matching.specs.Limits.{largest}
 use Rattle.desk.specs.Limits.{mostTickets}
 use Rattle.desk.specs.Conditions.{ticketOf}
 
-
 -- an account that is not closed is no account of a serial that is gone
 not-gone : (w : World) (s : Serial) (k : ℕ) → Gone w s → OpenOrStale w s k → ⊥
 not-gone w s k g o = not-both (g k (o .inside) (o .serial)) (o .not-closed)
