@@ -2,7 +2,6 @@
 use Rattle.desk.specs.declared.StateAnswer.the-variants as A
 use Prim.Native.Nat.{ℕ, zero, suc}
 use mathlib.Core.List.{List, [], _∷_, _++_}
-use lib.ListN.{take}
 use Rattle.desk.specs.Numbers.{closeNumber, closeValues, feedNumber, feedValues, openNumber, openValues, replaceNumber, replaceValues, takeNumber, takeValues}
 use Rattle.desk.specs.declared.CloseAnswer.{CloseAnswer}
 use Rattle.desk.specs.declared.Edition.{Edition}
@@ -13,6 +12,7 @@ use Rattle.desk.specs.declared.StateAnswer.{StateAnswer}
 use Rattle.desk.specs.declared.TakeAnswer.{TakeAnswer}
 use Rattle.numbers.specs.Answers.{answerOf, endingNumber, endingValues}
 use Rattle.numbers.specs.declared.Answer.{Answer}
+use Rattle.numbers.specs.declared.Said.{Said}
 use Rattle.reading.specs.declared.Ending.{Ending}
 use Rattle.tables.specs.Building.{builtNumber, builtValues}
 use Rattle.tables.specs.declared.Built.{Built}
@@ -49,10 +49,14 @@ firstTwo zero a b = []
 firstTwo (suc zero) a b = a ∷ []
 firstTwo (suc (suc n)) a b = a ∷ b ∷ []
 
--- an answer by its number and values: the line of its refusal, which has no more than two values; or the text of what the call gives
+-- the line of a refusal by what was said of it
+abbrev pub saidLine : Said → List ℕ
+saidLine s = refusedLine (s .answer .refusal) (firstTwo (s .count) (s .answer .a) (s .answer .b))
+
+-- an answer by its number and values: the line of its refusal, or the text of what the call gives
 unfoldable pub answerLine : (Answer → List ℕ) → ℕ → List ℕ → List ℕ
 answerLine given zero values = given (answerOf 0 values)
-answerLine given (suc n) values = refusedLine (suc n) (take 2 values)
+answerLine given (suc n) values = refusedLine (suc n) values
 
 -- `edition E tags N`
 abbrev pub editionLine : Answer → List ℕ
@@ -107,7 +111,8 @@ stateLine serial answer = numbered (115 ∷ 116 ∷ 97 ∷ 116 ∷ 101 ∷ 32 �
 
 -- `record`, and the record's serial, edition, end and tag
 abbrev pub recordLine : Answer → List ℕ
-recordLine given = ended (numbered (114 ∷ 101 ∷ 99 ∷ 111 ∷ 114 ∷ 100 ∷ 32 ∷ []) (given .a) ++ numbered (32 ∷ []) (given .b) ++ numbered (32 ∷ []) (given .c) ++ numbered (32 ∷ []) (given .d))
+recordLine given =
+    ended (numbered (114 ∷ 101 ∷ 99 ∷ 111 ∷ 114 ∷ 100 ∷ 32 ∷ []) (given .a) ++ numbered (32 ∷ []) (given .b) ++ numbered (32 ∷ []) (given .c) ++ numbered (32 ∷ []) (given .d))
 
 abbrev pub takeLine : TakeAnswer → List ℕ
 takeLine said = answerLine recordLine (takeNumber said) (takeValues said)
@@ -126,7 +131,8 @@ numbersLine numbers = ended ((110 ∷ 117 ∷ 109 ∷ 98 ∷ 101 ∷ 114 ∷ 115
 -- a read outside that stopped: the bytes taken, why, the records, the place, and on a line of its own the list
 abbrev pub stoppedLines : List ℕ → List ℕ → Answer → List ℕ
 stoppedLines place list given =
-    ended (fedPart given ++ numbered (32 ∷ 114 ∷ 101 ∷ 99 ∷ 111 ∷ 114 ∷ 100 ∷ 115 ∷ 32 ∷ []) (given .c) ++ (32 ∷ 112 ∷ 108 ∷ 97 ∷ 99 ∷ 101 ∷ []) ++ listed [] place)
+    ended (fedPart given ++ numbered (32 ∷ 114 ∷ 101 ∷ 99 ∷ 111 ∷ 114 ∷ 100 ∷ 115 ∷ 32 ∷ []) (given .c)
+    ++ (32 ∷ 112 ∷ 108 ∷ 97 ∷ 99 ∷ 101 ∷ []) ++ listed [] place)
     ++ ended ((108 ∷ 105 ∷ 115 ∷ 116 ∷ []) ++ listed [] list)
 
 abbrev pub readLines : ℕ → Ending → ℕ → List ℕ → List ℕ → List ℕ

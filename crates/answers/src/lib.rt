@@ -23,7 +23,8 @@ use writing::put_line_end;
 use writing::put_words;
 ghost use mathlib.Core.List.{_∷_, [], _++_};
 ghost use Rattle.writing.specs.Buffer.{buffer, Puts};
-ghost use Rattle.answers.specs.Answers.{listed, ended, replaceLine, openLine, stopWord, fedPart, feedLine, closeLine, heldPart, statePart, stateLine, recordLine, takeLine, builtLine, numbersLine, stoppedLines, readLines};
+ghost use Rattle.answers.specs.Answers.{listed, ended, stopWord, fedPart, heldPart, statePart, recordLine, stoppedLines};
+ghost use Rattle.answers.specs.Answers.{replaceLine, openLine, feedLine, closeLine, stateLine, takeLine, builtLine, numbersLine, readLines};
 
 pub fn replaced(out: &mut [u8; 65536], used: usize, answer: ReplaceAnswer) -> usize
     ensures { λ r. ⌜ Puts (buffer (now (out .entry)) used) (replaceLine answer) (buffer (now (out .exit)) r) ⌝ }

@@ -7,7 +7,7 @@ use writing::put_words;
 ghost use mathlib.Core.Path.{_≡_};
 ghost use mathlib.Core.List.{_∷_, []};
 ghost use Rattle.writing.specs.Buffer.{buffer, Puts};
-ghost use Rattle.answers.specs.Answers.{numbered, listed, wordLine, notACallLine, refusedLine, firstTwo};
+ghost use Rattle.answers.specs.Answers.{numbered, listed, wordLine, notACallLine, firstTwo, saidLine};
 
 pub fn put_numbered(out: &mut [u8; 65536], used: usize, words: &[u8], n: u64) -> usize
     ensures { λ r. ⌜ Puts (buffer (now (out .entry)) used) (numbered (now (words .entry)) n) (buffer (now (out .exit)) r) ⌝ }
@@ -88,7 +88,7 @@ fn put_values(out: &mut [u8; 65536], used: usize, count: u64, first: u64, second
 }
 
 pub fn refused(out: &mut [u8; 65536], used: usize, said: Said) -> usize
-    ensures { λ r. ⌜ Puts (buffer (now (out .entry)) used) (refusedLine (said .answer .refusal) (firstTwo (said .count) (said .answer .a) (said .answer .b))) (buffer (now (out .exit)) r) ⌝ }
+    ensures { λ r. ⌜ Puts (buffer (now (out .entry)) used) (saidLine said) (buffer (now (out .exit)) r) ⌝ }
 {
     let answer = said.answer;
     let at = put_numbered(out, used, b"refused ", answer.refusal);

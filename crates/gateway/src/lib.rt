@@ -18,7 +18,8 @@ ghost use Rattle.gate.specs.Gate.{newGate, changeOf, beginOf, pieceOf, decideOf
 ghost use Rattle.tables.specs.Building.{builtOf, tableOf, neededOf};
 ghost use Rattle.reading.specs.Outside.{readOf, splitBy, wholeBy, listBy};
 ghost use Rattle.gate_numbers.specs.Answers.{pieceAnswer, verdictAnswer};
-ghost use Rattle.numbers.specs.Answers.{builtAnswer, neededAnswer, replaceAnswer, openAnswer, feedAnswer, closeAnswer, takeAnswer, stateAnswer, splitSaid, wholeSaid};
+ghost use Rattle.numbers.specs.Answers.{replaceAnswer, openAnswer, feedAnswer, closeAnswer, takeAnswer, stateAnswer};
+ghost use Rattle.numbers.specs.Answers.{builtAnswer, neededAnswer, splitSaid, wholeSaid};
 
 // A desk after a call, and the call's answer.
 #[repr(C)]

@@ -16,7 +16,8 @@ ghost use mathlib.Core.List.{[], _∷_};
 ghost use Rattle.tagset.specs.Answer.{faultNumber, faultValues};
 ghost use Rattle.tables.specs.Building.{builtNumber, builtValues, neededNumber, neededValues};
 ghost use Rattle.reading.specs.Outside.{readNumber, readValues};
-ghost use Rattle.desk.specs.Numbers.{stopNumber, replaceNumber, replaceValues, openNumber, openValues, feedNumber, feedValues, closeNumber, closeValues, takeNumber, takeValues, stateValues};
+ghost use Rattle.desk.specs.Numbers.{replaceNumber, replaceValues, openNumber, openValues, feedNumber, feedValues, closeNumber, closeValues};
+ghost use Rattle.desk.specs.Numbers.{takeNumber, takeValues, stateValues, stopNumber};
 ghost use Rattle.numbers.specs.Answers.{answerOf, saidOf, endingNumber, endingValues};
 
 // No call gives more than four values yet; the others leave the layout as it is when one gives more.

@@ -1,3 +1,4 @@
+use Rattle.numbers.specs.Laws.{close-few}
 use Rattle.answers.specs.Laws.Said.{say-given, say-refused}
 use borrow.Author.Needs.{needs}
 use Rattle.answers.proofs.closed.Statement.{statement}
@@ -10,7 +11,9 @@ refused-requires : tie.Need-refused-requires
 refused-requires c κs = search needs
 
 returns : tie.Need-returns
-returns c = say-refused _ _ _ (c .before .before .before .before .of-close .ensures) (c .before .before .if1 .taken) (c .refused .ensures)
+returns c =
+    say-refused _ _ _ (close-few (c .before .before .before .before .before .args .answer))
+    (c .before .before .before .before .of-close .ensures) (c .before .before .if1 .taken) (c .refused .ensures)
 
 slice-aggregate-word-line : tie.Need-slice-aggregate-word-line
 slice-aggregate-word-line c = search needs

@@ -1,3 +1,4 @@
+use Rattle.numbers.specs.Laws.{feed-few}
 use Rattle.writing.specs.Laws.Waiting.{put-then}
 use Rattle.answers.specs.Laws.Said.{say-given, say-refused}
 use borrow.Author.Needs.{needs}
@@ -11,7 +12,9 @@ refused-requires : tie.Need-refused-requires
 refused-requires c κs = search needs
 
 returns : tie.Need-returns
-returns c = say-refused _ _ _ (c .before .before .before .before .before .of-feed .ensures) (c .before .before .if1 .taken) (c .refused .ensures)
+returns c =
+    say-refused _ _ _ (feed-few (c .before .before .before .before .before .before .args .answer))
+    (c .before .before .before .before .before .of-feed .ensures) (c .before .before .if1 .taken) (c .refused .ensures)
 
 put-fed-requires : tie.Need-put-fed-requires
 put-fed-requires c κs = search needs
@@ -20,7 +23,9 @@ put-line-end-requires : tie.Need-put-line-end-requires
 put-line-end-requires c κs = search needs
 
 returns-2 : tie.Need-returns-2
-returns-2 c = say-given _ _ _ (c .before .before .before .before .before .before .before .of-feed .ensures) (c .before .before .before .before .if1 .left) (put-then (c .before .before .put-fed .ensures) (c .put-line-end .ensures))
+returns-2 c =
+    say-given _ _ _ (c .before .before .before .before .before .before .before .of-feed .ensures)
+    (c .before .before .before .before .if1 .left) (put-then (c .before .before .put-fed .ensures) (c .put-line-end .ensures))
 
 pub fed-spec : {M : Type 1} → statement M
 fed-spec =

@@ -1,3 +1,4 @@
+use Rattle.numbers.specs.Laws.{ending-few}
 use Rattle.answers.specs.Laws.Said.{say-given, say-refused}
 use borrow.Author.Needs.{needs}
 use Rattle.answers.proofs.read_lines.Statement.{statement}
@@ -10,7 +11,10 @@ refused-requires : tie.Need-refused-requires
 refused-requires c κs = search needs
 
 returns : tie.Need-returns
-returns c = say-refused _ _ _ (c .before .before .before .before .before .of-read .ensures) (c .before .before .if1 .taken) (c .refused .ensures)
+returns c =
+    let a = c .before .before .before .before .before .before .before .before .args in
+    say-refused _ _ _ (ending-few (a .taken) (a .records) (a .ending))
+    (c .before .before .before .before .before .of-read .ensures) (c .before .before .if1 .taken) (c .refused .ensures)
 
 stopped-requires : tie.Need-stopped-requires
 stopped-requires c κs = search needs

@@ -24,7 +24,8 @@ put-line-end-requires c κs = search needs
 returns : tie.Need-returns
 returns c =
     let c4 = c .before .before .before .before in
-    put-then (put-then (put-then (put-then (c4 .before .before .before .before .put-numbered .ensures) (c4 .before .before .put-blank-number .ensures)) (c4 .put-blank-number2 .ensures))
+    put-then (put-then (put-then (put-then (c4 .before .before .before .before .put-numbered .ensures)
+    (c4 .before .before .put-blank-number .ensures)) (c4 .put-blank-number2 .ensures))
     (c .before .before .put-blank-number3 .ensures)) (c .put-line-end .ensures)
 
 pub record-line-spec : {M : Type 1} → statement M

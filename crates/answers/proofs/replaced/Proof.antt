@@ -1,3 +1,4 @@
+use Rattle.numbers.specs.Laws.{replace-few}
 use Rattle.writing.specs.Laws.Waiting.{put-then}
 use Rattle.answers.specs.Laws.Said.{say-given, say-refused}
 use borrow.Author.Needs.{needs}
@@ -11,7 +12,9 @@ refused-requires : tie.Need-refused-requires
 refused-requires c κs = search needs
 
 returns : tie.Need-returns
-returns c = say-refused _ _ _ (c .before .before .before .before .before .of-replace .ensures) (c .before .before .if1 .taken) (c .refused .ensures)
+returns c =
+    say-refused _ _ _ (replace-few (c .before .before .before .before .before .before .args .answer))
+    (c .before .before .before .before .before .of-replace .ensures) (c .before .before .if1 .taken) (c .refused .ensures)
 
 slice-aggregate-put-numbered : tie.Need-slice-aggregate-put-numbered
 slice-aggregate-put-numbered c = search needs

@@ -30,7 +30,8 @@ put-list-requires c κs = search needs
 returns : tie.Need-returns
 returns c =
     let c6 = c .before .before .before .before .before .before in
-    put-then (put-then (put-then (put-then (put-then (c6 .before .before .before .before .before .before .put-fed .ensures) (c6 .before .before .before .put-numbered .ensures)) (c6 .put-words .ensures))
+    put-then (put-then (put-then (put-then (put-then (c6 .before .before .before .before .before .before .put-fed .ensures)
+    (c6 .before .before .before .put-numbered .ensures)) (c6 .put-words .ensures))
     (c .before .before .before .before .put-numbers .ensures)) (c .before .before .put-line-end .ensures)) (c .put-list .ensures)
 
 pub stopped-spec : {M : Type 1} → statement M

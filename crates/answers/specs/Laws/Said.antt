@@ -2,14 +2,14 @@
 use Prim.Native.Nat.{ℕ, zero, suc, _<_, _≤_}
 use native.Mathlib.Omega.{arith}
 use mathlib.Core.List.{List, [], _∷_}
-use mathlib.Core.Path.{_≡_, refl, subst}
+use mathlib.Core.Path.{_≡_, _∙_, refl, subst}
 use lib.ListN.{length, getD, take}
 use Rattle.numbers.specs.Answers.{answerOf, saidOf}
-use Rattle.numbers.specs.Laws.{refusal-is}
+use Rattle.numbers.specs.Laws.{Few, refusal-is}
 use Rattle.numbers.specs.declared.Answer.{Answer}
 use Rattle.numbers.specs.declared.Said.{Said}
 use Rattle.writing.specs.Buffer.{Buffer, Puts}
-use Rattle.answers.specs.Answers.{answerLine, firstTwo, refusedLine, stopWord}
+use Rattle.answers.specs.Answers.{answerLine, firstTwo, refusedLine, saidLine, stopWord}
 
 first-two : (values : List ℕ) → firstTwo (length values) (getD values 0 0) (getD values 1 0) ≡ take 2 values
 first-two [] = refl
@@ -30,7 +30,7 @@ stop-damaged (suc zero) h k = absurd (k refl)
 stop-damaged (suc (suc n)) h k = refl
 
 module _ (given : Answer → List ℕ) (values : List ℕ) where
-  line-refused : (n : ℕ) → 0 < n → answerLine given n values ≡ refusedLine n (take 2 values)
+  line-refused : (n : ℕ) → 0 < n → answerLine given n values ≡ refusedLine n values
   unfolding answerLine
   line-refused zero h = absurd (omega (arith, h))
   line-refused (suc n) h = refl
@@ -42,11 +42,11 @@ module _ (given : Answer → List ℕ) (values : List ℕ) where
 
 module _ (given : Answer → List ℕ) (n : ℕ) (values : List ℕ) {s : Said} {b c : Buffer} where
   -- refused, or not
-  pub say-refused : s ≡ saidOf n values → 0 < s .answer .refusal
-      → Puts b (refusedLine (s .answer .refusal) (firstTwo (s .count) (s .answer .a) (s .answer .b))) c → Puts b (answerLine given n values) c
-  say-refused e h p =
-      rw (line-refused given values n (omega (arith, h, refusal-is e)), ← first-two values)
-      (subst (λ (t : Said). Puts b (refusedLine (t .answer .refusal) (firstTwo (t .count) (t .answer .a) (t .answer .b))) c) e p)
+  pub say-refused : Few n values → s ≡ saidOf n values → 0 < s .answer .refusal → Puts b (saidLine s) c → Puts b (answerLine given n values) c
+  say-refused few e h p =
+      let some : 0 < n = omega (arith, h, refusal-is e) in
+      rw (line-refused given values n some)
+      (subst (λ (l : List ℕ). Puts b (refusedLine n l) c) (first-two values ∙ few some) (subst (λ (t : Said). Puts b (saidLine t) c) e p))
 
   pub say-given : s ≡ saidOf n values → s .answer .refusal ≤ 0 → Puts b (given (s .answer)) c → Puts b (answerLine given n values) c
   say-given e h p =

@@ -13,7 +13,9 @@ same-length : tie.Need-same-length
 same-length c = search needs
 
 returns : tie.Need-returns
-returns c = let called = c .before .before .before .before .build-whole .ensures in rw (← called .0) (answer-is (c .before .of-built .ensures), called .1)
+returns c =
+    let called = c .before .before .before .before .build-whole .ensures in
+    rw (← called .0) (answer-is (c .before .of-built .ensures), called .1)
 
 pub sleet-build-whole-spec : {M : Type 1} → statement M
 sleet-build-whole-spec =

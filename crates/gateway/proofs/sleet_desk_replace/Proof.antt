@@ -14,7 +14,9 @@ same-length : tie.Need-same-length
 same-length c = search needs
 
 returns : tie.Need-returns
-returns c = let called = c .before .before .before .before .before .replace .ensures in rw (← called .0) (refl, answer-is (c .before .of-replace .ensures), called .1)
+returns c =
+    let called = c .before .before .before .before .before .replace .ensures in
+    rw (← called .0) (refl, answer-is (c .before .of-replace .ensures), called .1)
 
 pub sleet-desk-replace-spec : {M : Type 1} → statement M
 sleet-desk-replace-spec =

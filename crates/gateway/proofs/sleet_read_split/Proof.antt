@@ -14,7 +14,9 @@ same-length : tie.Need-same-length
 same-length c = search needs
 
 returns : tie.Need-returns
-returns c = let called = c .before .before .before .before .before .read-split .ensures in rw (← called .0) (answer-is (c .before .of-read .ensures), refl, called .1)
+returns c =
+    let called = c .before .before .before .before .before .read-split .ensures in
+    rw (← called .0) (answer-is (c .before .of-read .ensures), refl, called .1)
 
 pub sleet-read-split-spec : {M : Type 1} → statement M
 sleet-read-split-spec =

@@ -34,16 +34,24 @@ replaced-requires-3 : tie.Need-replaced-requires-3
 replaced-requires-3 c κs = search needs
 
 returns : tie.Need-returns
-returns c = let e = c .before .before .enum-told .given .1 in rw e (rw e at (c .replaced .ensures))
+returns c =
+    let e = c .before .before .enum-told .given .1 in
+    rw e (rw e at (c .replaced .ensures))
 
 returns-2 : tie.Need-returns-2
-returns-2 c = let e = c .before .before .enum-told2 .given .1 in rw e (rw e at (c .replaced2 .ensures))
+returns-2 c =
+    let e = c .before .before .enum-told2 .given .1 in
+    rw e (rw e at (c .replaced2 .ensures))
 
 returns-3 : tie.Need-returns-3
-returns-3 c = let e = c .before .before .before .enum-told3 .given .1 in rw e (rw (refusal-is (c .before .before .before .before .before .before .of-replace .ensures), e) at (c .word-line .ensures))
+returns-3 c =
+    let e = c .before .before .before .enum-told3 .given .1 in
+    rw e (rw (refusal-is (c .before .before .before .before .before .before .of-replace .ensures), e) at (c .word-line .ensures))
 
 returns-4 : tie.Need-returns-4
-returns-4 c = let e = c .before .before .enum-told4 .given .1 in rw e (rw e at (c .replaced3 .ensures))
+returns-4 c =
+    let e = c .before .before .enum-told4 .given .1 in
+    rw e (rw e at (c .replaced3 .ensures))
 
 pub put-answer-spec : {M : Type 1} → statement M
 put-answer-spec =
