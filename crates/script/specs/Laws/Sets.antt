@@ -1,7 +1,6 @@
 -- Laws of sets: quotations, entries, and the bytes that are put for them.
 use Prim.Native.Nat.{ℕ, zero, suc, _+_, _-_, _≤_, _<_, _/_, _%_}
 use native.Mathlib.Omega.{arith}
-use native.Mathlib.Numerals.{add-one}
 use mathlib.Core.Path.{_≡_, refl, sym, ap, _∙_}
 use mathlib.Core.Bool.{Bool, true, false, _&&_, cond, and-false}
 use mathlib.Core.List.{List, [], _∷_, _++_, append-assoc}
@@ -164,7 +163,8 @@ pub record Entered (w b rest : List ℕ) (left n : ℕ) : Type 0 where
 pub entered-none : (w b : List ℕ) → 4096 ≤ length b → Entered w b w (length w) 0
 entered-none w b h = record { short = omega arith; long = h; inside = omega arith; means = sym (front-none (entriesOf (length w) w)) }
 
-pub entered-fails : {w b rest : List ℕ} {left n : ℕ} → Entered w b rest left n → 0 < left → quotedAt rest ≡ NotQuoted → noBytes ≡ within 4096 (entriesOf (length w) w)
+pub entered-fails : {w b rest : List ℕ} {left n : ℕ} → Entered w b rest left n → 0 < left → quotedAt rest ≡ NotQuoted
+    → noBytes ≡ within 4096 (entriesOf (length w) w)
 entered-fails {w} {b} {rest} {left} {n} v h e =
     sym (ap (within 4096) (v .means ∙ ap (inFront (take n b)) (entries-step left rest h ∙ ap (λ (q : Quoted). onQuoted q rest (entriesOf (left - 1))) e)))
 
@@ -223,7 +223,8 @@ last-fits (b ∷ w) k e = go (eqb b 34) (ltb (reach 34 w) (length w)) refl e
         other true g = absurd (followed-last g)
         other false g = absurd (not-last g)
 
-    go : (s t : Bool) → ltb (reach 34 w) (length w) ≡ t → cond (s && t) (followed (reach 34 w) (drop (reach 34 w + 1) w)) NotQuoted ≡ Last k → k + 2 ≤ suc (length w)
+    go : (s t : Bool) → ltb (reach 34 w) (length w) ≡ t → cond (s && t) (followed (reach 34 w) (drop (reach 34 w + 1) w)) NotQuoted ≡ Last k
+        → k + 2 ≤ suc (length w)
     go true true g f = omega (arith, by (drop (reach 34 w + 1) w) f, ltb-true (reach 34 w) (length w) g)
     go true false g f = absurd (not-last f)
     go false t g f = absurd (not-last f)

@@ -3,8 +3,6 @@ use Rattle.script.proofs.reads.read.Statement.{statement}
 use Rattle.script.proofs.reads.read.Tie as tie
 use borrow.Author.Needs.{needs}
 use native.Mathlib.Omega.{arith}
-use mathlib.Core.List.{List}
-use Prim.Native.Nat.{ℕ}
 use lib.ListN.{length}
 use mathlib.Core.Path.{sym, ap, _∙_}
 use Rattle.script.specs.Words.{wordOf, behind}

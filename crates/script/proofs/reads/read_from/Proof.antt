@@ -4,7 +4,7 @@ use Rattle.script.proofs.reads.read_from.Tie as tie
 use borrow.Author.Needs.{needs}
 use native.Mathlib.Omega.{arith}
 use lib.ListN.{length}
-use mathlib.Core.Path.{refl, sym, ap, _∙_}
+use mathlib.Core.Path.{sym, ap}
 use borrow.Author.Tests.{not-true, not-false}
 use Rattle.script.specs.declared.bytes.Bytes.the-variants.{Are, NoBytes}
 use Rattle.script.specs.Words.{skipped}

@@ -3,10 +3,9 @@ use Rattle.script.proofs.sets.entries.Statement.{statement}
 use Rattle.script.proofs.sets.entries.Tie as tie
 use borrow.Author.Needs.{needs}
 use native.Mathlib.Omega.{arith}
-use Prim.Native.Nat.{_+_}
 use mathlib.Core.Path.{_≡_, refl, sym, ap, _∙_}
 use lib.ListN.{length}
-use Rattle.script.specs.Bytes.{bytesIn, countOf}
+use Rattle.script.specs.Bytes.{bytesIn}
 use Rattle.script.specs.Laws.Sets.{Entered, entered-none, entered-fails, entered-out, entered-last, entered-full, entered-more, last-fits, followed-fits}
 
 abbrev Inv-loop : tie.InvT-loop

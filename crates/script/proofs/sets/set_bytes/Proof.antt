@@ -4,7 +4,7 @@ use Rattle.script.proofs.sets.set_bytes.Tie as tie
 use borrow.Author.Needs.{needs}
 use native.Mathlib.Omega.{arith}
 use Prim.Native.Nat.{_≤_, _<_}
-use mathlib.Core.Path.{refl, sym, ap, _∙_, _≡_}
+use mathlib.Core.Path.{refl, sym, ap, _∙_}
 use lib.ListN.{length, take}
 use lib.Seq.{length-take-le}
 use Rattle.script.specs.declared.bytes.Bytes.the-variants.{Are, NoBytes}
