@@ -151,6 +151,13 @@ pub set-plain : (w : List ℕ) → (getD w 0 0 ≡ 34 → ⊥) → setOf w ≡ w
 unfolding setOf
 set-plain w h = rw (ne-eqb _ _ h)
 
+-- bytes as they are written: too many, or few enough
+pub set-many : (w b : List ℕ) (n : ℕ) → (getD w 0 0 ≡ 34 → ⊥) → bytesOf w ≡ these (take n b) → n ≤ length b → 4096 < n → setOf w ≡ noBytes
+set-many w b n q e m h = set-plain w q ∙ ap (within 4096) e ∙ within-long 4096 (take n b) (rw (length-take-le n b m) h)
+
+pub set-few : (w b : List ℕ) (n : ℕ) → (getD w 0 0 ≡ 34 → ⊥) → bytesOf w ≡ these (take n b) → n ≤ length b → n ≤ 4096 → setOf w ≡ these (take n b)
+set-few w b n q e m h = set-plain w q ∙ ap (within 4096) e ∙ within-these 4096 (take n b) (rw (length-take-le n b m) h)
+
 -- ---- the words are read quotation by quotation
 
 -- what was put so far, and the words that are left
