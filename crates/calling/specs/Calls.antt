@@ -14,7 +14,8 @@ use Rattle.desk.specs.declared.Desk.{Desk}
 use Rattle.reading.specs.Outside.{readOf, splitBy, wholeBy, listBy}
 use Rattle.reading.specs.declared.SplitAnswer.{SplitAnswer}
 use Rattle.reading.specs.declared.WholeAnswer.{WholeAnswer}
-use Rattle.script.specs.Calls.{CallOf, passedOver, notACall, callSet, callLend, callReplace, callOpen, callFeed, callClose, callState, callTake, callShow, callBuild, callRead, callPoke, callPeek}
+use Rattle.script.specs.Calls.{CallOf, passedOver, notACall, callSet, callLend, callReplace, callOpen, callFeed, callClose, callState, callTake}
+use Rattle.script.specs.Calls.{callShow, callBuild, callRead, callPoke, callPeek}
 use Rattle.script.specs.declared.Layout.{Layout}
 use Rattle.script.specs.declared.Layout.the-variants.{Split, Whole}
 use Rattle.calling.specs.declared.State.{State}
@@ -69,7 +70,8 @@ openOn h = answered (withDesk h (openOf (h .desk) .desk)) (openLine (openOf (h .
 
 abbrev pub feedOn : Held → ℕ → List ℕ → Answered
 feedOn h serial piece =
-    answered (withDesk h (feedOf (h .desk) (serialOf serial) (lentTable h) piece .desk)) (feedLine (feedOf (h .desk) (serialOf serial) (lentTable h) piece .answer))
+    answered (withDesk h (feedOf (h .desk) (serialOf serial) (lentTable h) piece .desk))
+    (feedLine (feedOf (h .desk) (serialOf serial) (lentTable h) piece .answer))
 
 abbrev pub closeOn : Held → ℕ → Answered
 closeOn h serial = answered (withDesk h (closeOf (h .desk) (serialOf serial) .desk)) (closeLine serial (closeOf (h .desk) (serialOf serial) .answer))
@@ -110,7 +112,8 @@ readText table Whole count room place piece =
     (listBy (sevens room) (readOf 8 1 table (getD place 0 0 ∷ []) count piece room))
 
 abbrev pub pokeOn : Held → ℕ → ℕ → Answered
-pokeOn h at value = answered (record { desk = h .desk; bytes = h .bytes; table = set (h .table) at value; lent = h .lent }) (wordLine (112 ∷ 111 ∷ 107 ∷ 101 ∷ 100 ∷ 32 ∷ []) at)
+pokeOn h at value = answered (record { desk = h .desk; bytes = h .bytes; table = set (h .table) at value; lent = h .lent })
+    (wordLine (112 ∷ 111 ∷ 107 ∷ 101 ∷ 100 ∷ 32 ∷ []) at)
 
 -- the call of line n
 abbrev pub callOn : Held → ℕ → CallOf → Answered

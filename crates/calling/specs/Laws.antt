@@ -2,10 +2,10 @@
 use Prim.Native.Nat.{ℕ, _+_, _-_, _≤_}
 use native.Mathlib.Omega.{arith}
 use mathlib.Core.List.{List, [], _∷_, _++_}
-use mathlib.Core.Path.{_≡_, refl, sym, ap, subst, _∙_}
+use mathlib.Core.Path.{_≡_, refl, ap, subst, _∙_}
 use lib.ListN.{length, take, drop, length-replicate}
 use lib.Seq.{length-take-le, paste}
-use Rattle.answers.specs.Answers.{wordLine, replaceLine, feedLine, builtLine}
+use Rattle.answers.specs.Answers.{replaceLine, feedLine, builtLine}
 use Rattle.desk.specs.Feed.{feedOf}
 use Rattle.desk.specs.Replace.{replaceOf, replacedRun}
 use Rattle.desk.specs.Rooms.{serialOf}
@@ -20,7 +20,8 @@ use Rattle.script.specs.Calls.{Bounded}
 use Rattle.script.specs.declared.Call.{Call}
 use Rattle.script.specs.declared.Layout.{Layout}
 use Rattle.script.specs.declared.Layout.the-variants.{Split, Whole}
-use Rattle.calling.specs.Calls.{Held, Answered, answered, withDesk, heldBy, Did, setOn, replaceOn, feedOn, buildOn, builtBy, tableBy, sevens, splitText, wholeText, readText}
+use Rattle.calling.specs.Calls.{Held, answered, withDesk, heldBy, Did, replaceOn, feedOn, buildOn, builtBy, tableBy, sevens}
+use Rattle.calling.specs.Calls.{splitText, wholeText, readText}
 use Rattle.calling.specs.declared.State.{State}
 use Rattle.tables.specs.declared.Built.{Built}
 use Rattle.writing.specs.Buffer.{Buffer, Puts}
@@ -45,7 +46,8 @@ pub span : (at n : ℕ) → at + n - at ≡ n
 span at n = omega arith
 
 pub did-set : (s : State) (bytes buffer after table : List ℕ) {b a : Buffer} (text : List ℕ) → after ≡ paste buffer 0 bytes (length bytes) → Puts b text a
-    → Did (answered (record { desk = s .desk; bytes = bytes; table = table; lent = s .lent }) text) b (record { desk = s .desk; bytes = take (length bytes) after; table = table; lent = s .lent }) a
+    → Did (answered (record { desk = s .desk; bytes = bytes; table = table; lent = s .lent }) text) b
+    (record { desk = s .desk; bytes = take (length bytes) after; table = table; lent = s .lent }) a
 did-set s bytes buffer after table text e p = record {
   same =
       ap (λ (l : List ℕ). record { desk = s .desk; bytes = l; table = table; lent = s .lent })
@@ -58,7 +60,8 @@ abbrev pub heldAfter : State → Desk → List ℕ → List ℕ → List ℕ →
 heldAfter s d bytes table run n = record { desk = d; bytes = take (s .held) bytes; table = run ++ drop n table; lent = s .lent }
 
 pub did-replace : (s : State) (bytes table run : List ℕ) (r : Replacing) {b a : Buffer}
-    → r ≡ replaceOf (s .desk) (bySet (take (s .held - 0) bytes)) (length (take (s .lent - 0) table)) → run ≡ replacedRun (s .desk) (bySet (take (s .held - 0) bytes)) (take (s .lent - 0) table)
+    → r ≡ replaceOf (s .desk) (bySet (take (s .held - 0) bytes)) (length (take (s .lent - 0) table))
+    → run ≡ replacedRun (s .desk) (bySet (take (s .held - 0) bytes)) (take (s .lent - 0) table)
     → Puts b (replaceLine (r .answer)) a → Did (replaceOn (heldBy s bytes table)) b (heldAfter s (r .desk) bytes table run (s .lent - 0)) a
 did-replace s bytes table run r e f p =
     let z = off (s .held) in
@@ -68,13 +71,16 @@ did-replace s bytes table run r e f p =
     record {
       same =
           ap (λ (x : Replacing). heldAfter s (x .desk) bytes table run (s .lent - 0)) is
-          ∙ ap (λ (l : List ℕ). heldAfter s (replaceOf (s .desk) (bySet (take (s .held) bytes)) (length (take (s .lent) table)) .desk) bytes table l (s .lent - 0)) left
-          ∙ ap (heldAfter s (replaceOf (s .desk) (bySet (take (s .held) bytes)) (length (take (s .lent) table)) .desk) bytes table (replacedRun (s .desk) (bySet (take (s .held) bytes)) (take (s .lent) table))) y;
+          ∙ ap (λ (l : List ℕ). heldAfter s (replaceOf (s .desk) (bySet (take (s .held) bytes)) (length (take (s .lent) table)) .desk) bytes table l
+          (s .lent - 0)) left
+          ∙ ap (heldAfter s (replaceOf (s .desk) (bySet (take (s .held) bytes)) (length (take (s .lent) table)) .desk) bytes table
+          (replacedRun (s .desk) (bySet (take (s .held) bytes)) (take (s .lent) table))) y;
       puts = said (ap (λ (x : Replacing). replaceLine (x .answer)) is) p;
     }
 
 pub did-build : (s : State) (layout : Layout) (bytes table run : List ℕ) (x : Built) {b a : Buffer}
-    → x ≡ builtBy layout (take (s .held - 0) bytes) (length (take (s .lent - 0) table)) → run ≡ tableBy layout (take (s .held - 0) bytes) (take (s .lent - 0) table)
+    → x ≡ builtBy layout (take (s .held - 0) bytes) (length (take (s .lent - 0) table))
+    → run ≡ tableBy layout (take (s .held - 0) bytes) (take (s .lent - 0) table)
     → Puts b (builtLine x) a → Did (buildOn (heldBy s bytes table) layout) b (heldAfter s (s .desk) bytes table run (s .lent - 0)) a
 did-build s layout bytes table run x e f p =
     let z = off (s .held) in
@@ -106,11 +112,13 @@ split-said table place piece list before after count r e f g p =
     let left : after ≡ listBy before (readOf 1 8 table place count piece (length list)) = rw k at g in
     said
     (ap (λ (x : SplitAnswer). splitText x after) is
-    ∙ ap (splitText (splitBy place (readOf 1 8 table place count piece (length list)))) (left ∙ ap (λ (l : List ℕ). listBy l (readOf 1 8 table place count piece (length list))) e))
+    ∙ ap (splitText (splitBy place (readOf 1 8 table place count piece (length list))))
+    (left ∙ ap (λ (l : List ℕ). listBy l (readOf 1 8 table place count piece (length list))) e))
     p
 
 pub whole-said : (table piece list before after : List ℕ) (place count : ℕ) (r : WholeAnswer) {b a : Buffer} → before ≡ sevens (length list)
-    → r ≡ wholeBy place (readOf 8 1 table (place ∷ []) count piece (length before)) → after ≡ listBy before (readOf 8 1 table (place ∷ []) count piece (length before))
+    → r ≡ wholeBy place (readOf 8 1 table (place ∷ []) count piece (length before))
+    → after ≡ listBy before (readOf 8 1 table (place ∷ []) count piece (length before))
     → Puts b (wholeText r after) a → Puts b (readText table Whole count (length list) (place ∷ []) piece) a
 whole-said table piece list before after place count r e f g p =
     let k : length before ≡ length list = ap length e ∙ length-replicate (length list) 7 in
@@ -118,7 +126,8 @@ whole-said table piece list before after place count r e f g p =
     let left : after ≡ listBy before (readOf 8 1 table (place ∷ []) count piece (length list)) = rw k at g in
     said
     (ap (λ (x : WholeAnswer). wholeText x after) is
-    ∙ ap (wholeText (wholeBy place (readOf 8 1 table (place ∷ []) count piece (length list)))) (left ∙ ap (λ (l : List ℕ). listBy l (readOf 8 1 table (place ∷ []) count piece (length list))) e))
+    ∙ ap (wholeText (wholeBy place (readOf 8 1 table (place ∷ []) count piece (length list))))
+    (left ∙ ap (λ (l : List ℕ). listBy l (readOf 8 1 table (place ∷ []) count piece (length list))) e))
     p
 
 -- what a call keeps to, as its row has it

@@ -1,6 +1,6 @@
 // The set, the table buffer, and lines that are no calls.
 use crate::State;
-ghost use mathlib.Core.List.{List, [], _∷_};
+ghost use mathlib.Core.List.{List, []};
 ghost use Prim.Native.Nat.{ℕ, _≤_, _<_};
 ghost use lib.ListN.{length};
 ghost use Rattle.writing.specs.Buffer.{buffer};
@@ -9,7 +9,8 @@ ghost use Rattle.calling.specs.Calls.{answered, heldBy, Within, Did, set
 
 pub fn not_a_call(s: State, n: u64, out: &mut [u8; 65536]) -> State
     requires { ⌜ Within s ⌝ }
-    ensures { λ r. ⌜ ((bytes table : List ℕ) → Did (answered (heldBy s bytes table) (notACallLine n)) (buffer (now (out .entry)) (s .used)) (heldBy r bytes table) (buffer (now (out .exit)) (r .used))) ⌝ }
+    ensures { λ r. ⌜ ((bytes table : List ℕ) → Did (answered (heldBy s bytes table) (notACallLine n)) (buffer (now (out .entry)) (s .used))
+        (heldBy r bytes table) (buffer (now (out .exit)) (r .used))) ⌝ }
     ensures { λ r. ⌜ Within r ⌝ }
 {
     let desk = s.desk;
@@ -24,7 +25,8 @@ pub fn not_a_call(s: State, n: u64, out: &mut [u8; 65536]) -> State
 
 pub fn set_to(s: State, bytes: &[u8], set: &mut [u8], out: &mut [u8; 65536]) -> State
     requires { ⌜ (Within s) × (length (now bytes) ≤ 4096) × (4096 ≤ length (now set)) ⌝ }
-    ensures { λ r. ⌜ ((table : List ℕ) → Did (setOn (heldBy s [] table) (now (bytes .entry))) (buffer (now (out .entry)) (s .used)) (heldBy r (now (set .exit)) table) (buffer (now (out .exit)) (r .used))) ⌝ }
+    ensures { λ r. ⌜ ((table : List ℕ) → Did (setOn (heldBy s [] table) (now (bytes .entry))) (buffer (now (out .entry)) (s .used))
+        (heldBy r (now (set .exit)) table) (buffer (now (out .exit)) (r .used))) ⌝ }
     ensures { λ r. ⌜ Within r ⌝ }
 {
     let desk = s.desk;
@@ -40,7 +42,8 @@ pub fn set_to(s: State, bytes: &[u8], set: &mut [u8], out: &mut [u8; 65536]) -> 
 
 pub fn lend(s: State, lent: usize, out: &mut [u8; 65536]) -> State
     requires { ⌜ (Within s) × (lent ≤ 131841) ⌝ }
-    ensures { λ r. ⌜ ((bytes table : List ℕ) → Did (lendOn (heldBy s bytes table) lent) (buffer (now (out .entry)) (s .used)) (heldBy r bytes table) (buffer (now (out .exit)) (r .used))) ⌝ }
+    ensures { λ r. ⌜ ((bytes table : List ℕ) → Did (lendOn (heldBy s bytes table) lent) (buffer (now (out .entry)) (s .used)) (heldBy r bytes table)
+        (buffer (now (out .exit)) (r .used))) ⌝ }
     ensures { λ r. ⌜ Within r ⌝ }
 {
     let desk = s.desk;
@@ -55,7 +58,8 @@ pub fn lend(s: State, lent: usize, out: &mut [u8; 65536]) -> State
 
 pub fn poke(s: State, at: usize, value: u16, table: &mut [u16], out: &mut [u8; 65536]) -> State
     requires { ⌜ (Within s) × (at < length (now table)) ⌝ }
-    ensures { λ r. ⌜ ((bytes : List ℕ) → Did (pokeOn (heldBy s bytes (now (table .entry))) at value) (buffer (now (out .entry)) (s .used)) (heldBy r bytes (now (table .exit))) (buffer (now (out .exit)) (r .used))) ⌝ }
+    ensures { λ r. ⌜ ((bytes : List ℕ) → Did (pokeOn (heldBy s bytes (now (table .entry))) at value) (buffer (now (out .entry)) (s .used))
+        (heldBy r bytes (now (table .exit))) (buffer (now (out .exit)) (r .used))) ⌝ }
     ensures { λ r. ⌜ Within r ⌝ }
 {
     let desk = s.desk;
@@ -71,7 +75,8 @@ pub fn poke(s: State, at: usize, value: u16, table: &mut [u16], out: &mut [u8; 6
 
 pub fn peek(s: State, numbers: &[u16], out: &mut [u8; 65536]) -> State
     requires { ⌜ Within s ⌝ }
-    ensures { λ r. ⌜ ((bytes table : List ℕ) → Did (answered (heldBy s bytes table) (numbersLine (now (numbers .entry)))) (buffer (now (out .entry)) (s .used)) (heldBy r bytes table) (buffer (now (out .exit)) (r .used))) ⌝ }
+    ensures { λ r. ⌜ ((bytes table : List ℕ) → Did (answered (heldBy s bytes table) (numbersLine (now (numbers .entry))))
+        (buffer (now (out .entry)) (s .used)) (heldBy r bytes table) (buffer (now (out .exit)) (r .used))) ⌝ }
     ensures { λ r. ⌜ Within r ⌝ }
 {
     let desk = s.desk;

@@ -10,7 +10,8 @@ ghost use Rattle.calling.specs.Calls.{answered, heldBy, Within, Did, rep
 
 pub fn replace(s: State, set: &[u8], table: &mut [u16], out: &mut [u8; 65536]) -> State
     requires { ⌜ (Within s) × (4096 ≤ length (now set)) × (131841 ≤ length (now table)) ⌝ }
-    ensures { λ r. ⌜ Did (replaceOn (heldBy s (now (set .entry)) (now (table .entry)))) (buffer (now (out .entry)) (s .used)) (heldBy r (now (set .entry)) (now (table .exit))) (buffer (now (out .exit)) (r .used)) ⌝ }
+    ensures { λ r. ⌜ Did (replaceOn (heldBy s (now (set .entry)) (now (table .entry)))) (buffer (now (out .entry)) (s .used))
+        (heldBy r (now (set .entry)) (now (table .exit))) (buffer (now (out .exit)) (r .used)) ⌝ }
     ensures { λ r. ⌜ Within r ⌝ }
 {
     let before = s.desk;
@@ -30,7 +31,8 @@ pub fn replace(s: State, set: &[u8], table: &mut [u16], out: &mut [u8; 65536]) -
 
 pub fn open(s: State, out: &mut [u8; 65536]) -> State
     requires { ⌜ Within s ⌝ }
-    ensures { λ r. ⌜ ((bytes table : List ℕ) → Did (openOn (heldBy s bytes table)) (buffer (now (out .entry)) (s .used)) (heldBy r bytes table) (buffer (now (out .exit)) (r .used))) ⌝ }
+    ensures { λ r. ⌜ ((bytes table : List ℕ) → Did (openOn (heldBy s bytes table)) (buffer (now (out .entry)) (s .used)) (heldBy r bytes table)
+        (buffer (now (out .exit)) (r .used))) ⌝ }
     ensures { λ r. ⌜ Within r ⌝ }
 {
     let before = s.desk;
@@ -48,7 +50,8 @@ pub fn open(s: State, out: &mut [u8; 65536]) -> State
 
 pub fn feed(s: State, serial: u32, piece: &[u8], table: &[u16], out: &mut [u8; 65536]) -> State
     requires { ⌜ (Within s) × (131841 ≤ length (now table)) ⌝ }
-    ensures { λ r. ⌜ ((bytes : List ℕ) → Did (feedOn (heldBy s bytes (now (table .entry))) serial (now (piece .entry))) (buffer (now (out .entry)) (s .used)) (heldBy r bytes (now (table .entry))) (buffer (now (out .exit)) (r .used))) ⌝ }
+    ensures { λ r. ⌜ ((bytes : List ℕ) → Did (feedOn (heldBy s bytes (now (table .entry))) serial (now (piece .entry)))
+        (buffer (now (out .entry)) (s .used)) (heldBy r bytes (now (table .entry))) (buffer (now (out .exit)) (r .used))) ⌝ }
     ensures { λ r. ⌜ Within r ⌝ }
 {
     let before = s.desk;
@@ -67,7 +70,8 @@ pub fn feed(s: State, serial: u32, piece: &[u8], table: &[u16], out: &mut [u8; 6
 
 pub fn close(s: State, serial: u32, out: &mut [u8; 65536]) -> State
     requires { ⌜ Within s ⌝ }
-    ensures { λ r. ⌜ ((bytes table : List ℕ) → Did (closeOn (heldBy s bytes table) serial) (buffer (now (out .entry)) (s .used)) (heldBy r bytes table) (buffer (now (out .exit)) (r .used))) ⌝ }
+    ensures { λ r. ⌜ ((bytes table : List ℕ) → Did (closeOn (heldBy s bytes table) serial) (buffer (now (out .entry)) (s .used))
+        (heldBy r bytes table) (buffer (now (out .exit)) (r .used))) ⌝ }
     ensures { λ r. ⌜ Within r ⌝ }
 {
     let before = s.desk;
@@ -85,7 +89,8 @@ pub fn close(s: State, serial: u32, out: &mut [u8; 65536]) -> State
 
 pub fn tell(s: State, serial: u32, out: &mut [u8; 65536]) -> State
     requires { ⌜ Within s ⌝ }
-    ensures { λ r. ⌜ ((bytes table : List ℕ) → Did (stateOn (heldBy s bytes table) serial) (buffer (now (out .entry)) (s .used)) (heldBy r bytes table) (buffer (now (out .exit)) (r .used))) ⌝ }
+    ensures { λ r. ⌜ ((bytes table : List ℕ) → Did (stateOn (heldBy s bytes table) serial) (buffer (now (out .entry)) (s .used))
+        (heldBy r bytes table) (buffer (now (out .exit)) (r .used))) ⌝ }
     ensures { λ r. ⌜ Within r ⌝ }
 {
     let desk = s.desk;
@@ -101,7 +106,8 @@ pub fn tell(s: State, serial: u32, out: &mut [u8; 65536]) -> State
 
 pub fn take(s: State, out: &mut [u8; 65536]) -> State
     requires { ⌜ Within s ⌝ }
-    ensures { λ r. ⌜ ((bytes table : List ℕ) → Did (takeOn (heldBy s bytes table)) (buffer (now (out .entry)) (s .used)) (heldBy r bytes table) (buffer (now (out .exit)) (r .used))) ⌝ }
+    ensures { λ r. ⌜ ((bytes table : List ℕ) → Did (takeOn (heldBy s bytes table)) (buffer (now (out .entry)) (s .used)) (heldBy r bytes table)
+        (buffer (now (out .exit)) (r .used))) ⌝ }
     ensures { λ r. ⌜ Within r ⌝ }
 {
     let before = s.desk;
@@ -119,7 +125,8 @@ pub fn take(s: State, out: &mut [u8; 65536]) -> State
 
 pub fn show(s: State, out: &mut [u8; 65536]) -> State
     requires { ⌜ Within s ⌝ }
-    ensures { λ r. ⌜ ((bytes table : List ℕ) → Did (answered (heldBy s bytes table) (showLines (s .desk))) (buffer (now (out .entry)) (s .used)) (heldBy r bytes table) (buffer (now (out .exit)) (r .used))) ⌝ }
+    ensures { λ r. ⌜ ((bytes table : List ℕ) → Did (answered (heldBy s bytes table) (showLines (s .desk))) (buffer (now (out .entry)) (s .used))
+        (heldBy r bytes table) (buffer (now (out .exit)) (r .used))) ⌝ }
     ensures { λ r. ⌜ Within r ⌝ }
 {
     let desk = s.desk;

@@ -60,8 +60,10 @@ fn make(
     list: &mut [u32],
     out: &mut [u8; 65536],
 ) -> State
-    requires { ⌜ (Within s) × (Bounded call) × (20000 ≤ length (now bytes)) × (4096 ≤ length (now set)) × (131841 ≤ length (now table)) × (2048 ≤ length (now list)) ⌝ }
-    ensures { λ r. ⌜ Did (callOn (heldBy s (now (set .entry)) (now (table .entry))) n (meant place (now (bytes .entry)) call)) (buffer (now (out .entry)) (s .used)) (heldBy r (now (set .exit)) (now (table .exit))) (buffer (now (out .exit)) (r .used)) ⌝ }
+    requires { ⌜ (Within s) × (Bounded call) × (20000 ≤ length (now bytes)) × (4096 ≤ length (now set))
+        × (131841 ≤ length (now table)) × (2048 ≤ length (now list)) ⌝ }
+    ensures { λ r. ⌜ Did (callOn (heldBy s (now (set .entry)) (now (table .entry))) n (meant place (now (bytes .entry)) call))
+        (buffer (now (out .entry)) (s .used)) (heldBy r (now (set .exit)) (now (table .exit))) (buffer (now (out .exit)) (r .used)) ⌝ }
     ensures { λ r. ⌜ Within r ⌝ }
 {
     match call {
@@ -95,7 +97,8 @@ pub fn answer_line(
     out: &mut [u8; 65536],
 ) -> State
     requires { ⌜ Within s ⌝ }
-    ensures { λ r. ⌜ Did (callOn (heldBy s (now (set .entry)) (now (table .entry))) n (callOf (now (line .entry)))) (buffer (now (out .entry)) (s .used)) (heldBy r (now (set .exit)) (now (table .exit))) (buffer (now (out .exit)) (r .used)) ⌝ }
+    ensures { λ r. ⌜ Did (callOn (heldBy s (now (set .entry)) (now (table .entry))) n (callOf (now (line .entry))))
+        (buffer (now (out .entry)) (s .used)) (heldBy r (now (set .exit)) (now (table .exit))) (buffer (now (out .exit)) (r .used)) ⌝ }
     ensures { λ r. ⌜ Within r ⌝ }
 {
     let called = script::call_of(line, bytes);

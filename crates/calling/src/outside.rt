@@ -30,7 +30,8 @@ pub fn build(
     out: &mut [u8; 65536],
 ) -> State
     requires { ⌜ (Within s) × (4096 ≤ length (now set)) × (131841 ≤ length (now table)) ⌝ }
-    ensures { λ r. ⌜ Did (buildOn (heldBy s (now (set .entry)) (now (table .entry))) layout) (buffer (now (out .entry)) (s .used)) (heldBy r (now (set .entry)) (now (table .exit))) (buffer (now (out .exit)) (r .used)) ⌝ }
+    ensures { λ r. ⌜ Did (buildOn (heldBy s (now (set .entry)) (now (table .entry))) layout) (buffer (now (out .entry)) (s .used))
+        (heldBy r (now (set .entry)) (now (table .exit))) (buffer (now (out .exit)) (r .used)) ⌝ }
     ensures { λ r. ⌜ Within r ⌝ }
 {
     let desk = s.desk;
@@ -66,7 +67,8 @@ fn read_split(
     list: &mut [u32],
     out: &mut [u8; 65536],
 ) -> usize
-    ensures { λ r. ⌜ Puts (buffer (now (out .entry)) used) (readText (now (table .entry)) Layout.Split count (length (now (list .entry))) place (now (piece .entry))) (buffer (now (out .exit)) r) ⌝ }
+    ensures { λ r. ⌜ Puts (buffer (now (out .entry)) used) (readText (now (table .entry)) Layout.Split count (length (now (list .entry))) place
+        (now (piece .entry))) (buffer (now (out .exit)) r) ⌝ }
 {
     fill(list);
     let r = reading::read_split(table, place, count, piece, list);
@@ -84,7 +86,8 @@ fn read_whole(
     list: &mut [u32],
     out: &mut [u8; 65536],
 ) -> usize
-    ensures { λ r. ⌜ Puts (buffer (now (out .entry)) used) (readText (now (table .entry)) Layout.Whole count (length (now (list .entry))) (place ∷ []) (now (piece .entry))) (buffer (now (out .exit)) r) ⌝ }
+    ensures { λ r. ⌜ Puts (buffer (now (out .entry)) used) (readText (now (table .entry)) Layout.Whole count (length (now (list .entry)))
+        (place ∷ []) (now (piece .entry))) (buffer (now (out .exit)) r) ⌝ }
 {
     fill(list);
     let r = reading::read_whole(table, place, count, piece, list);
@@ -103,7 +106,8 @@ fn read_by(
     list: &mut [u32],
     out: &mut [u8; 65536],
 ) -> usize
-    ensures { λ r. ⌜ Puts (buffer (now (out .entry)) used) (readText (now (table .entry)) layout count (length (now (list .entry))) (take·of (machinesOf layout) place) (now (piece .entry))) (buffer (now (out .exit)) r) ⌝ }
+    ensures { λ r. ⌜ Puts (buffer (now (out .entry)) used) (readText (now (table .entry)) layout count (length (now (list .entry)))
+        (take·of (machinesOf layout) place) (now (piece .entry))) (buffer (now (out .exit)) r) ⌝ }
 {
     match layout {
         Layout::Split => read_split(used, count, place, table, piece, list, out),
@@ -122,7 +126,10 @@ pub fn read(
     out: &mut [u8; 65536],
 ) -> State
     requires { ⌜ (Within s) × (131841 ≤ length (now table)) × (reading .room ≤ length (now list)) × (reading .piece ≤ length (now bytes)) ⌝ }
-    ensures { λ r. ⌜ ((set : List ℕ) → Did (answered (heldBy s set (now (table .entry))) (readText (take·of (s .lent) (now (table .entry))) (reading .layout) (reading .count) (reading .room) (take·of (machinesOf (reading .layout)) place) (take·of (reading .piece) (now (bytes .entry))))) (buffer (now (out .entry)) (s .used)) (heldBy r set (now (table .entry))) (buffer (now (out .exit)) (r .used))) ⌝ }
+    ensures { λ r. ⌜ ((set : List ℕ) → Did (answered (heldBy s set (now (table .entry)))
+        (readText (take·of (s .lent) (now (table .entry))) (reading .layout) (reading .count) (reading .room)
+        (take·of (machinesOf (reading .layout)) place) (take·of (reading .piece) (now (bytes .entry))))) (buffer (now (out .entry)) (s .used))
+        (heldBy r set (now (table .entry))) (buffer (now (out .exit)) (r .used))) ⌝ }
     ensures { λ r. ⌜ Within r ⌝ }
 {
     let desk = s.desk;

@@ -1,8 +1,8 @@
 -- BYTES: `-`, or x and an even number of hexadecimal digits in lower case, or a quotation.
-use Prim.Native.Nat.{ℕ, suc, _+_, _*_, _%_}
+use Prim.Native.Nat.{ℕ, _+_, _*_, _%_}
 use mathlib.Core.Bool.{Bool, true, false, _&&_, cond}
-use mathlib.Core.List.{List, [], _∷_, _++_}
-use lib.Dec.{eqb, leb}
+use mathlib.Core.List.{List, [], _∷_}
+use lib.Dec.{eqb}
 use lib.ListN.{length, take}
 use Rattle.script.specs.Words.{reach}
 use Rattle.script.specs.Numbers.{digitOf, allDigits}

@@ -29,7 +29,8 @@ ghost use Rattle.script.specs.Words.{behind as behind·of};
 ghost use Rattle.script.specs.Numbers.{numberOf, numbersOf};
 ghost use Rattle.script.specs.Bytes.{bytesOf};
 ghost use Rattle.script.specs.Sets.{setOf};
-ghost use Rattle.script.specs.Calls.{Bounded, Plain, Filled, Alone, Called, callOf, meant, setBy, lendBy, feedBy, closeBy, stateBy, buildBy, pokeBy, peekBy, layoutOf};
+ghost use Rattle.script.specs.Calls.{Bounded, Plain, Filled, Alone, Called, callOf, meant, setBy, lendBy, feedBy, closeBy, stateBy, buildBy};
+ghost use Rattle.script.specs.Calls.{pokeBy, peekBy, layoutOf};
 
 pub enum Layout {
     Split,

@@ -33,7 +33,8 @@ pub struct Part {
 // Keeps what stands before the piece's first line end, behind the first n bytes of the line.
 pub fn line_part(line: &mut [u8], n: usize, piece: &[u8]) -> Part
     requires { ⌜ n ≤ length (now line) ⌝ }
-    ensures { λ r. ⌜ take (r .kept) (now (line .exit)) ≡ take (length (now (line .entry))) (take n (now (line .entry)) ++ take (reach·of 10 (now (piece .entry))) (now (piece .entry))) ⌝ }
+    ensures { λ r. ⌜ take (r .kept) (now (line .exit)) ≡ take (length (now (line .entry)))
+        (take n (now (line .entry)) ++ take (reach·of 10 (now (piece .entry))) (now (piece .entry))) ⌝ }
     ensures { λ r. ⌜ r .ended ≡ ltb (reach·of 10 (now (piece .entry))) (length (now (piece .entry))) ⌝ }
     ensures { λ r. ⌜ (r .kept ≤ length (now (line .entry))) × (r .passed ≤ length (now (piece .entry))) ⌝ }
 {

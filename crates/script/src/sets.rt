@@ -5,10 +5,10 @@ use crate::bytes::put;
 use crate::words::reach;
 ghost use mathlib.Core.Path.{_≡_};
 ghost use Prim.Native.Nat.{_+_, _≤_};
-ghost use lib.ListN.{length, take};
+ghost use lib.ListN.{length, take, drop};
 ghost use mathlib.Core.List.{_++_};
 ghost use Rattle.script.specs.Bytes.{bytesIn, countOf, these};
-ghost use Rattle.script.specs.Sets.{quotedAt, entryOf, entriesOf, within, setOf};
+ghost use Rattle.script.specs.Sets.{quotedAt, entryOf, payloadAt, entriesOf, within, setOf};
 
 const MOST: usize = 4096;
 
@@ -61,6 +61,23 @@ fn put_entry(buffer: &mut [u8], n: usize, payload: &[u8]) -> Bytes
     Bytes::Are(n + 4 + k)
 }
 
+// The entry of a quotation of k bytes at the front of some words.
+fn put_quoted(buffer: &mut [u8], n: usize, words: &[u8], k: usize) -> Bytes
+    requires { ⌜ (n ≤ 4096) × (4096 ≤ length (now buffer)) × (k + 2 ≤ length (now words)) ⌝ }
+    ensures { λ r. ⌜ bytesIn (now (buffer .exit)) r ≡ within 4096 (these (take n (now (buffer .entry)) ++ entryOf (payloadAt k (now (words .entry))))) ⌝ }
+    ensures { λ r. ⌜ countOf r ≤ 4096 ⌝ }
+{
+    put_entry(buffer, n, &words[1..k + 1])
+}
+
+// The words behind such a quotation and its blank.
+fn behind_quoted(words: &[u8], k: usize) -> &[u8]
+    requires { ⌜ k + 3 ≤ length (now words) ⌝ }
+    ensures { λ r. ⌜ now r ≡ drop (k + 3) (now (words .entry)) ⌝ }
+{
+    &words[k + 3..]
+}
+
 fn entries(words: &[u8], buffer: &mut [u8]) -> Bytes
     requires { ⌜ 4096 ≤ length (now buffer) ⌝ }
     ensures { λ r. ⌜ bytesIn (now (buffer .exit)) r ≡ within 4096 (entriesOf (length (now (words .entry))) (now (words .entry))) ⌝ }
@@ -74,13 +91,13 @@ fn entries(words: &[u8], buffer: &mut [u8]) -> Bytes
         let quoted = quoted_at(rest);
         match quoted {
             Quoted::NotQuoted => return Bytes::NoBytes,
-            Quoted::Last(k) => return put_entry(buffer, n, &rest[1..k + 1]),
+            Quoted::Last(k) => return put_quoted(buffer, n, rest, k),
             Quoted::Followed(k) => {
-                let Bytes::Are(m) = put_entry(buffer, n, &rest[1..k + 1]) else {
+                let Bytes::Are(m) = put_quoted(buffer, n, rest, k) else {
                     return Bytes::NoBytes;
                 };
                 n = m;
-                let next = &rest[k + 3..];
+                let next = behind_quoted(rest, k);
                 rest = next;
             }
         }

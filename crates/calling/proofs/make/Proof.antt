@@ -90,14 +90,29 @@ make-spec =
     (λ c. (rw (c .before .before .enum-told2 .given .1) (c .not-a-call .ensures .0 _ _), c .not-a-call .ensures .1))
     (λ c. search needs) returns-3
     (λ c. (rw (c .before .before .before .call2 .given .1) (c .lend .ensures .0 _ _), c .lend .ensures .1))
-    (λ c. search needs) (λ c. search needs) (λ c. (rw (c .before .before .before .before .before .before .enum-told3 .given .1) (c .before .before .replace .ensures .0), c .before .before .replace .ensures .1))
+    (λ c. search needs) (λ c. search needs) (λ c. (
+      rw (c .before .before .before .before .before .before .enum-told3 .given .1)
+          (c .before .before .replace .ensures .0),
+      c .before .before .replace .ensures .1,
+    ))
     (λ c. (rw (c .before .before .enum-told4 .given .1) (c .«open» .ensures .0 _ _), c .«open» .ensures .1))
     (λ c. search needs) returns-7
     (λ c. (rw (c .before .before .before .call4 .given .1) (c .close .ensures .0 _ _), c .close .ensures .1))
     (λ c. (rw (c .before .before .before .call5 .given .1) (c .tell .ensures .0 _ _), c .tell .ensures .1))
     (λ c. (rw (c .before .before .enum-told5 .given .1) (c .take .ensures .0 _ _), c .take .ensures .1))
     (λ c. (rw (c .before .before .enum-told6 .given .1) (c .show .ensures .0 _ _), c .show .ensures .1))
-    (λ c. search needs) (λ c. search needs) (λ c. (rw (c .before .before .before .before .before .before .before .call6 .given .1) (c .before .before .build .ensures .0), c .before .before .build .ensures .1))
-    (λ c. search needs) (λ c. search needs) (λ c. (rw (c .before .before .before .before .before .before .before .call7 .given .1) (c .before .before .read .ensures .0 _), c .before .before .read .ensures .1))
-    (λ c. search needs) (λ c. (rw (c .before .before .before .before .before .before .call8 .given .1) (c .before .before .poke .ensures .0 _), c .before .before .poke .ensures .1))
+    (λ c. search needs) (λ c. search needs) (λ c. (
+      rw (c .before .before .before .before .before .before .before .call6 .given .1)
+          (c .before .before .build .ensures .0),
+      c .before .before .build .ensures .1,
+    ))
+    (λ c. search needs) (λ c. search needs) (λ c. (
+      rw (c .before .before .before .before .before .before .before .call7 .given .1)
+          (c .before .before .read .ensures .0 _),
+      c .before .before .read .ensures .1,
+    ))
+    (λ c. search needs) (λ c. (
+      rw (c .before .before .before .before .before .before .call8 .given .1) (c .before .before .poke .ensures .0 _),
+      c .before .before .poke .ensures .1,
+    ))
     (λ c. search needs) returns-15)

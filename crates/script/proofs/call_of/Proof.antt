@@ -4,7 +4,7 @@ use Rattle.script.proofs.call_of.Tie as tie
 use borrow.Author.Needs.{needs}
 use native.Mathlib.Omega.{arith}
 use lib.ListN.{length}
-use mathlib.Core.Path.{sym, ap, _∙_}
+use mathlib.Core.Path.{ap, _∙_}
 use Rattle.script.specs.Laws.Words.{length-behind}
 use Rattle.script.specs.Laws.Calls.{says-none, says-over, call-long, call-empty, call-comment, call-named}
 
@@ -13,7 +13,8 @@ plain-requires c κs = search needs
 
 returns : tie.Need-returns
 returns c =
-    let r = says-none {bytes = c .before .before .before .args .buffer .now} (c .plain .ensures) (call-long (c .before .before .before .args .line .now) (c .before .if1 .taken)) in
+    let r = says-none {bytes = c .before .before .before .args .buffer .now} (c .plain .ensures)
+    (call-long (c .before .before .before .args .line .now) (c .before .if1 .taken)) in
     (r .means, r .bounded)
 
 plain-requires-2 : tie.Need-plain-requires-2

@@ -12,18 +12,6 @@ use Rattle.script.specs.Laws.Words.{length-behind}
 use Rattle.script.specs.Laws.Numbers.{number-said}
 use Rattle.script.specs.Laws.Bytes.{bytes-said}
 
-word-requires : tie.Need-word-requires
-word-requires c κs = search needs
-
-number-of-requires : tie.Need-number-of-requires
-number-of-requires c κs = search needs
-
-enum-known-serial : tie.Need-enum-known-serial
-enum-known-serial c = search needs
-
-enum-told : tie.Need-enum-told
-enum-told c = search needs
-
 returns : tie.Need-returns
 returns c =
     let c2 = c .before .before in
@@ -37,24 +25,12 @@ returns c =
       bounded = tt;
     }
 
-behind-requires : tie.Need-behind-requires
-behind-requires c κs = search needs
-
 bytes-of-requires : tie.Need-bytes-of-requires
 bytes-of-requires c κs =
     let c9 = c .before .before .before .before .before .before .before .before .before in
     let args = c9 .args in
     let asked = c9 .pre in
     omega (arith, ap length (c .before .behind .ensures), length-behind (args .words .now), asked)
-
-enum-known-n : tie.Need-enum-known-n
-enum-known-n c = search needs
-
-enum-told-2 : tie.Need-enum-told-2
-enum-told-2 c = search needs
-
-same-length : tie.Need-same-length
-same-length c = search needs
 
 returns-2 : tie.Need-returns-2
 returns-2 c =
@@ -78,9 +54,6 @@ returns-2 c =
       );
       bounded = tt;
     }
-
-same-length-2 : tie.Need-same-length-2
-same-length-2 c = search needs
 
 returns-3 : tie.Need-returns-3
 returns-3 c =
@@ -119,16 +92,5 @@ pub feed-spec : {M : Type 1} → statement M
 feed-spec =
     tie.close
     (tie.spec
-    word-requires
-    number-of-requires
-    enum-known-serial
-    enum-told
-    returns
-    behind-requires
-    bytes-of-requires
-    enum-known-n
-    enum-told-2
-    same-length
-    returns-2
-    same-length-2
-    returns-3)
+    (λ c κs. search needs) (λ c κs. search needs) (λ c. search needs) (λ c. search needs) returns (λ c κs. search needs)
+    bytes-of-requires (λ c. search needs) (λ c. search needs) (λ c. search needs) returns-2 (λ c. search needs) returns-3)

@@ -1,18 +1,17 @@
 -- Laws of bytes that are put into a buffer.
-use Prim.Native.Nat.{ℕ, zero, suc, _+_, _*_, _-_, _≤_, _<_, _%_}
+use Prim.Native.Nat.{ℕ, suc, _+_, _*_, _-_, _≤_, _<_, _%_}
 use native.Mathlib.Omega.{arith}
 use native.Mathlib.Numerals.{add-one}
 use mathlib.Core.Path.{_≡_, refl, sym, ap, _∙_}
-use mathlib.Core.Bool.{Bool, true, false, _&&_, cond, and-false}
-use mathlib.Core.List.{List, [], _∷_, _++_, append-assoc, append-nil}
-use lib.Dec.{eqb}
+use mathlib.Core.Bool.{true, false, and-false}
+use mathlib.Core.List.{List, [], _∷_, _++_, append-assoc}
 use lib.ListN.{length, getD, take, drop, set, drop-of-length-le}
 use lib.Seq.{drop-cons, length-take-le, take-suc-set, take-at, take-length, paste}
 use borrow.Author.Tests.{eq-eqb, ne-eqb}
 use Rattle.script.specs.Numbers.{digitOf, allDigits}
 use Rattle.script.specs.Words.{reach}
 use Rattle.script.specs.declared.bytes.Bytes.{Bytes}
-use Rattle.script.specs.Bytes.{BytesOf, bytesIn, these, noBytes, bytesBy, pairs, hexOf, quotedOf, bytesOf}
+use Rattle.script.specs.Bytes.{bytesIn, these, noBytes, pairs, hexOf, quotedOf, bytesOf}
 
 -- the byte of the digits at 2 * n and behind it
 abbrev pub pairAt : List ℕ → ℕ → ℕ

@@ -1,19 +1,21 @@
 -- Laws of calls and of the places of a read.
-use Prim.Native.Nat.{ℕ, zero, suc, _+_, _-_, _≤_, _<_}
+use Prim.Native.Nat.{ℕ, suc, _+_, _-_, _≤_, _<_}
 use native.Mathlib.Omega.{arith}
 use native.Mathlib.Numerals.{add-one}
 use mathlib.Core.Path.{_≡_, refl, sym, ap, subst, _∙_}
-use mathlib.Core.Bool.{Bool, true, false, cond, _||_, or-true}
+use mathlib.Core.Bool.{Bool, true, false, cond, or-true}
 use mathlib.Core.List.{List, [], _∷_, _++_, append-assoc, append-nil}
-use lib.Dec.{eqb, leb, ltb}
+use lib.Dec.{eqb}
 use lib.ListN.{length, take, set, getD}
 use lib.Seq.{take-suc-set}
 use borrow.Author.Tests.{eq-eqb, ne-eqb, le-leb, lt-leb, lt-ltb, le-ltb}
 use Rattle.matching.specs.Words.{same}
 use Rattle.script.specs.Words.{reach, wordOf, behind, skipped}
-use Rattle.script.specs.Bytes.{BytesOf, these, noBytes, bytesOf}
+use Rattle.script.specs.Bytes.{these, noBytes, bytesOf}
 use Rattle.script.specs.Numbers.{numberOf}
-use Rattle.script.specs.Calls.{CallOf, passedOver, notACall, callPeek, peekBy, NumbersOf, numbersAre, noNumbers, placeBy, placeOf, machinesOf, placeIn, readBy, readFrom, readOver, callRead, layoutOf, meant, Bounded, Plain, Filled, Says, alone, Alone, Called, nameOf, Row, callBy, callOf}
+use Rattle.script.specs.Calls.{CallOf, passedOver, notACall, callPeek, peekBy, NumbersOf, numbersAre, noNumbers, placeBy, placeOf, machinesOf}
+use Rattle.script.specs.Calls.{placeIn, readBy, readFrom, readOver, callRead, layoutOf, meant, Bounded, Plain, Filled, Says, alone, Alone}
+use Rattle.script.specs.Calls.{Called, nameOf, Row, callBy, callOf}
 use Rattle.script.specs.declared.Call.{Call}
 use Rattle.script.specs.declared.Call.the-variants.{NotACall, PassedOver}
 use Rattle.script.specs.declared.Layout.{Layout}
@@ -63,7 +65,8 @@ pub place-more : (k i n : ℕ) (w rest next ns : List ℕ) → i < k → i < len
     → placeOf k w ≡ before (take i ns) (placeOf (k - i) rest) → placeOf k w ≡ before (take (i + 1) (set ns i n)) (placeOf (k - (i + 1)) next)
 place-more k i n w rest next ns h g e f p =
     p
-    ∙ ap (before (take i ns)) (place-step k i rest h ∙ ap (λ (x : Number). placeBy x (placeOf (k - (i + 1)) (behind rest))) e ∙ place-first n (placeOf (k - (i + 1)) (behind rest)))
+    ∙ ap (before (take i ns)) (place-step k i rest h ∙ ap (λ (x : Number). placeBy x (placeOf (k - (i + 1)) (behind rest))) e
+    ∙ place-first n (placeOf (k - (i + 1)) (behind rest)))
     ∙ before-before (take i ns) (n ∷ []) (placeOf (k - (i + 1)) (behind rest))
     ∙ ap (λ (l : List ℕ). before l (placeOf (k - (i + 1)) (behind rest))) (sym taken)
     ∙ ap (λ (l : List ℕ). before (take (i + 1) (set ns i n)) (placeOf (k - (i + 1)) l)) (sym f)
@@ -71,7 +74,8 @@ place-more k i n w rest next ns h g e f p =
     taken : take (i + 1) (set ns i n) ≡ take i ns ++ (n ∷ [])
     taken = rw (add-one i) (take-suc-set ns i n g)
 
-pub place-fails : (k i : ℕ) (w rest ns : List ℕ) → i < k → numberOf 65535 (wordOf rest) ≡ NoNumber → placeOf k w ≡ before (take i ns) (placeOf (k - i) rest) → placeOf k w ≡ noNumbers
+pub place-fails : (k i : ℕ) (w rest ns : List ℕ) → i < k → numberOf 65535 (wordOf rest) ≡ NoNumber
+    → placeOf k w ≡ before (take i ns) (placeOf (k - i) rest) → placeOf k w ≡ noNumbers
 place-fails k i w rest ns h e p =
     p ∙ ap (before (take i ns)) (place-step k i rest h ∙ ap (λ (x : Number). placeBy x (placeOf (k - (i + 1)) (behind rest))) e)
 
@@ -113,7 +117,8 @@ plain-alone {whole = true} e p =
 plain-alone {whole = false} e p = record { means = λ place bytes. ap (meant place bytes) (e .is); bounded = subst Bounded (sym (e .is)) tt }
 
 -- a row of calls: the name is the row's, and the line says what that row means
-pub called : {name k : Name} {whole : Bool} {words bytes : List ℕ} {l : Line} → name ≡ k → Says bytes (callBy k whole words) l → Called name whole words bytes l
+pub called : {name k : Name} {whole : Bool} {words bytes : List ℕ} {l : Line} → name ≡ k → Says bytes (callBy k whole words) l
+    → Called name whole words bytes l
 called {whole = whole} {words = words} {bytes = bytes} {l = l} e s =
     record { says = subst (λ (n : Name). Says bytes (callBy n whole words) l) (sym e) s }
 
@@ -137,7 +142,8 @@ call-named l w b n r h e f ew en er eb = rw (en, ew, er, eb, le-ltb _ _ h, ne-eq
 
 -- ---- a read
 
-pub read-no-place : (layout : Layout) (count room k : ℕ) (w : List ℕ) (p : Place) → k ≡ machinesOf layout → placeIn k p ≡ placeOf k w → p .found ≡ false → readFrom layout count room w ≡ notACall
+pub read-no-place : (layout : Layout) (count room k : ℕ) (w : List ℕ) (p : Place) → k ≡ machinesOf layout → placeIn k p ≡ placeOf k w
+    → p .found ≡ false → readFrom layout count room w ≡ notACall
 unfolding readFrom
 read-no-place layout count room k w p e f g =
     ap (λ (x : NumbersOf). readBy layout count room x (bytesOf (skipped (machinesOf layout) w)))
@@ -147,29 +153,34 @@ read-none : (layout : Layout) (count room : ℕ) (x : NumbersOf) → readBy layo
 read-none layout count room (numbersAre place) = refl
 read-none layout count room noNumbers = refl
 
-pub read-no-bytes : (layout : Layout) (count room k : ℕ) (w : List ℕ) → k ≡ machinesOf layout → bytesOf (skipped k w) ≡ noBytes → readFrom layout count room w ≡ notACall
+pub read-no-bytes : (layout : Layout) (count room k : ℕ) (w : List ℕ) → k ≡ machinesOf layout → bytesOf (skipped k w) ≡ noBytes
+    → readFrom layout count room w ≡ notACall
 unfolding readFrom
 read-no-bytes layout count room k w e f =
     ap (readBy layout count room (placeOf (machinesOf layout) w)) (ap (λ (n : ℕ). bytesOf (skipped n w)) (sym e) ∙ f)
     ∙ read-none layout count room (placeOf (machinesOf layout) w)
 
-pub read-whole : (layout : Layout) (count room k : ℕ) (w piece : List ℕ) (p : Place) → k ≡ machinesOf layout → placeIn k p ≡ placeOf k w → p .found ≡ true → bytesOf (skipped k w) ≡ these piece
+pub read-whole : (layout : Layout) (count room k : ℕ) (w piece : List ℕ) (p : Place) → k ≡ machinesOf layout → placeIn k p ≡ placeOf k w
+    → p .found ≡ true → bytesOf (skipped k w) ≡ these piece
     → readFrom layout count room w ≡ callRead layout count room (take (machinesOf layout) (p .numbers)) piece
 unfolding readFrom
 read-whole layout count room k w piece p e f g b =
     ap (λ (x : NumbersOf). readBy layout count room x (bytesOf (skipped (machinesOf layout) w)))
-    (ap (λ (n : ℕ). placeOf n w) (sym e) ∙ sym f ∙ ap (λ (t : Bool). cond t (numbersAre (take k (p .numbers))) noNumbers) g ∙ ap (λ (n : ℕ). numbersAre (take n (p .numbers))) e)
+    (ap (λ (n : ℕ). placeOf n w) (sym e) ∙ sym f ∙ ap (λ (t : Bool). cond t (numbersAre (take k (p .numbers))) noNumbers) g
+    ∙ ap (λ (n : ℕ). numbersAre (take n (p .numbers))) e)
     ∙ ap (readBy layout count room (numbersAre (take (machinesOf layout) (p .numbers)))) (ap (λ (n : ℕ). bytesOf (skipped n w)) (sym e) ∙ b)
 
 pub over-no-count : (layout : Layout) (w : List ℕ) → numberOf 4294967295 (wordOf w) ≡ NoNumber → readOver layout w ≡ notACall
 unfolding readOver
 over-no-count layout w e = rw e
 
-pub over-no-room : (layout : Layout) (w : List ℕ) (count : ℕ) → numberOf 4294967295 (wordOf w) ≡ Is count → numberOf 2048 (wordOf (behind w)) ≡ NoNumber → readOver layout w ≡ notACall
+pub over-no-room : (layout : Layout) (w : List ℕ) (count : ℕ) → numberOf 4294967295 (wordOf w) ≡ Is count
+    → numberOf 2048 (wordOf (behind w)) ≡ NoNumber → readOver layout w ≡ notACall
 unfolding readOver
 over-no-room layout w count e f = rw (e, f)
 
-pub over-both : (layout : Layout) (w : List ℕ) (count room : ℕ) → numberOf 4294967295 (wordOf w) ≡ Is count → numberOf 2048 (wordOf (behind w)) ≡ Is room → readOver layout w ≡ readFrom layout count room (skipped 2 w)
+pub over-both : (layout : Layout) (w : List ℕ) (count room : ℕ) → numberOf 4294967295 (wordOf w) ≡ Is count
+    → numberOf 2048 (wordOf (behind w)) ≡ Is room → readOver layout w ≡ readFrom layout count room (skipped 2 w)
 unfolding readOver
 over-both layout w count room e f = rw (e, f)
 

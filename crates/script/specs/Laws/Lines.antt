@@ -11,7 +11,8 @@ use Rattle.script.specs.Words.{reach}
 use lib.Seq.{length-take-le, paste, take-all, take-append-add, take-length, take-paste}
 
 -- more bytes than there is room for: what is kept fills the line
-pub kept-part : (l d m : List ℕ) (n : ℕ) → n ≤ length l → length l - n < length m → d ≡ paste l n (take (length l - n - 0) m) (length (take (length l - n - 0) m))
+pub kept-part : (l d m : List ℕ) (n : ℕ) → n ≤ length l → length l - n < length m
+    → d ≡ paste l n (take (length l - n - 0) m) (length (take (length l - n - 0) m))
     → take (n + (length l - n)) d ≡ take (length l) (take n l ++ m)
 kept-part l d m n h g e = filled (length l - n) refl
   where
@@ -30,7 +31,8 @@ kept-part l d m n h g e = filled (length l - n) refl
         ∙ ap (λ (k : ℕ). take k (take n l ++ m)) whole
 
 -- all of them, where there is room
-pub kept-all : (l d m : List ℕ) (n : ℕ) → n ≤ length l → length m ≤ length l - n → d ≡ paste l n m (length m) → take (n + length m) d ≡ take (length l) (take n l ++ m)
+pub kept-all : (l d m : List ℕ) (n : ℕ) → n ≤ length l → length m ≤ length l - n → d ≡ paste l n m (length m)
+    → take (n + length m) d ≡ take (length l) (take n l ++ m)
 kept-all l d m n h g e =
     ap (take (n + length m)) e
     ∙ take-paste l n m (length m) h (omega arith)
@@ -42,7 +44,8 @@ kept-all l d m n h g e =
 
 -- what a piece adds to a line
 
-pub part-kept : (line piece : List ℕ) (n r : ℕ) → r ≡ reach 10 piece → take (length line) (take n line ++ take (r - 0) piece) ≡ take (length line) (take n line ++ take (reach 10 piece) piece)
+pub part-kept : (line piece : List ℕ) (n r : ℕ) → r ≡ reach 10 piece
+    → take (length line) (take n line ++ take (r - 0) piece) ≡ take (length line) (take n line ++ take (reach 10 piece) piece)
 part-kept line piece n r e = ap (λ (k : ℕ). take (length line) (take n line ++ take k piece)) (let f : r - 0 ≡ reach 10 piece = omega arith in f)
 
 pub part-ended : (piece : List ℕ) (r : ℕ) → r ≡ reach 10 piece → r < length piece → true ≡ ltb (reach 10 piece) (length piece)

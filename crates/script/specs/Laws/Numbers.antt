@@ -3,7 +3,7 @@ use Prim.Native.Nat.{ℕ, zero, suc, _+_, _*_, _-_, _≤_, _<_}
 use native.Mathlib.Omega.{arith}
 use native.Mathlib.Numerals.{add-one}
 use mathlib.Core.Path.{_≡_, refl, sym, ap, _∙_}
-use mathlib.Core.Bool.{Bool, true, false, _&&_, cond, not, and-false}
+use mathlib.Core.Bool.{Bool, true, false, _&&_, not, and-false}
 use mathlib.Core.List.{List, [], _∷_}
 use lib.Dec.{eqb, leb, ltb}
 use lib.ListN.{length, getD, drop, drop-of-length-le}
@@ -36,7 +36,8 @@ digit-letter b h g = let f : 48 ≤ b = omega arith in let e : 57 < b = omega ar
 
 pub digit-above : (b : ℕ) → 102 < b → digitOf b ≡ 16
 unfolding digitOf
-digit-above b h = let f : 48 ≤ b = omega arith in let e : 57 < b = omega arith in let g : 97 ≤ b = omega arith in rw (le-leb 48 b f, lt-leb b 57 e, le-leb 97 b g, lt-leb b 102 h)
+digit-above b h = let f : 48 ≤ b = omega arith in let e : 57 < b = omega arith in let g : 97 ≤ b = omega arith in
+    rw (le-leb 48 b f, lt-leb b 57 e, le-leb 97 b g, lt-leb b 102 h)
 
 -- ---- runs of digits
 
@@ -93,14 +94,17 @@ number-is most w h e g = rw (ne-eqb _ _ h, e, le-leb _ _ g)
 
 -- ---- a number is read digit by digit
 
-pub value-more : (w : List ℕ) (i n d : ℕ) → i < length w → d ≡ digitOf (getD w i 0) → valueFrom 0 w ≡ valueFrom n (drop i w) → valueFrom 0 w ≡ valueFrom (n * 10 + d) (drop (i + 1) w)
+pub value-more : (w : List ℕ) (i n d : ℕ) → i < length w → d ≡ digitOf (getD w i 0) → valueFrom 0 w ≡ valueFrom n (drop i w)
+    → valueFrom 0 w ≡ valueFrom (n * 10 + d) (drop (i + 1) w)
 value-more w i n d h e v = rw e (v ∙ value-step n w i h)
 
-pub value-large : (most : ℕ) (w : List ℕ) (i n d : ℕ) → i < length w → d ≡ digitOf (getD w i 0) → valueFrom 0 w ≡ valueFrom n (drop i w) → most < n * 10 + d → numberOf most w ≡ NoNumber
+pub value-large : (most : ℕ) (w : List ℕ) (i n d : ℕ) → i < length w → d ≡ digitOf (getD w i 0) → valueFrom 0 w ≡ valueFrom n (drop i w)
+    → most < n * 10 + d → numberOf most w ≡ NoNumber
 value-large most w i n d h e v g =
     number-large most w (omega (arith, value-more w i n d h e v, value-le (n * 10 + d) (drop (i + 1) w)))
 
-pub value-whole : (most : ℕ) (w : List ℕ) (i n : ℕ) → (length w ≡ 0 → ⊥) → allDigits 10 w ≡ true → length w ≤ i → n ≤ most → valueFrom 0 w ≡ valueFrom n (drop i w) → numberOf most w ≡ Is n
+pub value-whole : (most : ℕ) (w : List ℕ) (i n : ℕ) → (length w ≡ 0 → ⊥) → allDigits 10 w ≡ true → length w ≤ i → n ≤ most
+    → valueFrom 0 w ≡ valueFrom n (drop i w) → numberOf most w ≡ Is n
 value-whole most w i n h e g m v =
     let is : valueFrom 0 w ≡ n = v ∙ value-end n w i g in
     let small : valueFrom 0 w ≤ most = omega arith in
@@ -146,7 +150,8 @@ unfolding numbersOf
 second-most first last w n m e = number-most last (behind w) m (both-second (numberOf first (wordOf w)) (numberOf last (behind w)) n m e)
 
 -- from what the numbers of two words were found to be
-pub numbers-are : (first last : ℕ) (w : List ℕ) (x y : Number) → numberOf first (wordOf w) ≡ x → numberOf last (behind w) ≡ y → bothBy x y ≡ numbersOf first last w
+pub numbers-are : (first last : ℕ) (w : List ℕ) (x y : Number) → numberOf first (wordOf w) ≡ x → numberOf last (behind w) ≡ y
+    → bothBy x y ≡ numbersOf first last w
 unfolding numbersOf
 numbers-are first last w x y e f = rw (e, f)
 

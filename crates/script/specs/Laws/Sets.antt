@@ -1,7 +1,6 @@
 -- Laws of sets: quotations, entries, and the bytes that are put for them.
 use Prim.Native.Nat.{ℕ, zero, suc, _+_, _-_, _≤_, _<_, _/_, _%_}
 use native.Mathlib.Omega.{arith}
-use native.Mathlib.Numerals.{add-one}
 use mathlib.Core.Path.{_≡_, refl, sym, ap, _∙_}
 use mathlib.Core.Bool.{Bool, true, false, _&&_, cond, and-false}
 use mathlib.Core.List.{List, [], _∷_, _++_, append-assoc}
@@ -152,6 +151,13 @@ pub set-plain : (w : List ℕ) → (getD w 0 0 ≡ 34 → ⊥) → setOf w ≡ w
 unfolding setOf
 set-plain w h = rw (ne-eqb _ _ h)
 
+-- bytes as they are written: too many, or few enough
+pub set-many : (w b : List ℕ) (n : ℕ) → (getD w 0 0 ≡ 34 → ⊥) → bytesOf w ≡ these (take n b) → n ≤ length b → 4096 < n → setOf w ≡ noBytes
+set-many w b n q e m h = set-plain w q ∙ ap (within 4096) e ∙ within-long 4096 (take n b) (rw (length-take-le n b m) h)
+
+pub set-few : (w b : List ℕ) (n : ℕ) → (getD w 0 0 ≡ 34 → ⊥) → bytesOf w ≡ these (take n b) → n ≤ length b → n ≤ 4096 → setOf w ≡ these (take n b)
+set-few w b n q e m h = set-plain w q ∙ ap (within 4096) e ∙ within-these 4096 (take n b) (rw (length-take-le n b m) h)
+
 -- ---- the words are read quotation by quotation
 
 -- what was put so far, and the words that are left
@@ -164,7 +170,8 @@ pub record Entered (w b rest : List ℕ) (left n : ℕ) : Type 0 where
 pub entered-none : (w b : List ℕ) → 4096 ≤ length b → Entered w b w (length w) 0
 entered-none w b h = record { short = omega arith; long = h; inside = omega arith; means = sym (front-none (entriesOf (length w) w)) }
 
-pub entered-fails : {w b rest : List ℕ} {left n : ℕ} → Entered w b rest left n → 0 < left → quotedAt rest ≡ NotQuoted → noBytes ≡ within 4096 (entriesOf (length w) w)
+pub entered-fails : {w b rest : List ℕ} {left n : ℕ} → Entered w b rest left n → 0 < left → quotedAt rest ≡ NotQuoted
+    → noBytes ≡ within 4096 (entriesOf (length w) w)
 entered-fails {w} {b} {rest} {left} {n} v h e =
     sym (ap (within 4096) (v .means ∙ ap (inFront (take n b)) (entries-step left rest h ∙ ap (λ (q : Quoted). onQuoted q rest (entriesOf (left - 1))) e)))
 
@@ -173,28 +180,27 @@ entered-out {w} {b} {rest} {left} {n} v h =
     sym (ap (within 4096) (v .means ∙ ap (inFront (take n b)) (entries-end left rest h)))
 
 -- the payload as it is lent
-payload-lent : (rest : List ℕ) (k : ℕ) → take (k + 1 - 1) (drop 1 rest) ≡ payloadAt k rest
+pub payload-lent : (rest : List ℕ) (k : ℕ) → take (k + 1 - 1) (drop 1 rest) ≡ payloadAt k rest
 payload-lent rest k = ap (λ (n : ℕ). take n (drop 1 rest)) (let e : k + 1 - 1 ≡ k = omega arith in e)
 
 -- the last entry is put
 pub entered-last : {w b rest : List ℕ} {left n : ℕ} (k : ℕ) (x : BytesOf) → Entered w b rest left n → 0 < left → quotedAt rest ≡ Last k
-    → x ≡ within 4096 (these (take n b ++ entryOf (take (k + 1 - 1) (drop 1 rest)))) → x ≡ within 4096 (entriesOf (length w) w)
+    → x ≡ within 4096 (these (take n b ++ entryOf (payloadAt k rest))) → x ≡ within 4096 (entriesOf (length w) w)
 entered-last {w} {b} {rest} {left} {n} k x v h e f =
     f
     ∙ sym (ap (within 4096)
     (v .means ∙ ap (inFront (take n b))
-    (entries-step left rest h ∙ ap (λ (q : Quoted). onQuoted q rest (entriesOf (left - 1))) e ∙ ap (λ (p : List ℕ). these (entryOf p)) (sym (payload-lent rest k)))))
+    (entries-step left rest h ∙ ap (λ (q : Quoted). onQuoted q rest (entriesOf (left - 1))) e)))
 
 -- all but what is behind an entry that is followed
 entered-next : {w b rest : List ℕ} {left n : ℕ} (k : ℕ) → Entered w b rest left n → 0 < left → quotedAt rest ≡ Followed k
-    → entriesOf (length w) w ≡ inFront (take n b ++ entryOf (take (k + 1 - 1) (drop 1 rest))) (entriesOf (left - 1) (drop (k + 3) rest))
+    → entriesOf (length w) w ≡ inFront (take n b ++ entryOf (payloadAt k rest)) (entriesOf (left - 1) (drop (k + 3) rest))
 entered-next {w} {b} {rest} {left} {n} k v h e =
     v .means
     ∙ ap (inFront (take n b))
     (entries-step left rest h
-    ∙ ap (λ (q : Quoted). onQuoted q rest (entriesOf (left - 1))) e
-    ∙ ap (λ (p : List ℕ). inFront (entryOf p) (entriesOf (left - 1) (drop (k + 3) rest))) (sym (payload-lent rest k)))
-    ∙ front-front (take n b) (entryOf (take (k + 1 - 1) (drop 1 rest))) (entriesOf (left - 1) (drop (k + 3) rest))
+    ∙ ap (λ (q : Quoted). onQuoted q rest (entriesOf (left - 1))) e)
+    ∙ front-front (take n b) (entryOf (payloadAt k rest)) (entriesOf (left - 1) (drop (k + 3) rest))
 
 -- ---- a quotation fits in its words
 
@@ -224,7 +230,8 @@ last-fits (b ∷ w) k e = go (eqb b 34) (ltb (reach 34 w) (length w)) refl e
         other true g = absurd (followed-last g)
         other false g = absurd (not-last g)
 
-    go : (s t : Bool) → ltb (reach 34 w) (length w) ≡ t → cond (s && t) (followed (reach 34 w) (drop (reach 34 w + 1) w)) NotQuoted ≡ Last k → k + 2 ≤ suc (length w)
+    go : (s t : Bool) → ltb (reach 34 w) (length w) ≡ t → cond (s && t) (followed (reach 34 w) (drop (reach 34 w + 1) w)) NotQuoted ≡ Last k
+        → k + 2 ≤ suc (length w)
     go true true g f = omega (arith, by (drop (reach 34 w + 1) w) f, ltb-true (reach 34 w) (length w) g)
     go true false g f = absurd (not-last f)
     go false t g f = absurd (not-last f)
@@ -264,16 +271,16 @@ within-some most l m e = go (leb (length l) most) e
     go false g = let z : _≡_ {A = ℕ} 0 1 = cc in absurd (omega arith)
 
 pub entered-full : {w b rest : List ℕ} {left n : ℕ} (k : ℕ) → Entered w b rest left n → 0 < left → quotedAt rest ≡ Followed k
-    → noBytes ≡ within 4096 (these (take n b ++ entryOf (take (k + 1 - 1) (drop 1 rest)))) → noBytes ≡ within 4096 (entriesOf (length w) w)
+    → noBytes ≡ within 4096 (these (take n b ++ entryOf (payloadAt k rest))) → noBytes ≡ within 4096 (entriesOf (length w) w)
 entered-full {w} {b} {rest} {left} {n} k v h e f =
-    let put : List ℕ = take n b ++ entryOf (take (k + 1 - 1) (drop 1 rest)) in
+    let put : List ℕ = take n b ++ entryOf (payloadAt k rest) in
     sym (ap (within 4096) (entered-next k v h e) ∙ within-front 4096 put (entriesOf (left - 1) (drop (k + 3) rest)) (within-none 4096 put f))
 
 pub entered-more : {w b rest : List ℕ} {left n : ℕ} (k m : ℕ) (d next : List ℕ) → Entered w b rest left n → 0 < left → quotedAt rest ≡ Followed k
-    → these (take m d) ≡ within 4096 (these (take n b ++ entryOf (take (k + 1 - 1) (drop 1 rest)))) → m ≤ 4096 → length d ≡ length b → next ≡ drop (k + 3) rest
+    → these (take m d) ≡ within 4096 (these (take n b ++ entryOf (payloadAt k rest))) → m ≤ 4096 → length d ≡ length b → next ≡ drop (k + 3) rest
     → Entered w d next (left - 1) m
 entered-more {w} {b} {rest} {left} {n} k m d next v h e f s l g =
-    let put : List ℕ = take n b ++ entryOf (take (k + 1 - 1) (drop 1 rest)) in
+    let put : List ℕ = take n b ++ entryOf (payloadAt k rest) in
     record {
       short = s;
       long = omega (arith, v .long, l);

@@ -6,12 +6,13 @@ use native.Mathlib.Omega.{arith}
 use Prim.Native.Nat.{ℕ, _*_, _-_, _≤_, _<_, _+_}
 use mathlib.Core.Path.{_≡_, refl, sym, _∙_, ap}
 use mathlib.Core.List.{_++_, append-nil, List}
-use lib.ListN.{length, take, drop, set, length-set}
+use lib.ListN.{length, take, drop, length-set}
 use Rattle.script.specs.Bytes.{pairs}
 use Rattle.script.specs.Laws.Bytes.{pairs-more, pairs-end}
 
 abbrev Inv-loop : tie.InvT-loop
-Inv-loop buffer₀ digits count n₀ buffer n = (length buffer ≡ length buffer₀) × ((2 * n ≤ length digits) × (pairs digits ≡ take n buffer ++ pairs (drop (2 * n) digits)))
+Inv-loop buffer₀ digits count n₀ buffer n =
+    (length buffer ≡ length buffer₀) × ((2 * n ≤ length digits) × (pairs digits ≡ take n buffer ++ pairs (drop (2 * n) digits)))
 
 abbrev μ-loop : tie.MeasureT-loop
 μ-loop buffer₀ digits count n₀ buffer n = count - n

@@ -3,8 +3,8 @@ use Rattle.script.proofs.numbers.all_digits.Statement.{statement}
 use Rattle.script.proofs.numbers.all_digits.Tie as tie
 use borrow.Author.Needs.{needs}
 use native.Mathlib.Omega.{arith}
-use Prim.Native.Nat.{_+_, _-_, _≤_}
-use mathlib.Core.Path.{_≡_, refl, sym, subst, _∙_}
+use Prim.Native.Nat.{_-_, _≤_}
+use mathlib.Core.Path.{_≡_, refl, sym, _∙_}
 use lib.ListN.{length, drop}
 use Rattle.script.specs.Numbers.{allDigits}
 use Rattle.script.specs.Laws.Numbers.{digits-miss, digits-step, digits-end}

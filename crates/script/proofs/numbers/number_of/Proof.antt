@@ -3,7 +3,7 @@ use Rattle.script.proofs.numbers.number_of.Statement.{statement}
 use Rattle.script.proofs.numbers.number_of.Tie as tie
 use borrow.Author.Needs.{needs}
 use native.Mathlib.Omega.{arith}
-use Prim.Native.Nat.{_-_, _+_, _≤_}
+use Prim.Native.Nat.{_-_, _≤_}
 use mathlib.Core.Path.{_≡_, sym, _∙_, refl}
 use lib.ListN.{length, drop}
 use borrow.Author.Tests.{not-true, not-false}

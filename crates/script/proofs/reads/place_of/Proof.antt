@@ -3,7 +3,7 @@ use Rattle.script.proofs.reads.place_of.Statement.{statement}
 use Rattle.script.proofs.reads.place_of.Tie as tie
 use borrow.Author.Needs.{needs}
 use native.Mathlib.Omega.{arith}
-use Prim.Native.Nat.{_+_, _-_, _≤_, _<_}
+use Prim.Native.Nat.{_-_, _≤_, _<_}
 use mathlib.Core.Path.{_≡_, refl, sym, _∙_}
 use lib.ListN.{length, take, length-set}
 use Rattle.script.specs.declared.numbers.Number.the-variants.{Is, NoNumber}

@@ -3,8 +3,6 @@ use Rattle.script.proofs.reads.read.Statement.{statement}
 use Rattle.script.proofs.reads.read.Tie as tie
 use borrow.Author.Needs.{needs}
 use native.Mathlib.Omega.{arith}
-use mathlib.Core.List.{List}
-use Prim.Native.Nat.{ℕ}
 use lib.ListN.{length}
 use mathlib.Core.Path.{sym, ap, _∙_}
 use Rattle.script.specs.Words.{wordOf, behind}
@@ -13,21 +11,6 @@ use Rattle.script.specs.declared.names.Layouts.{Layouts}
 use Rattle.script.specs.declared.names.Layouts.the-variants.{Named, Unnamed}
 use Rattle.script.specs.Laws.Words.{length-behind}
 use Rattle.script.specs.Laws.Calls.{says-none, says-as, layout-said}
-
-word-requires : tie.Need-word-requires
-word-requires c κs = search needs
-
-layout-of-requires : tie.Need-layout-of-requires
-layout-of-requires c κs = search needs
-
-enum-known-layout : tie.Need-enum-known-layout
-enum-known-layout c = search needs
-
-enum-told : tie.Need-enum-told
-enum-told c = search needs
-
-plain-requires : tie.Need-plain-requires
-plain-requires c κs = search needs
 
 returns : tie.Need-returns
 returns c =
@@ -40,18 +23,12 @@ returns c =
     says-none (c .plain .ensures)
     (ap (λ (x : Layouts). readOn x (behind w)) (layout-said (wordOf w) Unnamed (layout-of .ensures) (word .ensures) (c .before .enum-told .given .1)))
 
-behind-requires : tie.Need-behind-requires
-behind-requires c κs = search needs
-
 read-over-requires : tie.Need-read-over-requires
 read-over-requires c κs =
     let c9 = c .before .before .before .before .before .before .before .before .before in
     let args = c9 .args in
     let asked = c9 .pre in
     (omega (arith, ap length (c .before .behind .ensures), length-behind (args .words .now), asked .0), asked .1)
-
-same-length : tie.Need-same-length
-same-length c = search needs
 
 returns-2 : tie.Need-returns-2
 returns-2 c =
@@ -76,13 +53,5 @@ pub read-spec : {M : Type 1} → statement M
 read-spec =
     tie.close
     (tie.spec
-    word-requires
-    layout-of-requires
-    enum-known-layout
-    enum-told
-    plain-requires
-    returns
-    behind-requires
-    read-over-requires
-    same-length
-    returns-2)
+    (λ c κs. search needs) (λ c κs. search needs) (λ c. search needs) (λ c. search needs) (λ c κs. search needs) returns
+    (λ c κs. search needs) read-over-requires (λ c. search needs) returns-2)

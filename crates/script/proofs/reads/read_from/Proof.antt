@@ -4,7 +4,7 @@ use Rattle.script.proofs.reads.read_from.Tie as tie
 use borrow.Author.Needs.{needs}
 use native.Mathlib.Omega.{arith}
 use lib.ListN.{length}
-use mathlib.Core.Path.{refl, sym, ap, _∙_}
+use mathlib.Core.Path.{sym, ap}
 use borrow.Author.Tests.{not-true, not-false}
 use Rattle.script.specs.declared.bytes.Bytes.the-variants.{Are, NoBytes}
 use Rattle.script.specs.Words.{skipped}
@@ -12,14 +12,8 @@ use Rattle.script.specs.Laws.Words.{length-skipped}
 use Rattle.script.specs.Laws.Bytes.{bytes-said}
 use Rattle.script.specs.Laws.Calls.{says-none, machines-most, read-no-place, read-no-bytes, read-whole}
 
-machines-requires : tie.Need-machines-requires
-machines-requires c κs = search needs
-
 place-of-requires : tie.Need-place-of-requires
 place-of-requires c κs = omega (arith, c .machines .ensures, machines-most (c .before .before .before .args .layout))
-
-plain-requires : tie.Need-plain-requires
-plain-requires c κs = search needs
 
 returns : tie.Need-returns
 returns c =
@@ -32,9 +26,6 @@ returns c =
     (read-no-place (a .layout) (a .count) (a .room) (machines .result) (a .words .now) (place-of .result) (machines .ensures) (place-of .ensures)
     (not-true (place-of .result .found) (c .before .if1 .taken)))
 
-skipped-requires : tie.Need-skipped-requires
-skipped-requires c κs = search needs
-
 bytes-of-requires : tie.Need-bytes-of-requires
 bytes-of-requires c κs =
     let c5 = c .before .before .before .before .before in
@@ -43,18 +34,6 @@ bytes-of-requires c κs =
     let args = c8 .args in
     let asked = c8 .pre in
     omega (arith, ap length (c .before .skipped .ensures), length-skipped (machines .result) (args .words .now), asked)
-
-enum-known-piece : tie.Need-enum-known-piece
-enum-known-piece c = search needs
-
-enum-told : tie.Need-enum-told
-enum-told c = search needs
-
-plain-requires-2 : tie.Need-plain-requires-2
-plain-requires-2 c κs = search needs
-
-same-length : tie.Need-same-length
-same-length c = search needs
 
 returns-2 : tie.Need-returns-2
 returns-2 c =
@@ -70,9 +49,6 @@ returns-2 c =
     (read-no-bytes (a .layout) (a .count) (a .room) k (a .words .now) (machines .ensures)
     (bytes-said (skipped k (a .words .now)) (bytes-of .last .1 .0) NoBytes (bytes-of .ensures .0) (the-skipped .ensures)
     (c .before .enum-told .given .1)))
-
-same-length-2 : tie.Need-same-length-2
-same-length-2 c = search needs
 
 returns-3 : tie.Need-returns-3
 returns-3 c =
@@ -113,16 +89,6 @@ pub read-from-spec : {M : Type 1} → statement M
 read-from-spec =
     tie.close
     (tie.spec
-    machines-requires
-    place-of-requires
-    plain-requires
-    returns
-    skipped-requires
-    bytes-of-requires
-    enum-known-piece
-    enum-told
-    plain-requires-2
-    same-length
-    returns-2
-    same-length-2
+    (λ c κs. search needs) place-of-requires (λ c κs. search needs) returns (λ c κs. search needs) bytes-of-requires
+    (λ c. search needs) (λ c. search needs) (λ c κs. search needs) (λ c. search needs) returns-2 (λ c. search needs)
     returns-3)

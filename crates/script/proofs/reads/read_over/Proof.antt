@@ -13,21 +13,6 @@ use Rattle.script.specs.Laws.Numbers.{number-said}
 use Rattle.script.specs.Laws.Calls.{says-none, says-as, over-no-count, over-no-room, over-both}
 use Rattle.script.specs.Laws.Numbers.{number-most}
 
-word-requires : tie.Need-word-requires
-word-requires c κs = search needs
-
-number-of-requires : tie.Need-number-of-requires
-number-of-requires c κs = search needs
-
-enum-known-count : tie.Need-enum-known-count
-enum-known-count c = search needs
-
-enum-told : tie.Need-enum-told
-enum-told c = search needs
-
-plain-requires : tie.Need-plain-requires
-plain-requires c κs = search needs
-
 returns : tie.Need-returns
 returns c =
     let c3 = c .before .before .before in
@@ -38,24 +23,6 @@ returns c =
     let w = args .words .now in
     says-none (c .plain .ensures)
     (over-no-count (args .layout) w (number-said 4294967295 (wordOf w) NoNumber (number-of .ensures) (word .ensures) (c .before .enum-told .given .1)))
-
-behind-requires : tie.Need-behind-requires
-behind-requires c κs = search needs
-
-word-requires-2 : tie.Need-word-requires-2
-word-requires-2 c κs = search needs
-
-number-of-requires-2 : tie.Need-number-of-requires-2
-number-of-requires-2 c κs = search needs
-
-enum-known-room : tie.Need-enum-known-room
-enum-known-room c = search needs
-
-enum-told-2 : tie.Need-enum-told-2
-enum-told-2 c = search needs
-
-plain-requires-2 : tie.Need-plain-requires-2
-plain-requires-2 c κs = search needs
 
 returns-2 : tie.Need-returns-2
 returns-2 c =
@@ -79,9 +46,6 @@ returns-2 c =
     (number-said 2048 (wordOf (behind w)) NoNumber (number-of2 .ensures) (word2 .ensures ∙ ap wordOf (the-behind .ensures))
     (c .before .enum-told2 .given .1)))
 
-skipped-requires : tie.Need-skipped-requires
-skipped-requires c κs = search needs
-
 read-from-requires : tie.Need-read-from-requires
 read-from-requires c κs =
     let c3 = c .before .before .before in
@@ -98,9 +62,6 @@ read-from-requires c κs =
       number-most 2048
           (word2 .result .now) (room .given .0 .0) (sym (number-of2 .ensures) ∙ room .given .1),
     )
-
-same-length : tie.Need-same-length
-same-length c = search needs
 
 returns-3 : tie.Need-returns-3
 returns-3 c =
@@ -136,20 +97,6 @@ pub read-over-spec : {M : Type 1} → statement M
 read-over-spec =
     tie.close
     (tie.spec
-    word-requires
-    number-of-requires
-    enum-known-count
-    enum-told
-    plain-requires
-    returns
-    behind-requires
-    word-requires-2
-    number-of-requires-2
-    enum-known-room
-    enum-told-2
-    plain-requires-2
-    returns-2
-    skipped-requires
-    read-from-requires
-    same-length
-    returns-3)
+    (λ c κs. search needs) (λ c κs. search needs) (λ c. search needs) (λ c. search needs) (λ c κs. search needs) returns
+    (λ c κs. search needs) (λ c κs. search needs) (λ c κs. search needs) (λ c. search needs) (λ c. search needs)
+    (λ c κs. search needs) returns-2 (λ c κs. search needs) read-from-requires (λ c. search needs) returns-3)

@@ -3,11 +3,9 @@ use Rattle.script.proofs.sets.entries.Statement.{statement}
 use Rattle.script.proofs.sets.entries.Tie as tie
 use borrow.Author.Needs.{needs}
 use native.Mathlib.Omega.{arith}
-use Prim.Native.Nat.{_+_}
 use mathlib.Core.Path.{_≡_, refl, sym, ap, _∙_}
 use lib.ListN.{length}
-use Rattle.script.specs.Bytes.{bytesIn, countOf}
-use Rattle.script.specs.Laws.Words.{rest-lent}
+use Rattle.script.specs.Bytes.{bytesIn}
 use Rattle.script.specs.Laws.Sets.{Entered, entered-none, entered-fails, entered-out, entered-last, entered-full, entered-more, last-fits, followed-fits}
 
 abbrev Inv-loop : tie.InvT-loop
@@ -43,161 +41,39 @@ returns c =
 enum-known-quoted : tie.Need-enum-known-quoted Inv-loop μ-loop
 enum-known-quoted c = search needs
 
-add-put-entry : tie.Need-add-put-entry Inv-loop μ-loop
-add-put-entry c =
-    let c2 = c .before .before in
-    let quoted = c2 .quoted in
-    let c4 = c2 .before .before in
-    let quoted-at = c4 .quoted-at in
-    let c6 = c4 .before .before in
-    let loop = c6 .loop in
-    let good = c6 .before .before .before .good in
-    omega (
-      arith,
-      last-fits (loop .rest .now) (quoted .given .0 .0) (sym (quoted-at .ensures) ∙ quoted .given .1),
-      loop .inv .1 .inside,
-      good .0 .0,
-    )
-
-sub-put-entry : tie.Need-sub-put-entry Inv-loop μ-loop
-sub-put-entry c =
-    let c2 = c .before .before in
-    let quoted = c2 .quoted in
-    let c4 = c2 .before .before in
-    let quoted-at = c4 .quoted-at in
-    let c6 = c4 .before .before in
-    let loop = c6 .loop in
-    let good = c6 .before .before .before .good in
-    omega (
-      arith,
-      last-fits (loop .rest .now) (quoted .given .0 .0) (sym (quoted-at .ensures) ∙ quoted .given .1),
-      loop .inv .1 .inside,
-      good .0 .0,
-    )
-
-part-put-entry-start : tie.Need-part-put-entry-start Inv-loop μ-loop
-part-put-entry-start c =
-    let c2 = c .before .before in
-    let quoted = c2 .quoted in
-    let c4 = c2 .before .before in
-    let quoted-at = c4 .quoted-at in
-    let c6 = c4 .before .before in
-    let loop = c6 .loop in
-    let good = c6 .before .before .before .good in
-    omega (
-      arith,
-      last-fits (loop .rest .now) (quoted .given .0 .0) (sym (quoted-at .ensures) ∙ quoted .given .1),
-      loop .inv .1 .inside,
-      good .0 .0,
-    )
-
-part-put-entry-end : tie.Need-part-put-entry-end Inv-loop μ-loop
-part-put-entry-end c =
-    let c2 = c .before .before in
-    let quoted = c2 .quoted in
-    let c4 = c2 .before .before in
-    let quoted-at = c4 .quoted-at in
-    let c6 = c4 .before .before in
-    let loop = c6 .loop in
-    let good = c6 .before .before .before .good in
-    omega (
-      arith,
-      last-fits (loop .rest .now) (quoted .given .0 .0) (sym (quoted-at .ensures) ∙ quoted .given .1),
-      loop .inv .1 .inside,
-      good .0 .0,
-    )
-
-put-entry-requires : tie.Need-put-entry-requires Inv-loop μ-loop
-put-entry-requires c κs = let l = c .before .before .before .before .before .before .before .loop in (l .inv .1 .short, l .inv .1 .long)
+put-quoted-requires : tie.Need-put-quoted-requires Inv-loop μ-loop
+put-quoted-requires c κs =
+    let quoted = c .before .before .quoted in
+    let quoted-at = c .before .before .before .before .quoted-at in
+    let l = c .before .before .before .before .before .before .loop in
+    (l .inv .1 .short, l .inv .1 .long, last-fits (l .rest .now) (quoted .given .0 .0) (sym (quoted-at .ensures) ∙ quoted .given .1))
 
 same-length-2 : tie.Need-same-length-2 Inv-loop μ-loop
-same-length-2 c = c .before .before .put-entry .kept .0 ∙ c .before .before .before .before .before .before .before .before .before .before .loop .inv .0
+same-length-2 c = c .before .before .put-quoted .kept .0 ∙ c .before .before .before .before .before .before .before .before .before .loop .inv .0
 
 returns-2 : tie.Need-returns-2 Inv-loop μ-loop
 returns-2 c =
     let c2 = c .before .before in
-    let put-entry = c2 .put-entry in
-    let c6 = c2 .before .before .before .before in
-    let quoted = c6 .quoted in
-    let c8 = c6 .before .before in
-    let quoted-at = c8 .quoted-at in
-    let c9 = c8 .before in
-    let loop-test = c9 .loop-test in
-    let loop = c9 .before .loop in (
-      let l = loop in entered-last (quoted .given .0 .0) _ (l .inv .1) (loop-test .taken) (sym (quoted-at .ensures) ∙ quoted .given .1)
-          (put-entry .ensures .0),
-      put-entry .ensures .1,
+    let put = c2 .put-quoted in
+    let c5 = c2 .before .before .before in
+    let quoted = c5 .quoted in
+    let c7 = c5 .before .before in
+    let l = c7 .before .before .loop in (
+      entered-last (quoted .given .0 .0) _ (l .inv .1) (c7 .before .loop-test .taken) (sym (c7 .quoted-at .ensures) ∙ quoted .given .1)
+          (put .ensures .0),
+      put .ensures .1,
     )
 
 enum-known-quoted-2 : tie.Need-enum-known-quoted-2 Inv-loop μ-loop
 enum-known-quoted-2 c = search needs
 
-add-put-entry-2 : tie.Need-add-put-entry-2 Inv-loop μ-loop
-add-put-entry-2 c =
-    let c2 = c .before .before in
-    let quoted2 = c2 .quoted2 in
-    let c4 = c2 .before .before in
-    let quoted-at = c4 .quoted-at in
-    let c6 = c4 .before .before in
-    let loop = c6 .loop in
-    let good = c6 .before .before .before .good in
-    omega (
-      arith,
-      followed-fits (loop .rest .now) (quoted2 .given .0 .0) (sym (quoted-at .ensures) ∙ quoted2 .given .1),
-      loop .inv .1 .inside,
-      good .0 .0,
-    )
-
-sub-put-entry-2 : tie.Need-sub-put-entry-2 Inv-loop μ-loop
-sub-put-entry-2 c =
-    let c2 = c .before .before in
-    let quoted2 = c2 .quoted2 in
-    let c4 = c2 .before .before in
-    let quoted-at = c4 .quoted-at in
-    let c6 = c4 .before .before in
-    let loop = c6 .loop in
-    let good = c6 .before .before .before .good in
-    omega (
-      arith,
-      followed-fits (loop .rest .now) (quoted2 .given .0 .0) (sym (quoted-at .ensures) ∙ quoted2 .given .1),
-      loop .inv .1 .inside,
-      good .0 .0,
-    )
-
-part-put-entry-start-2 : tie.Need-part-put-entry-start-2 Inv-loop μ-loop
-part-put-entry-start-2 c =
-    let c2 = c .before .before in
-    let quoted2 = c2 .quoted2 in
-    let c4 = c2 .before .before in
-    let quoted-at = c4 .quoted-at in
-    let c6 = c4 .before .before in
-    let loop = c6 .loop in
-    let good = c6 .before .before .before .good in
-    omega (
-      arith,
-      followed-fits (loop .rest .now) (quoted2 .given .0 .0) (sym (quoted-at .ensures) ∙ quoted2 .given .1),
-      loop .inv .1 .inside,
-      good .0 .0,
-    )
-
-part-put-entry-end-2 : tie.Need-part-put-entry-end-2 Inv-loop μ-loop
-part-put-entry-end-2 c =
-    let c2 = c .before .before in
-    let quoted2 = c2 .quoted2 in
-    let c4 = c2 .before .before in
-    let quoted-at = c4 .quoted-at in
-    let c6 = c4 .before .before in
-    let loop = c6 .loop in
-    let good = c6 .before .before .before .good in
-    omega (
-      arith,
-      followed-fits (loop .rest .now) (quoted2 .given .0 .0) (sym (quoted-at .ensures) ∙ quoted2 .given .1),
-      loop .inv .1 .inside,
-      good .0 .0,
-    )
-
-put-entry-requires-2 : tie.Need-put-entry-requires-2 Inv-loop μ-loop
-put-entry-requires-2 c κs = let l = c .before .before .before .before .before .before .before .loop in (l .inv .1 .short, l .inv .1 .long)
+put-quoted-requires-2 : tie.Need-put-quoted-requires-2 Inv-loop μ-loop
+put-quoted-requires-2 c κs =
+    let quoted = c .before .before .quoted2 in
+    let quoted-at = c .before .before .before .before .quoted-at in
+    let l = c .before .before .before .before .before .before .loop in
+    let fits = followed-fits (l .rest .now) (quoted .given .0 .0) (sym (quoted-at .ensures) ∙ quoted .given .1) in
+    (l .inv .1 .short, l .inv .1 .long, omega arith)
 
 enum-known-m : tie.Need-enum-known-m Inv-loop μ-loop
 enum-known-m c = search needs
@@ -208,15 +84,15 @@ enum-told-2 c = search needs
 same-length-3 : tie.Need-same-length-3 Inv-loop μ-loop
 same-length-3 c =
     let c4 = c .before .before .before .before in
-    let put-entry2 = c4 .put-entry2 in
-    let loop = c4 .before .before .before .before .before .before .before .before .loop in
-    put-entry2 .kept .0 ∙ loop .inv .0
+    let put-quoted2 = c4 .put-quoted2 in
+    let loop = c4 .before .before .before .before .before .before .before .loop in
+    put-quoted2 .kept .0 ∙ loop .inv .0
 
 returns-3 : tie.Need-returns-3 Inv-loop μ-loop
 returns-3 c =
     let c4 = c .before .before .before .before in
-    let put-entry2 = c4 .put-entry2 in
-    let c8 = c4 .before .before .before .before in
+    let put-quoted2 = c4 .put-quoted2 in
+    let c8 = c4 .before .before .before in
     let quoted2 = c8 .quoted2 in
     let c10 = c8 .before .before in
     let quoted-at = c10 .quoted-at in
@@ -224,73 +100,15 @@ returns-3 c =
     let loop-test = c11 .loop-test in
     let loop = c11 .before .loop in (
       let l = loop in entered-full (quoted2 .given .0 .0) (l .inv .1) (loop-test .taken) (sym (quoted-at .ensures) ∙ quoted2 .given .1)
-          (sym (ap (bytesIn (put-entry2 .last .0)) (c .enum-told2 .given .1)) ∙ put-entry2 .ensures .0),
+          (sym (ap (bytesIn (put-quoted2 .last .0)) (c .enum-told2 .given .1)) ∙ put-quoted2 .ensures .0),
       omega arith,
     )
 
-add-next : tie.Need-add-next Inv-loop μ-loop
-add-next c =
-    let c9 = c .before .before .before .before .before .before .before .before .before in
-    let quoted2 = c9 .quoted2 in
-    let c11 = c9 .before .before in
-    let quoted-at = c11 .quoted-at in
-    let c13 = c11 .before .before in
-    let loop = c13 .loop in
-    let good = c13 .before .before .before .good in
-    omega (
-      arith,
-      followed-fits (loop .rest .now) (quoted2 .given .0 .0) (sym (quoted-at .ensures) ∙ quoted2 .given .1),
-      loop .inv .1 .inside,
-      good .0 .0,
-    )
-
-sub-next : tie.Need-sub-next Inv-loop μ-loop
-sub-next c =
-    let c9 = c .before .before .before .before .before .before .before .before .before in
-    let quoted2 = c9 .quoted2 in
-    let c11 = c9 .before .before in
-    let quoted-at = c11 .quoted-at in
-    let c13 = c11 .before .before in
-    let loop = c13 .loop in
-    let good = c13 .before .before .before .good in
-    omega (
-      arith,
-      followed-fits (loop .rest .now) (quoted2 .given .0 .0) (sym (quoted-at .ensures) ∙ quoted2 .given .1),
-      loop .inv .1 .inside,
-      good .0 .0,
-    )
-
-part-next-start : tie.Need-part-next-start Inv-loop μ-loop
-part-next-start c =
-    let c9 = c .before .before .before .before .before .before .before .before .before in
-    let quoted2 = c9 .quoted2 in
-    let c11 = c9 .before .before in
-    let quoted-at = c11 .quoted-at in
-    let c13 = c11 .before .before in
-    let loop = c13 .loop in
-    let good = c13 .before .before .before .good in
-    omega (
-      arith,
-      followed-fits (loop .rest .now) (quoted2 .given .0 .0) (sym (quoted-at .ensures) ∙ quoted2 .given .1),
-      loop .inv .1 .inside,
-      good .0 .0,
-    )
-
-part-next-end : tie.Need-part-next-end Inv-loop μ-loop
-part-next-end c =
-    let c9 = c .before .before .before .before .before .before .before .before .before in
-    let quoted2 = c9 .quoted2 in
-    let c11 = c9 .before .before in
-    let quoted-at = c11 .quoted-at in
-    let c13 = c11 .before .before in
-    let loop = c13 .loop in
-    let good = c13 .before .before .before .good in
-    omega (
-      arith,
-      followed-fits (loop .rest .now) (quoted2 .given .0 .0) (sym (quoted-at .ensures) ∙ quoted2 .given .1),
-      loop .inv .1 .inside,
-      good .0 .0,
-    )
+behind-quoted-requires : tie.Need-behind-quoted-requires Inv-loop μ-loop
+behind-quoted-requires c κs =
+    let c8 = c .before .before .before .before .before .before .before .before in
+    let c10 = c8 .before .before in
+    followed-fits (c10 .before .before .loop .rest .now) (c8 .quoted2 .given .0 .0) (sym (c10 .quoted-at .ensures) ∙ c8 .quoted2 .given .1)
 
 loop-less : tie.Need-loop-less Inv-loop μ-loop
 loop-less c = search needs
@@ -300,8 +118,8 @@ loop-again c =
     let c2 = c .before .before in
     let m = c2 .m in
     let c6 = c2 .before .before .before .before in
-    let put-entry2 = c6 .put-entry2 in
-    let c10 = c6 .before .before .before .before in
+    let put-quoted2 = c6 .put-quoted2 in
+    let c10 = c6 .before .before .before in
     let quoted2 = c10 .quoted2 in
     let c12 = c10 .before .before in
     let quoted-at = c12 .quoted-at in
@@ -309,11 +127,11 @@ loop-again c =
     let loop-test = c13 .loop-test in
     let loop = c13 .before .loop in
     let l = loop in let k = quoted2 .given .0 .0 in (
-      put-entry2 .kept .0 ∙ l .inv .0,
-      entered-more k (m .given .0 .0) (put-entry2 .last .0)
+      put-quoted2 .kept .0 ∙ l .inv .0,
+      entered-more k (m .given .0 .0) (put-quoted2 .last .0)
           _ (l .inv .1) (loop-test .taken) (sym (quoted-at .ensures) ∙ quoted2 .given .1)
-          (sym (ap (bytesIn (put-entry2 .last .0)) (m .given .1)) ∙ put-entry2 .ensures .0) (rw (m .given .1) at (put-entry2 .ensures .1))
-          (put-entry2 .kept .0) (rest-lent (l .rest .now) (k + 3)),
+          (sym (ap (bytesIn (put-quoted2 .last .0)) (m .given .1)) ∙ put-quoted2 .ensures .0) (rw (m .given .1) at (put-quoted2 .ensures .1))
+          (put-quoted2 .kept .0) (c .behind-quoted .ensures),
     )
 
 same-length-4 : tie.Need-same-length-4 Inv-loop μ-loop
@@ -335,27 +153,16 @@ entries-spec =
     same-length
     returns
     enum-known-quoted
-    add-put-entry
-    sub-put-entry
-    part-put-entry-start
-    part-put-entry-end
-    put-entry-requires
+    put-quoted-requires
     same-length-2
     returns-2
     enum-known-quoted-2
-    add-put-entry-2
-    sub-put-entry-2
-    part-put-entry-start-2
-    part-put-entry-end-2
-    put-entry-requires-2
+    put-quoted-requires-2
     enum-known-m
     enum-told-2
     same-length-3
     returns-3
-    add-next
-    sub-next
-    part-next-start
-    part-next-end
+    behind-quoted-requires
     loop-less
     loop-again
     same-length-4
