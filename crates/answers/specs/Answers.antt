@@ -60,7 +60,8 @@ answerLine given (suc n) values = refusedLine (suc n) values
 
 -- `edition E tags N`
 abbrev pub editionLine : Answer → List ℕ
-editionLine given = ended (numbered (101 ∷ 100 ∷ 105 ∷ 116 ∷ 105 ∷ 111 ∷ 110 ∷ 32 ∷ []) (given .a) ++ numbered (32 ∷ 116 ∷ 97 ∷ 103 ∷ 115 ∷ 32 ∷ []) (given .b))
+editionLine given = ended
+    (numbered (101 ∷ 100 ∷ 105 ∷ 116 ∷ 105 ∷ 111 ∷ 110 ∷ 32 ∷ []) (given .a) ++ numbered (32 ∷ 116 ∷ 97 ∷ 103 ∷ 115 ∷ 32 ∷ []) (given .b))
 
 abbrev pub replaceLine : ReplaceAnswer → List ℕ
 replaceLine said = answerLine editionLine (replaceNumber said) (replaceValues said)
@@ -112,7 +113,8 @@ stateLine serial answer = numbered (115 ∷ 116 ∷ 97 ∷ 116 ∷ 101 ∷ 32 �
 -- `record`, and the record's serial, edition, end and tag
 abbrev pub recordLine : Answer → List ℕ
 recordLine given =
-    ended (numbered (114 ∷ 101 ∷ 99 ∷ 111 ∷ 114 ∷ 100 ∷ 32 ∷ []) (given .a) ++ numbered (32 ∷ []) (given .b) ++ numbered (32 ∷ []) (given .c) ++ numbered (32 ∷ []) (given .d))
+    ended (numbered (114 ∷ 101 ∷ 99 ∷ 111 ∷ 114 ∷ 100 ∷ 32 ∷ []) (given .a) ++ numbered (32 ∷ []) (given .b) ++ numbered (32 ∷ []) (given .c) ++ numbered
+    (32 ∷ []) (given .d))
 
 abbrev pub takeLine : TakeAnswer → List ℕ
 takeLine said = answerLine recordLine (takeNumber said) (takeValues said)

@@ -28,7 +28,8 @@ paired-more run n j h =
     let b : 2 * (j + 1) ≡ 2 * j + 2 = omega arith in
     let c : 2 * j + 0 ≡ 2 * j = omega arith in
     ap (λ (m : ℕ). paired m (drop (2 * j) run)) a
-    ∙ ap₂ (λ (x y : ℕ). record { end = x; tag = y % 256 } ∷ paired (n - (j + 1)) (drop 2 (drop (2 * j) run))) (getD-drop (2 * j) run 0 0 ∙ ap (λ (m : ℕ). getD run m 0) c) (getD-drop (2 * j) run 1 0)
+    ∙ ap₂ (λ (x y : ℕ). record { end = x; tag = y % 256 } ∷ paired (n - (j + 1)) (drop 2 (drop (2 * j) run)))
+    (getD-drop (2 * j) run 0 0 ∙ ap (λ (m : ℕ). getD run m 0) c) (getD-drop (2 * j) run 1 0)
     ∙ ap (λ (l : List ℕ). pairAt run j ∷ paired (n - (j + 1)) l) (drop-drop 2 (2 * j) run ∙ ap (λ (m : ℕ). drop m run) (sym b))
 
 module _ (s : Serial) (e : Edition) (run : List ℕ) (n : ℕ) (q : Records) where
@@ -53,7 +54,8 @@ module _ (s : Serial) (e : Edition) (run : List ℕ) (n : ℕ) (q : Records) whe
     first = a .first;
     count = omega (arith, a .count);
     left =
-        ap (λ (k : ℕ). pushAll (record { ring = set (p .ring) k (recordOf s e (pairAt run j)); first = p .first; count = p .count + 1 }) (recordsOf s e (paired (n - (j + 1)) (drop (2 * (j + 1)) run)))) (turned (p .first) (p .count))
+        ap (λ (k : ℕ). pushAll (record { ring = set (p .ring) k (recordOf s e (pairAt run j)); first = p .first; count = p .count + 1 })
+        (recordsOf s e (paired (n - (j + 1)) (drop (2 * (j + 1)) run)))) (turned (p .first) (p .count))
         ∙ ap (λ (l : List Occurrence). pushAll p (recordsOf s e l)) (sym (paired-more run n j h)) ∙ a .left;
   }
 

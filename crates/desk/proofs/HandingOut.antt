@@ -39,7 +39,8 @@ took-popped q =
     let e : (q .first % 256 + 1) % 256 ≡ (q .first + 1) % 256 = omega arith in
     ap {B = Records} (λ (n : ℕ). record { ring = q .ring; first = n; count = q .count - 1 }) e
 
-wrote-sets : (l : List ℕ) (i : ℕ) (r : Record) (vs : List ℕ) → sets (wrote l i r) (i + 4) vs ≡ sets l i (r .serial .0 ∷ r .edition .0 ∷ r .end ∷ r .tag .0 ∷ vs)
+wrote-sets : (l : List ℕ) (i : ℕ) (r : Record) (vs : List ℕ) → sets (wrote l i r) (i + 4) vs ≡ sets l i
+    (r .serial .0 ∷ r .edition .0 ∷ r .end ∷ r .tag .0 ∷ vs)
 wrote-sets l i r vs = rw (add-one i, add-two i, add-three i, add-four i)
 
 module _ (q₀ : Records) (n : ℕ) (l₀ : List ℕ) where
@@ -74,12 +75,15 @@ numbers-length zero q = refl
 numbers-length (suc n) q = omega (arith, numbers-length n (popped q))
 
 -- what `take_many` returns and leaves
-pub taken-many : (d : Desk) (l l′ : List ℕ) (n : ℕ) (q : Records) → n ≡ manyOf d (length l) → q ≡ without n (d .records) → l′ ≡ sets l 0 (recordNumbers (oldest n (d .records)))
+pub taken-many : (d : Desk) (l l′ : List ℕ) (n : ℕ) (q : Records) → n ≡ manyOf d (length l) → q ≡ without n (d .records)
+    → l′ ≡ sets l 0 (recordNumbers (oldest n (d .records)))
     → (_≡_ {A = TakingMany} (record { desk = withRecords d q; count = n }) (takeManyOf d (length l))) × (l′ ≡ listTaken d l (manyOf d (length l)))
 unfolding takeManyOf listTaken
 taken-many d l l′ n q e f g =
     let s : length (recordNumbers (oldest n (d .records))) ≡ 4 * n = numbers-length n (d .records) in (
-      subst (λ (k : ℕ). _≡_ {A = TakingMany} (record { desk = withRecords d q; count = n }) (record { desk = withRecords d (without k (d .records)); count = k })) e (ap {B = TakingMany} (λ (x : Records). record { desk = withRecords d x; count = n }) f),
+      subst (λ (k : ℕ). _≡_ {A = TakingMany} (record { desk = withRecords d q; count = n })
+          (record { desk = withRecords d (without k (d .records)); count = k })) e
+          (ap {B = TakingMany} (λ (x : Records). record { desk = withRecords d x; count = n }) f),
       g ∙ sets-eq (recordNumbers (oldest n (d .records))) l 0 (omega (arith, s, e, min-le-right (d .records .count) (length l / 4)))
           ∙ ap (λ (k : ℕ). recordNumbers (oldest n (d .records)) ++ drop k l) (ap (λ (k : ℕ). 0 + k) s ∙ zero-add (4 * n))
           ∙ ap (λ (k : ℕ). recordNumbers (oldest k (d .records)) ++ drop (4 * k) l) e,

@@ -119,4 +119,5 @@ pub record TakeExact (d : Desk) (a : TakeAnswer) : Type 0 where
 pub record ReplaceExact (d : Desk) (order : Order) (len : Sizes) (a : ReplaceAnswer) : Type 0 where
   pub building : (n : ℕ) (values : List ℕ) → 0 < n → n < 8 → ((replaceNumber a ≡ n) × (replaceValues a ≡ values)) ↔ DeskAnswers order len n values
   pub last-edition : (replaceNumber a ≡ 8) ↔ (((count : ℕ) × DeskBuilds order len count) × LastEdition d)
-  pub replaced : (e : Edition) (count : ℕ) → (a ≡ R.Replaced e count) ↔ (DeskBuilds order len count × (LastEdition d → ⊥) × (e ≡ editionOf (d .edition .0 + 1)))
+  pub replaced : (e : Edition) (count : ℕ) → (a ≡ R.Replaced e count) ↔
+      (DeskBuilds order len count × (LastEdition d → ⊥) × (e ≡ editionOf (d .edition .0 + 1)))

@@ -21,4 +21,5 @@ withBits m (r ∷ rs) = withBits (bitOr m (2 ^ (r .tag .0 % 64))) rs
 
 -- no two rooms are held under one serial
 abbrev pub Apart : List Ticket → Type 0
-Apart rooms = (i j : ℕ) → isHeld (ticketIn rooms i) ≡ true → isHeld (ticketIn rooms j) ≡ true → ticketIn rooms i .serial .0 ≡ ticketIn rooms j .serial .0 → i ≡ j
+Apart rooms = (i j : ℕ) → isHeld (ticketIn rooms i) ≡ true → isHeld (ticketIn rooms j) ≡ true → ticketIn rooms i .serial .0 ≡ ticketIn rooms j .serial .0
+    → i ≡ j

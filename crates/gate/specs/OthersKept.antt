@@ -135,7 +135,8 @@ module _ (g : Gate) (s : Serial) (table : List ℕ) (rest : Word) (masks : lengt
 
   -- for a room of another serial: only the bits of its records that were held before this feed
   pub rest-others : (i : ℕ) → isHeld (ticketIn (g .desk .tickets) i) ≡ true → (ticketIn (g .desk .tickets) i .serial .0 ≡ s .0 → ⊥)
-      → seenIn (restOf g s table rest .gate .seen) i .mask ≡ withBits (seenIn (g .seen) i .mask) (ofSerial (ticketIn (g .desk .tickets) i .serial .0) (held (g .desk .records)))
+      → seenIn (restOf g s table rest .gate .seen) i .mask ≡ withBits (seenIn (g .seen) i .mask)
+      (ofSerial (ticketIn (g .desk .tickets) i .serial .0) (held (g .desk .records)))
   rest-others i h n =
       rest-own .own i h
       ∙ ap (λ (l : List Record). withBits (seenIn (g .seen) i .mask) l) (fed-others (g .desk) s table rest r (ticketIn (g .desk .tickets) i .serial .0) n)
@@ -143,7 +144,8 @@ module _ (g : Gate) (s : Serial) (table : List ℕ) (rest : Word) (masks : lengt
 -- ---- a whole piece
 
 -- what each feed keeps, the whole keeps
-fed-keeps : (P : Gate → Type 0) (s : Serial) (table : List ℕ) (piece : Word) → ((x : Gate) (rest : Word) → P x → P (restOf x s table rest .gate)) → (most : ℕ) (g : Gate) (from : ℕ)
+fed-keeps : (P : Gate → Type 0) (s : Serial) (table : List ℕ) (piece : Word) → ((x : Gate) (rest : Word) → P x → P (restOf x s table rest .gate))
+    → (most : ℕ) (g : Gate) (from : ℕ)
     → P g → P (fedOn most g s table piece from .gate)
 unfolding fedOn
 fed-keeps P s table piece f zero g from p = p
@@ -154,7 +156,8 @@ fed-keeps P s table piece f (suc most) g from p =
     next = restOf g s table (drop from piece)
 
     go : (a b : Bool) → P (fedOn most (next .gate) s table piece (from + next .taken) .gate)
-        → P (cond a (cond b (record { gate = next .gate; taken = from }) (fedOn most (next .gate) s table piece (from + next .taken))) (record { gate = g; taken = from }) .gate)
+        → P (cond a (cond b (record { gate = next .gate; taken = from }) (fedOn most (next .gate) s table piece (from + next .taken)))
+        (record { gate = g; taken = from }) .gate)
     go true true q = f g (drop from piece) p
     go true false q = q
     go false b q = p
@@ -179,7 +182,8 @@ untouched-rest : (g : Gate) (s : Serial) (table : List ℕ) (x : Gate) (rest : W
 unfolding withBits ofSerial
 untouched-rest g s table x rest u = record {
   settled = settled-rest x s table rest (u .settled);
-  serials = λ i. ap (λ (l : List Ticket). ticketIn l i .serial) (emptied-none x d (good r .count) .1) ∙ fed-serials (x .desk) s table rest (u .settled .reached) i ∙ u .serials i;
+  serials = λ i. ap (λ (l : List Ticket). ticketIn l i .serial) (emptied-none x d (good r .count) .1)
+      ∙ fed-serials (x .desk) s table rest (u .settled .reached) i ∙ u .serials i;
   same = λ i n. one i (λ q. n (sym (ap (λ (m : Serial). m .0) (u .serials i)) ∙ q)) ∙ u .same i n;
 }
   where
@@ -214,16 +218,19 @@ piece-others g s table piece k i n = go (ltb room mostTickets) (eqb (ticketIn (g
     fed = fedOn (length piece) g s table piece 0
 
     all : Untouched g s (fed .gate)
-    all = fed-keeps (Untouched g s) s table piece (untouched-rest g s table) (length piece) g 0 (record { settled = k; serials = λ j. refl; same = λ j m. refl })
+    all = fed-keeps (Untouched g s) s table piece (untouched-rest g s table) (length piece) g 0
+        (record { settled = k; serials = λ j. refl; same = λ j m. refl })
 
     ended : (b : Bool) → room < mostTickets → seenIn (endedBy (fed .gate) room (fed .taken) b .gate .seen) i ≡ seenIn (g .seen) i
     ended true h = all .same i n
     ended false h =
         getD-set-other (fed .gate .seen) room i _ (record { mask = 0; unread = 1 })
-        (λ e. n (ap (λ (j : ℕ). ticketIn (g .desk .tickets) j .serial .0) e ∙ for-held s (ticketIn (g .desk .tickets) room) (room-held (g .desk) s (good (k .reached)) h) .1))
+        (λ e. n (ap (λ (j : ℕ). ticketIn (g .desk .tickets) j .serial .0) e
+        ∙ for-held s (ticketIn (g .desk .tickets) room) (room-held (g .desk) s (good (k .reached)) h) .1))
         ∙ all .same i n
 
-    go : (a b : Bool) → ltb room mostTickets ≡ a → seenIn (pieceBy g s room (ticketIn (g .desk .tickets) room) table piece a b .gate .seen) i ≡ seenIn (g .seen) i
+    go : (a b : Bool) → ltb room mostTickets ≡ a → seenIn (pieceBy g s room (ticketIn (g .desk .tickets) room) table piece a b .gate .seen) i ≡ seenIn
+        (g .seen) i
     go false b h = refl
     go true false h = refl
     go true true h = ended (eqb (fed .taken) (length piece)) (ltb-true room mostTickets h)
@@ -237,7 +244,12 @@ settled-new kind = record { masks = refl; reached = fromNew kind; none = refl }
 pub settled-change : (g : Gate) (order : Order) (run : Lent) → Settled g → Settled (changeOf g order (sizesOf run) .gate)
 unfolding changeOf
 settled-change g order run k =
-    record { masks = k .masks; reached = byCall (k .reached) (callReplace order run); none = ap held (go _ (replaces (g .desk) order (sizesOf run))) ∙ k .none }
+    record {
+      masks = k .masks;
+      reached = byCall (k .reached) (callReplace order run);
+      none = ap held (go _ (replaces (g .desk) order (sizesOf run)))
+          ∙ k .none;
+    }
   where
     go : (r : Replacing) → Replaces (g .desk) order (sizesOf run) r → r .desk .records ≡ g .desk .records
     go r (replace-fault fault e) = refl

@@ -35,7 +35,8 @@ reached-roomed g d w r = record { masks = w; rooms = good r .rooms; apart = reac
 -- what is kept for some rooms, before some records were noted and after
 pub record ToTheirOwn (rooms : List Ticket) (before after : List Seen) (records : List Record) : Type 0 where
   -- for a room that is held: the mask from before, with the bits of the records of its serial set, and of no others
-  pub own : (i : ℕ) → isHeld (ticketIn rooms i) ≡ true → seenIn after i .mask ≡ withBits (seenIn before i .mask) (ofSerial (ticketIn rooms i .serial .0) records)
+  pub own : (i : ℕ) → isHeld (ticketIn rooms i) ≡ true → seenIn after i .mask ≡ withBits (seenIn before i .mask)
+      (ofSerial (ticketIn rooms i .serial .0) records)
   -- for a free room: all as before
   pub free : (i : ℕ) → isHeld (ticketIn rooms i) ≡ false → seenIn after i ≡ seenIn before i
   -- for any room: unread or not, as before

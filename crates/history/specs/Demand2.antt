@@ -51,8 +51,13 @@ found-in ts v piece m h e i = (there, back)
     there x =
         let r = occurrencesBy-only (tagsEnding ts) (take m piece) v (length v) (record { end = e; tag = i }) x in
         let l : r .0 < m = omega (arith, r .1 .inside, size) in
-        let t = tagsEnding-has ts (v ++ take (suc (r .0)) (take m piece)) i .0 (r .1 .there) in
-        (omega (arith, r .1 .counted), omega (arith, r .1 .counted, l), t .0, subst (λ (u : Word). ends (getD ts i []) u ≡ true) (first (r .0) (r .1 .counted) l) (t .1))
+        let t = tagsEnding-has ts (v ++ take (suc (r .0)) (take m piece)) i .0 (r .1 .there) in (
+          omega (arith, r .1 .counted),
+          omega (arith, r .1 .counted, l),
+          t .0,
+          subst (λ (u : Word). ends (getD ts i []) u ≡ true)
+              (first (r .0) (r .1 .counted) l) (t .1),
+        )
 
     back : (length v < e) × (e ≤ length v + m) × (i < length ts) × (ends (getD ts i []) (take e (v ++ piece)) ≡ true)
         → List·Memᴰ (record { end = e; tag = i }) (occurrencesFrom ts v (length v) (take m piece))
@@ -71,9 +76,11 @@ module _ (n k : ℕ) (set run : List ℕ) (ts : List Word) (b : AsBuilt n k set 
   -- EACH READING, after any input, is as the demand has it, its new place too
   pub each-reading : (v piece : Word) (list : ℕ) → Below 256 v → Below 256 piece
       → DemandedRead n k ts v piece list (readOf n k table (placeAfter n ts 0 k v) (length v) piece list)
-  each-reading v piece list hv hp = subst (DemandedRead n k ts v piece list) (sym (read-is n k set run ts b v piece list hv hp)) (go (ltb largest (length v + length piece)) refl)
+  each-reading v piece list hv hp = subst (DemandedRead n k ts v piece list) (sym (read-is n k set run ts b v piece list hv hp))
+      (go (ltb largest (length v + length piece)) refl)
     where
-      go : (long : Bool) → ltb largest (length v + length piece) ≡ long → DemandedRead n k ts v piece list (readBy (expected n k ts v (length v) (list / 2) piece) true long)
+      go : (long : Bool) → ltb largest (length v + length piece) ≡ long
+          → DemandedRead n k ts v piece list (readBy (expected n k ts v (length v) (list / 2) piece) true long)
       go true e = isLong (ltb-true _ _ e)
       go false e =
           let d = expected-done n k ts piece v (length v) (list / 2) in
@@ -87,7 +94,8 @@ module _ (n k : ℕ) (set run : List ℕ) (ts : List Word) (b : AsBuilt n k set 
       ↔ ((length v < e) × (e ≤ length v + r .taken) × (i < length ts) × (ends (getD ts i []) (take e (v ++ piece)) ≡ true))
   found-iff v piece list hv hp r q e i =
       subst (λ (x : Outcome). Found-iff x) (sym (read-did n k set run ts b v piece list hv hp r q))
-      (subst (λ (l : List Occurrence). List·Memᴰ (record { end = e; tag = i }) l ↔ Here (x .taken)) (sym (d .found)) (found-in ts v piece (x .taken) (d .part) e i))
+      (subst (λ (l : List Occurrence). List·Memᴰ (record { end = e; tag = i }) l ↔ Here (x .taken)) (sym (d .found))
+      (found-in ts v piece (x .taken) (d .part) e i))
     where
       x : Outcome
       x = expected n k ts v (length v) (list / 2) piece

@@ -49,14 +49,16 @@ first-part kind calls b left k h =
     ap (λ (n : ℕ). recordsFor n (stream (run (start kind) calls))) (v .numbered k h) ∙ v .records left k h
 
 -- and no others: where no opening answered a serial, there is no record of it
-pub no-others : (kind : Kind) (calls : List Call) → AllBytes calls → (n : ℕ) → ((k : ℕ) → k < length (run (start kind) calls .accounts) → accountAt (run (start kind) calls) k .serial ≡ n → ⊥)
+pub no-others : (kind : Kind) (calls : List Call) → AllBytes calls → (n : ℕ)
+    → ((k : ℕ) → k < length (run (start kind) calls .accounts) → accountAt (run (start kind) calls) k .serial ≡ n → ⊥)
     → recordsFor n (stream (run (start kind) calls)) ≡ []
 no-others kind calls b n h = go (known-or-not (run (start kind) calls) v n)
   where
     v : Inv (AsLeft (start kind) calls) (run (start kind) calls)
     v = sound kind calls b .inv
 
-    go : ((k : ℕ) × (k < length (run (start kind) calls .accounts)) × (n ≡ suc k)) ⊎ Stranger (length (run (start kind) calls .accounts)) n → recordsFor n (stream (run (start kind) calls)) ≡ []
+    go : ((k : ℕ) × (k < length (run (start kind) calls .accounts)) × (n ≡ suc k)) ⊎ Stranger (length (run (start kind) calls .accounts)) n
+        → recordsFor n (stream (run (start kind) calls)) ≡ []
     go (inl z) = absurd (h (z .0) (z .1) (v .numbered (z .0) (z .1) ∙ sym (z .2)))
     go (inr z) = v .nobody n z
 
@@ -90,7 +92,8 @@ pub record SameTickets (w v : World) : Type 0 where
 -- following; and there no call is refused, and each feed is lent the table as left
 pub second-part : (kind : Kind) (calls : List Call) → AllBytes calls → AsLeft (start kind) calls → (cut : ℕ → List Word)
     → ((k : ℕ) → k < length (run (start kind) calls .accounts) → joined (cut k) ≡ accountAt (run (start kind) calls) k .bytes)
-    → NoneRefused (start kind) (serving kind cut (run (start kind) calls)) × AsLeft (start kind) (serving kind cut (run (start kind) calls)) × SameTickets (run (start kind) calls) (run (start kind) (serving kind cut (run (start kind) calls)))
+    → NoneRefused (start kind) (serving kind cut (run (start kind) calls)) × AsLeft (start kind) (serving kind cut (run (start kind) calls))
+    × SameTickets (run (start kind) calls) (run (start kind) (serving kind cut (run (start kind) calls)))
 second-part kind calls b left cut cuts = (
   c .none,
   c .left,

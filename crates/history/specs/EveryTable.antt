@@ -31,7 +31,8 @@ use Rattle.reading.specs.Outside.{readBy, readOf, readTo}
 use native.Mathlib.Nat.{le-trans}
 
 -- BY END, THEN BY TAG NUMBER: over any table the records that a read writes come so, and none twice
-pub read-ordered : (n k : ℕ) (table place : List ℕ) (count : ℕ) (piece : Word) (list : ℕ) (r : Outcome) → readOf n k table place count piece list ≡ readTo r → Ordered (r .found)
+pub read-ordered : (n k : ℕ) (table place : List ℕ) (count : ℕ) (piece : Word) (list : ℕ) (r : Outcome) → readOf n k table place count piece list ≡ readTo r
+    → Ordered (r .found)
 unfolding readOf
 read-ordered n k table place count piece list r = go (allBelow s place) (ltb largest (count + length piece))
   where

@@ -38,14 +38,16 @@ among-own n (x ∷ rs) r m e = go (List·Memᴰ·cases-cons m) (λ k. among-own 
     put true k = List·Memᴰ·tail k
     put false k = k
 
-    go : (r ≡ x) ⊎ List·Memᴰ r rs → (List·Memᴰ r rs → List·Memᴰ r (recordsFor n rs)) → List·Memᴰ r (cond (eqb (x .serial .0) n) (x ∷ recordsFor n rs) (recordsFor n rs))
+    go : (r ≡ x) ⊎ List·Memᴰ r rs → (List·Memᴰ r rs → List·Memᴰ r (recordsFor n rs))
+        → List·Memᴰ r (cond (eqb (x .serial .0) n) (x ∷ recordsFor n rs) (recordsFor n rs))
     go (inl q) f =
         let h : x .serial .0 ≡ n = ap (λ (y : Record). y .serial .0) (sym q) ∙ e in
         rw (is-true (eqb (x .serial .0) n) (rw h (eqb-refl n))) (List·Memᴰ·head q)
     go (inr k) f = put (eqb (x .serial .0) n) (f k)
 
 -- a record that is made of occurrences is made of one of them
-made-of : (s : Serial) (e : Edition) (os : List Occurrence) (r : Record) → List·Memᴰ r (recordsOf s e os) → (o : Occurrence) × List·Memᴰ o os × (r ≡ recordOf s e o)
+made-of : (s : Serial) (e : Edition) (os : List Occurrence) (r : Record) → List·Memᴰ r (recordsOf s e os)
+    → (o : Occurrence) × List·Memᴰ o os × (r ≡ recordOf s e o)
 made-of s e [] r m = absurd (List·Memᴰ·not-nil m)
 made-of s e (o ∷ os) r m = go (List·Memᴰ·cases-cons m) (made-of s e os r)
   where
@@ -55,7 +57,8 @@ made-of s e (o ∷ os) r m = go (List·Memᴰ·cases-cons m) (made-of s e os r)
     go (inr k) f = let z = f k in (z .0, List·Memᴰ·tail (z .1), z .2)
 
 -- after any history, of every record taken out or held
-pub old-tags-only : (kind : Kind) (calls : List Call) → AllBytes calls → AsLeft (start kind) calls → (k : ℕ) → k < length (run (start kind) calls .accounts) → (r : Record) → List·Memᴰ r (stream (run (start kind) calls))
+pub old-tags-only : (kind : Kind) (calls : List Call) → AllBytes calls → AsLeft (start kind) calls → (k : ℕ) → k < length (run (start kind) calls .accounts)
+    → (r : Record) → List·Memᴰ r (stream (run (start kind) calls))
     → r .serial .0 ≡ accountAt (run (start kind) calls) k .serial → Truthful (accountAt (run (start kind) calls) k) r
 old-tags-only kind calls b left k h r m e = record {
   edition = ap (λ (x : Record). x .edition .0) (z .2);

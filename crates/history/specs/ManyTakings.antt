@@ -64,7 +64,8 @@ pub many-are-takings : (w : World) (list : List ℕ) → ManyTakings w list
 unfolding takeManyOf listTaken
 many-are-takings w list = record {
   count = ap (λ (k : ℕ). min k (length list / 4)) (sym (held-length (w .desk .records)));
-  takings = ap (λ (l : List Record). withOut w (takeManyOf (w .desk) (length list) .desk) (w .out ++ l)) (sym (oldest-take n (w .desk .records) few)) ∙ sym all;
+  takings = ap (λ (l : List Record). withOut w (takeManyOf (w .desk) (length list) .desk) (w .out ++ l)) (sym (oldest-take n (w .desk .records) few))
+      ∙ sym all;
   each = ap length handed ∙ oldest-length n (w .desk .records);
   written = ap (λ (l : List Record). recordNumbers l ++ drop (4 * n) list) (sym handed);
 }

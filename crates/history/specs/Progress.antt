@@ -36,14 +36,16 @@ open-has : (d : Desk) (s : Serial) (e : Edition) (n : ℕ) → stateOf d s ≡ A
     → (roomOf (d .tickets) s < mostTickets) × (ticketIn (d .tickets) (roomOf (d .tickets) s) .edition .0 ≡ d .edition .0)
 open-has d s e n = go _ (states d s)
   where
-    go : (a : StateAnswer) → States d s a → a ≡ A.Open e n → (roomOf (d .tickets) s < mostTickets) × (ticketIn (d .tickets) (roomOf (d .tickets) s) .edition .0 ≡ d .edition .0)
+    go : (a : StateAnswer) → States d s a → a ≡ A.Open e n → (roomOf (d .tickets) s < mostTickets) ×
+        (ticketIn (d .tickets) (roomOf (d .tickets) s) .edition .0 ≡ d .edition .0)
     go a (state-never h x) z = differ cc
     go a (state-closed h x y) z = differ cc
     go a (state-stale t q h x) z = differ cc
     go a (state-open t q h x) z = (h, ap (λ (y : Ticket). y .edition .0) (sym q) ∙ x)
 
 -- no byte has more matches than there are tags, and an empty list has room for a record of each
-pub takes-a-byte : (kind : Kind) (calls : List Call) → AllBytes calls → (s : Serial) → HasRoom (run (start kind) calls .desk) s → Current (run (start kind) calls .desk) s
+pub takes-a-byte : (kind : Kind) (calls : List Call) → AllBytes calls → (s : Serial) → HasRoom (run (start kind) calls .desk) s
+    → Current (run (start kind) calls .desk) s
     → NoneHeld (run (start kind) calls .desk) → (c : ℕ) (piece : Word)
     → (feedOf (run (start kind) calls .desk) s (run (start kind) calls .table) (c ∷ piece) .answer ≡ F.Long → ⊥)
     → 0 < takenBy (feedOf (run (start kind) calls .desk) s (run (start kind) calls .table) (c ∷ piece) .answer)
@@ -74,8 +76,10 @@ takes-a-byte kind calls b s room current empty c piece not-long = go _ (feeds d 
         let t = ticketOf d s in
         let g = good (v .reached) in
         let p = g .places (roomOf (d .tickets) s) (for-held s t (room-held d s g h) .0) in
-        let edition : 0 < d .edition .0 = omega (arith, current, agrees w v s (here .0) (here .1) (here .2) room .edition, v .kept (here .0) (here .1) .from) in
-        desk-goes-on (w .table) (accountAt w (here .0) .tags) (d .slots) (in-force .holds) (in-force .slots-are) (g .slots edition) (t .place) (p .width) (p .below e)
+        let edition : 0 < d .edition .0 = omega
+        (arith, current, agrees w v s (here .0) (here .1) (here .2) room .edition, v .kept (here .0) (here .1) .from) in
+        desk-goes-on (w .table) (accountAt w (here .0) .tags) (d .slots) (in-force .holds) (in-force .slots-are) (g .slots edition) (t .place) (p .width)
+        (p .below e)
         (t .taken) (mostRecords - d .records .count) c piece (omega (arith, empty))
 
 -- PROGRESS: once the list is empty, a nonempty piece on an open ticket, not LONG and over the table as left, advances, whatever tables earlier feeds

@@ -74,5 +74,6 @@ pub data Demanded (tags : Tags) (v piece : Word) (room : ℕ) : Outcome → Type
 -- demanded, and its new place is the place after the bytes that it has taken
 pub data DemandedRead (n k : ℕ) (ts : List Word) (v piece : Word) (list : ℕ) : ReadOf → Type 0 where
   isLong : largest < length v + length piece → DemandedRead n k ts v piece list (refusedRead Long)
-  isRead : length v + length piece ≤ largest → (r : Outcome) → Demanded (exact ts) v piece (list / 2) r → r .place ≡ placeAfter n ts 0 k (v ++ take (r .taken) piece)
+  isRead : length v + length piece ≤ largest → (r : Outcome) → Demanded (exact ts) v piece (list / 2) r
+      → r .place ≡ placeAfter n ts 0 k (v ++ take (r .taken) piece)
       → DemandedRead n k ts v piece list (readTo r)

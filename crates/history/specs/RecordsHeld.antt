@@ -18,7 +18,6 @@ use Rattle.desk.specs.declared.Record.{Record}
 use Rattle.desk.specs.declared.Serial.{Serial}
 use Rattle.matching.specs.Occurrence.{Occurrence, Ordered}
 use Rattle.matching.specs.Words.{Word}
-use Rattle.matching.specs.declared.Stop.{Stop}
 use Rattle.history.specs.History.{Account, World, recordsFor, stream}
 use Rattle.matching.specs.Tags.{foundIn}
 use Rattle.desk.specs.declared.Advance.{Advance}

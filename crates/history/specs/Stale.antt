@@ -42,14 +42,16 @@ use Rattle.desk.specs.Layout.{Kind, Lent, Order, OrderBytes, sizesOf}
 use Rattle.desk.specs.Reached.{Call, callReplace}
 use Rattle.desk.specs.Limits.{mostTickets}
 
--- what the desk says of a ticket that is older than the set: it is stale with its edition and its bytes taken, or closed if it was closed; a feed is refused, over every table; and
+-- what the desk says of a ticket that is older than the set: it is stale with its edition and its bytes taken, or closed if it was closed; a feed is
+-- refused, over every table; and
 -- while it is stale it can be closed
 pub record Older (w : World) (a : Account) : Type 0 where
   pub stale-state : a .closed ≡ false → stateOf (w .desk) (serialOf (a .serial)) ≡ A.Stale (editionOf (a .edition)) (length (a .bytes))
   pub closed-state : a .closed ≡ true → stateOf (w .desk) (serialOf (a .serial)) ≡ A.Closed
   pub stale-feed : a .closed ≡ false → (table : Lent) (piece : Word)
       → feedOf (w .desk) (serialOf (a .serial)) table piece ≡ record { desk = w .desk; answer = F.Stale (editionOf (a .edition)) }
-  pub closed-feed : a .closed ≡ true → (table : Lent) (piece : Word) → feedOf (w .desk) (serialOf (a .serial)) table piece ≡ record { desk = w .desk; answer = F.NoTicket }
+  pub closed-feed : a .closed ≡ true → (table : Lent) (piece : Word) → feedOf (w .desk) (serialOf (a .serial)) table piece
+      ≡ record { desk = w .desk; answer = F.NoTicket }
   pub stale-close : a .closed ≡ false → closeOf (w .desk) (serialOf (a .serial)) .answer ≡ C.Closed
   pub closed-close : a .closed ≡ true → closeOf (w .desk) (serialOf (a .serial)) ≡ record { desk = w .desk; answer = C.NoTicket }
 
@@ -84,7 +86,8 @@ module _ {Left : Type 0} (w : World) (v : Inv Left w) (k : ℕ) (hk : k < length
       older : ticketIn (w .desk .tickets) (roomOf (w .desk .tickets) s) .edition .0 ≡ w .desk .edition .0 → ⊥
       older e = omega (arith, e, room .1 .edition, old, v .edition)
 
-      go : (r : Feeding) → Feeds (w .desk) (roomOf (w .desk .tickets) s) table piece r → r ≡ record { desk = w .desk; answer = F.Stale (editionOf (a .edition)) }
+      go : (r : Feeding) → Feeds (w .desk) (roomOf (w .desk .tickets) s) table piece r
+          → r ≡ record { desk = w .desk; answer = F.Stale (editionOf (a .edition)) }
       go r (feed-no-ticket h) = absurd (omega (arith, h, room .0))
       go r (feed-stale h e) = λ d. record { desk = w .desk; answer = F.Stale (record { 0 = room .1 .edition d }) }
       go r (feed-other-slots h e n) = absurd (older e)
@@ -133,7 +136,8 @@ replaced-all-stale kind calls b order table c e count = go _ (replaces (w .desk)
     number : {x : Edition} {m : ℕ} → R.Replaced x m ≡ R.Replaced e count → x .0 ≡ e .0
     number q = cc
 
-    go : (r : Replacing) → Replaces (w .desk) order (sizesOf table) r → Inv (AsLeft (start kind) calls) (replacing w order table (r .desk) (r .answer)) → r .answer ≡ R.Replaced e count
+    go : (r : Replacing) → Replaces (w .desk) order (sizesOf table) r → Inv (AsLeft (start kind) calls) (replacing w order table (r .desk) (r .answer))
+        → r .answer ≡ R.Replaced e count
         → AllOlder w (replacing w order table (r .desk) (r .answer)) e
     go r (replace-fault fault p) i q = differ cc
     go r (replace-table machine short p) i q = differ cc

@@ -51,7 +51,8 @@ data Shows (w : World) (s : Serial) : StateAnswer → Type 0 where
 shows : {Left : Type 0} (w : World) → Inv Left w → (s : Serial) → Shows w s (stateOf (w .desk) s)
 shows w v s = go (known-or-not w v (s .0))
   where
-    by : (k : ℕ) → IsOf w s k → (c : Bool) → accountAt w k .closed ≡ c → (e : Bool) → eqb (accountAt w k .edition) (w .edition) ≡ e → Shows w s (stateBy (editionOf (accountAt w k .edition)) (length (accountAt w k .bytes)) (not c) e true)
+    by : (k : ℕ) → IsOf w s k → (c : Bool) → accountAt w k .closed ≡ c → (e : Bool) → eqb (accountAt w k .edition) (w .edition) ≡ e
+        → Shows w s (stateBy (editionOf (accountAt w k .edition)) (length (accountAt w k .bytes)) (not c) e true)
     by k i true c e q = shows-closed k i c
     by k i false c true q = shows-open k (record { inside = i .inside; serial = i .serial; not-closed = c }, eqb-true _ _ q)
     by k i false c false q =
@@ -70,7 +71,8 @@ shows w v s = go (known-or-not w v (s .0))
         no (inr e) k i = omega (arith, e, i .serial, v .numbered k (i .inside), i .inside)
 
 -- NEVER GIVEN, CLOSED, STALE OR OPEN: after any history the desk shows of every serial what its account says
-pub states-are : (kind : Kind) (calls : List Call) → AllBytes calls → (s : Serial) → StatesAre (run (start kind) calls) s (stateOf (run (start kind) calls .desk) s)
+pub states-are : (kind : Kind) (calls : List Call) → AllBytes calls → (s : Serial)
+    → StatesAre (run (start kind) calls) s (stateOf (run (start kind) calls .desk) s)
 states-are kind calls b s = go _ (shows w v s)
   where
     w : World

@@ -72,7 +72,8 @@ module _ {places : ℕ} {ts : List Word} {m len : ℕ} (fit : Fit places ts) (ro
   pub root-room : m < len
   root-room = omega (arith, roomy .room, cell-fits m 0 m (states ts) (first-low ts) (le-refl m), zero-mul (m + 1))
 
-  pub fill-start : {l at fail : List ℕ} → Planted ts m (states ts) l → len ≡ length l → (z : ℕ) → z ≡ vector ts [] → at ≡ replicate 16 0 → fail ≡ replicate 16 0
+  pub fill-start : {l at fail : List ℕ} → Planted ts m (states ts) l → len ≡ length l → (z : ℕ) → z ≡ vector ts [] → at ≡ replicate 16 0
+      → fail ≡ replicate 16 0
       → Level ts m 0 0 at fail (set l m z)
   fill-start {l} {at} {fail} p e z ez ea ef =
       level-start ts m at fail l z (p .sown) (omega (arith, root-room)) ez (zeros at ea) (zeros fail ef) (ap {B = ℕ} length ea) (ap {B = ℕ} length ef)

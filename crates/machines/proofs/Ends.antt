@@ -48,9 +48,12 @@ ends-longer x u w =
         let s = ends-split (x ∷ u) w h in
         let v = s .0 in
         let e : w ≡ v ++ x ∷ u = s .1 in
-        and-both (ends u w) (ltb (length u) (length w) && eqb (getD w (length w - 1 - length u) 0) x) (rw (e, ← append-snoc v x u) (ends-append (v ++ x ∷ []) u))
-        (and-both (ltb (length u) (length w)) (eqb (getD w (length w - 1 - length u) 0) x) (lt-ltb (length u) (length w) (omega (arith, ap {B = ℕ} length e, length-append v (x ∷ u))))
-        (eq-eqb (getD w (length w - 1 - length u) 0) x (ap (λ (i : ℕ). getD w i 0) (at v e) ∙ ap (λ (l : Word). getD l (length v) 0) e ∙ getD-append-seam v x u 0)))
+        and-both (ends u w) (ltb (length u) (length w) && eqb (getD w (length w - 1 - length u) 0) x)
+        (rw (e, ← append-snoc v x u) (ends-append (v ++ x ∷ []) u))
+        (and-both (ltb (length u) (length w)) (eqb (getD w (length w - 1 - length u) 0) x)
+        (lt-ltb (length u) (length w) (omega (arith, ap {B = ℕ} length e, length-append v (x ∷ u))))
+        (eq-eqb (getD w (length w - 1 - length u) 0) x
+        (ap (λ (i : ℕ). getD w i 0) (at v e) ∙ ap (λ (l : Word). getD l (length v) 0) e ∙ getD-append-seam v x u 0)))
 
     from : (ends u w && (ltb (length u) (length w) && eqb (getD w (length w - 1 - length u) 0) x)) ≡ true → ends (x ∷ u) w ≡ true
     from h =

@@ -115,7 +115,8 @@ module _ (us : List Word) (w : Word) where
       let some : same (take (suc i) w) [] ≡ false = ne-same (take (suc i) w) [] (λ e. omega (arith, ap {B = ℕ} length e)) in
       let less : begins (take (suc i) w) (take i w) ≡ false = begins-short (take (suc i) w) (take i w) (omega (arith, length-take-le i w (omega arith))) in
       among-prefixes (us ++ take i w ∷ []) (take (suc i) w)
-      ∙ rw (some, beginsOne-snoc (take (suc i) w) us (take i w), less) (or-false-right (beginsOne (take (suc i) w) us) ∙ begins-known (suc i) us w (omega arith) (omega arith))
+      ∙ rw (some, beginsOne-snoc (take (suc i) w) us (take i w), less)
+      (or-false-right (beginsOne (take (suc i) w) us) ∙ begins-known (suc i) us w (omega arith) (omega arith))
     where
       or-false-right : (b : Bool) → (b || false) ≡ b
       or-false-right true = refl

@@ -41,7 +41,8 @@ module _ (ts : List Word) (m : ℕ) where
               state = a u k ∙ sym (indexOf-nil ts);
               failed = f u k ∙ sym (ap (λ (w : Word). indexOf w (prefixes ts)) (longest-nil (prefixes ts)) ∙ indexOf-nil ts);
             };
-        blank = λ j h. other j (λ i. omega (arith, cell-fits m 0 m (states ts) (first-low ts) (le-refl m), zero-mul (m + 1))) ∙ S .blank j (rw (states-is ts) h);
+        blank = λ j h. other j (λ i. omega (arith, cell-fits m 0 m (states ts) (first-low ts) (le-refl m), zero-mul (m + 1)))
+            ∙ S .blank j (rw (states-is ts) h);
         roomA = ra;
         roomF = rf;
       }
@@ -124,7 +125,8 @@ tail-less : (w : Word) → length (tail w) ≤ length w - 1
 tail-less [] = omega arith
 tail-less (x ∷ w) = omega arith
 
-module _ {ts : List Word} {m d t : ℕ} {at fail l : List ℕ} (L : Level ts m d t at fail l) (ht : t < length ts) (w : Word) (ew : w ≡ getD ts t []) (hd : d < length w)
+module _ {ts : List Word} {m d t : ℕ} {at fail l : List ℕ} (L : Level ts m d t at fail l) (ht : t < length ts) (w : Word) (ew : w ≡ getD ts t [])
+    (hd : d < length w)
     (c : ℕ) (hc : c ≡ getD w d 0) (low : c < m) where
   deep : d < length (getD ts t [])
   deep = rw ew at hd
@@ -210,12 +212,14 @@ module _ {ts : List Word} {m d t : ℕ} {at fail l : List ℕ} (L : Level ts m d
             let e : t ≡ u = omega arith in
             subst (λ (n : ℕ). Done ts m (indexOf (take (d + 1) (getD ts n [])) (prefixes ts)) l′) e new
 
-        gone-at : (u : ℕ) → d < length (getD ts u []) → Dec (u < t) → u < t + 1 → Place (prefixes ts) (getD ts u []) (d + 1) (getD (set at t q) u 0) (getD (set fail t x) u 0)
+        gone-at : (u : ℕ) → d < length (getD ts u []) → Dec (u < t) → u < t + 1
+            → Place (prefixes ts) (getD ts u []) (d + 1) (getD (set at t q) u 0) (getD (set fail t x) u 0)
         gone-at u k (yes j) h = rw (getD-set-other at t u q 0 (λ e. omega arith), getD-set-other fail t u x 0 (λ e. omega arith)) (L .gone u j k)
         gone-at u k (no j) h =
             let e : t ≡ u = omega arith in
             subst (λ (n : ℕ). Place (prefixes ts) (getD ts n []) (d + 1) (getD (set at t q) n 0) (getD (set fail t x) n 0)) e
-            (rw (getD-set-same at t q 0 (omega (arith, L .roomA)), getD-set-same fail t x 0 (omega (arith, L .roomF))) (record { state = state-next; failed = fail-next }))
+            (rw (getD-set-same at t q 0 (omega (arith, L .roomA)), getD-set-same fail t x 0 (omega (arith, L .roomF)))
+            (record { state = state-next; failed = fail-next }))
 
     module _ (few : length ts ≤ 16) where
       -- the slot was made by a tag that has this front too
@@ -225,7 +229,8 @@ module _ {ts : List Word} {m d t : ℕ} {at fail l : List ℕ} (L : Level ts m d
           earlier : Front (take t ts) (take (d + 1) (getD ts t []))
           earlier =
               front-of (take t ts) (take (d + 1) (getD ts t []))
-              (begins-known (d + 1) (take t ts) (getD ts t []) (omega arith) (omega (arith, deep)) ∙ le-leb (d + 1) (known (take t ts) (getD ts t [])) (omega arith))
+              (begins-known (d + 1) (take t ts) (getD ts t []) (omega arith) (omega (arith, deep))
+              ∙ le-leb (d + 1) (known (take t ts) (getD ts t [])) (omega arith))
 
           made : Done ts m (indexOf (take (d + 1) (getD ts t [])) (prefixes ts)) l
           made =
@@ -250,7 +255,8 @@ module _ {ts : List Word} {m d t : ℕ} {at fail l : List ℕ} (L : Level ts m d
           from : Done ts m x l
           from =
               rw fail-next
-              (L .rows (longest (prefixes ts) (tail (take (d + 1) (getD ts t [])))) (longest-among (prefixes ts) (tail (take (d + 1) (getD ts t []))) (tree ts .root))
+              (L .rows (longest (prefixes ts) (tail (take (d + 1) (getD ts t []))))
+              (longest-among (prefixes ts) (tail (take (d + 1) (getD ts t []))) (tree ts .root))
               (omega (arith, longest-length (prefixes ts) (tail (take (d + 1) (getD ts t []))), tail-less (take (d + 1) (getD ts t [])), long)))
 
           new : Done ts m q l′

@@ -99,7 +99,8 @@ root-done ts m z l S room e =
 -- ---- any other slot
 
 module _ (ts : List Word) (m q x : ℕ) (l₀ l : List ℕ) (z : ℕ) (M : Made m q x z l₀ l) where
-  pub done-slot : (vv : Word) → 0 < length vv → among vv (prefixes ts) ≡ true → q ≡ indexOf vv (prefixes ts) → x ≡ indexOf (longest (prefixes ts) (tail vv)) (prefixes ts)
+  pub done-slot : (vv : Word) → 0 < length vv → among vv (prefixes ts) ≡ true → q ≡ indexOf vv (prefixes ts)
+      → x ≡ indexOf (longest (prefixes ts) (tail vv)) (prefixes ts)
       → z ≡ vector ts vv → ((c : ℕ) → c < m → Cell ts q c (getD l₀ (cell m q c) 0)) → Done ts m x l₀ → Done ts m q l
   unfolding failure
   done-slot [] h a eq ex ez cells D = absurd (omega arith)

@@ -25,7 +25,8 @@ use Rattle.matching.specs.Machine.{prefixes, states, withTags, withWord}
 use Rattle.matching.specs.Words.{Word, among, indexOf}
 
 -- only the empty word is state 0
-pub index-pos : (ps : List Word) → among [] ps ≡ true → indexOf [] ps ≡ 0 → (v : Word) (c : ℕ) → among (v ++ c ∷ []) ps ≡ true → indexOf (v ++ c ∷ []) ps ≡ 0 → ⊥
+pub index-pos : (ps : List Word) → among [] ps ≡ true → indexOf [] ps ≡ 0 → (v : Word) (c : ℕ) → among (v ++ c ∷ []) ps ≡ true → indexOf (v ++ c ∷ []) ps ≡ 0
+    → ⊥
 index-pos ps root first v c h z =
     let e : v ++ c ∷ [] ≡ [] =
     sym (getD-indexOf (v ++ c ∷ []) ps h) ∙ ap (λ (n : ℕ). getD ps n []) (z ∙ sym first) ∙ getD-indexOf [] ps root in
@@ -37,7 +38,8 @@ module _ (P : List Word) (m : ℕ) (l : List ℕ) (c k q : ℕ) (S : Sown P m l)
     (hk : k ≡ length P) (hq : q < length P) (hc : c < m) (room : cell m q c < length l) where
   -- what is true of a list and a count after the step
   abbrev Stepped : List Word → Type 0
-  Stepped Q = Sown Q m (sownAt l (cell m q c) k) × (sownCount l (cell m q c) k ≡ length Q) × (getD (sownAt l (cell m q c) k) (cell m q c) 0 ≡ indexOf (getD P q [] ++ c ∷ []) Q)
+  Stepped Q = Sown Q m (sownAt l (cell m q c) k) × (sownCount l (cell m q c) k ≡ length Q)
+      × (getD (sownAt l (cell m q c) k) (cell m q c) 0 ≡ indexOf (getD P q [] ++ c ∷ []) Q)
 
   module _ (old : among (getD P q [] ++ c ∷ []) P ≡ true) where
     full : eqb (getD l (cell m q c) 0) 0 ≡ false
@@ -155,7 +157,8 @@ pub record Here (m q c k len : ℕ) : Type 0 where
   pub room : cell m q c < len
   pub few : k ≤ 513
 
-module _ {places : ℕ} {ts : List Word} {m t count : ℕ} {l₀ : List ℕ} (p : Planting places ts m t count l₀) (ht : t < length ts) (w : Word) (ew : w ≡ getD ts t [])
+module _ {places : ℕ} {ts : List Word} {m t count : ℕ} {l₀ : List ℕ} (p : Planting places ts m t count l₀) (ht : t < length ts) (w : Word)
+    (ew : w ≡ getD ts t [])
     {i k q : ℕ} {l : List ℕ} (long : length l ≡ length l₀) (path : Path (take t ts) w m i k q l) where
   within : i ≤ length w → k ≤ states ts
   within h = omega (arith, path .planted .counted, ap (λ (x : Word). states (take t ts ++ take i x ∷ [])) ew, states-within ts t ht i (rw ew at h))
@@ -212,7 +215,12 @@ plant-none m l z =
     none : (q c : ℕ) → among (getD {A = Word} ([] ∷ []) q [] ++ c ∷ []) ([] ∷ []) ≡ false
     none q c =
         is-false _
-        (λ h. omega (arith, ap {B = ℕ} length (among-one (getD {A = Word} ([] ∷ []) q [] ++ c ∷ []) [] h), length-append (getD {A = Word} ([] ∷ []) q []) (c ∷ [])))
+        (λ h. omega (
+          arith,
+          ap {B = ℕ} length (among-one (getD {A = Word} ([] ∷ []) q [] ++ c ∷ []) [] h),
+          length-append (getD {A = Word} ([] ∷ []) q [])
+              (c ∷ []),
+        ))
 
 pub plant-first : {places : ℕ} {ts : List Word} {m len : ℕ} {l : List ℕ} → Fit places ts → Roomy ts m len → length l ≡ len → ((j : ℕ) → getD l j 0 ≡ 0)
     → Planting places ts m 0 1 l

@@ -1,7 +1,7 @@
 // The tree of the prefixes, in the nexts of a machine's slots: a state's children, and 0 where it has none. A machine of m letters has
 // m nexts and a vector in a slot.
 ghost use mathlib.Core.Path.{_≡_};
-ghost use mathlib.Core.List.{List, []};
+ghost use mathlib.Core.List.{List};
 ghost use Prim.Native.Nat.{ℕ, _+_, _<_};
 ghost use lib.ListN.{length, getD, take};
 ghost use Rattle.matching.specs.Words.{Word};

@@ -21,7 +21,8 @@ use Rattle.matching.specs.Slicing.{anded, reduced, slice}
 use Rattle.matching.specs.Stepping.{readBy, stepped}
 use Rattle.matching.specs.Table.{built, laid, roomFrom, slot, slots, spot, tagsFor}
 use Rattle.matching.specs.Words.{among, ends, indexOf, same}
-use Rattle.samples.specs.Sets.{a-record, calls-254, calls-255, calls-closed, calls-half, calls-open, asSet, at, ers, he-set, hishers, hx, later, long, one-two, singles, split, startPlace, tags, two, ush, ushers}
+use Rattle.samples.specs.Sets.{a-record, calls-254, calls-255, calls-closed, calls-half, calls-open, asSet, at, ers, he-set, hishers, hx, later, long}
+use Rattle.samples.specs.Sets.{one-two, singles, split, startPlace, tags, two, ush, ushers}
 use Rattle.tables.specs.Building.{builtOf, tableOf}
 use Rattle.tagset.specs.Answer.{along, cutAt, setRead, tagsLie}
 use Rattle.tagset.specs.Grammar.{distinct, entriesFrom, entryOf, goodSet, badSet, setOf}
@@ -77,18 +78,22 @@ pub record OfReading : Type 0 where
 pub record OfDesk : Type 0 where
   -- 9: 254 records held, tags a, aa, piece "aa"
   pub sample-9-held : run (start oneBit) calls-254 .desk .records .count ≡ 254
-  pub sample-9 : feedOf (run (start oneBit) calls-254 .desk) (serialOf 3) (run (start oneBit) calls-254 .table) (97 ∷ 97 ∷ []) .answer ≡ F.Fed (advance 1 1 S.Full)
+  pub sample-9 : feedOf (run (start oneBit) calls-254 .desk) (serialOf 3) (run (start oneBit) calls-254 .table) (97 ∷ 97 ∷ []) .answer
+      ≡ F.Fed (advance 1 1 S.Full)
   -- 10: with 255 held a byte with one match is taken, and one with two is not
   pub sample-10-held : run (start oneBit) calls-255 .desk .records .count ≡ 255
-  pub sample-10-one : feedOf (run (start oneBit) calls-255 .desk) (serialOf 3) (run (start oneBit) calls-255 .table) (97 ∷ []) .answer ≡ F.Fed (advance 1 1 S.All)
-  pub sample-10-two : feedOf (run (start oneBit) calls-255 .desk) (serialOf 4) (run (start oneBit) calls-255 .table) (97 ∷ []) .answer ≡ F.Fed (advance 0 0 S.Full)
+  pub sample-10-one : feedOf (run (start oneBit) calls-255 .desk) (serialOf 3) (run (start oneBit) calls-255 .table) (97 ∷ []) .answer
+      ≡ F.Fed (advance 1 1 S.All)
+  pub sample-10-two : feedOf (run (start oneBit) calls-255 .desk) (serialOf 4) (run (start oneBit) calls-255 .table) (97 ∷ []) .answer
+      ≡ F.Fed (advance 0 0 S.Full)
   -- 12: "ush" then "ers" gives the records of "ushers"
   pub sample-12 : stream (run (start oneBit) (calls-open ++ callFeed (serialOf 1) (split 10 tags) ush ∷ callFeed (serialOf 1) (split 10 tags) ers ∷ []))
       ≡ stream (run (start oneBit) (calls-open ++ callFeed (serialOf 1) (split 10 tags) ushers ∷ []))
   pub sample-12-records : stream (run (start oneBit) (calls-open ++ callFeed (serialOf 1) (split 10 tags) ushers ∷ []))
       ≡ a-record 1 1 4 0 ∷ a-record 1 1 4 1 ∷ a-record 1 1 6 3 ∷ []
   -- 13: replaced by the same set again, the old ticket is STALE
-  pub sample-13 : feedOf (run (start oneBit) (calls-half tags) .desk) (serialOf 1) (run (start oneBit) (calls-half tags) .table) ers .answer ≡ F.Stale (editionOf 1)
+  pub sample-13 : feedOf (run (start oneBit) (calls-half tags) .desk) (serialOf 1) (run (start oneBit) (calls-half tags) .table) ers .answer
+      ≡ F.Stale (editionOf 1)
   -- 14: a closed serial is NO TICKET, and its room serves the next opening
   pub sample-14-feed : feedOf (run (start oneBit) calls-closed .desk) (serialOf 1) (run (start oneBit) calls-closed .table) ush .answer ≡ F.NoTicket
   pub sample-14-close : closeOf (run (start oneBit) calls-closed .desk) (serialOf 1) .answer ≡ C.NoTicket
@@ -97,9 +102,11 @@ pub record OfDesk : Type 0 where
 -- the incident: another set comes while an approval is half read
 pub record Incident : Type 0 where
   -- the rest of it is refused, with the edition of its ticket
-  pub refused : feedOf (run (start oneBit) (calls-half later) .desk) (serialOf 1) (run (start oneBit) (calls-half later) .table) ers .answer ≡ F.Stale (editionOf 1)
+  pub refused : feedOf (run (start oneBit) (calls-half later) .desk) (serialOf 1) (run (start oneBit) (calls-half later) .table) ers .answer
+      ≡ F.Stale (editionOf 1)
   -- read again from its opening, it gives the records of the new set, under the new edition, and none under the old ticket
-  pub again : stream (run (start oneBit) (calls-half later ++ callFeed (serialOf 1) (split 10 later) ers ∷ callOpen ∷ callFeed (serialOf 2) (split 10 later) ushers ∷ []))
+  pub again : stream (run (start oneBit)
+      (calls-half later ++ callFeed (serialOf 1) (split 10 later) ers ∷ callOpen ∷ callFeed (serialOf 2) (split 10 later) ushers ∷ []))
       ≡ a-record 2 2 2 0 ∷ a-record 2 2 2 1 ∷ a-record 2 2 6 0 ∷ []
 
 -- each feed of these histories is lent the table as the last replacement left it

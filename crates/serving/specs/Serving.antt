@@ -34,7 +34,8 @@ module _ (s : Serial) (table : Lent) where
   -- one feed after another: the desk then, the lines of the records taken meanwhile, and the bytes taken
   pub data Served : Desk → Word → Desk → List ℕ → ℕ → Type 0 where
     all-taken : {d : Desk} → Served d [] d [] 0
-    none-taken : {d : Desk} {rest : Word} → 0 < length rest → restTaken s table d rest ≡ 0 → Served d rest (restDesk s table d rest) (restLines s table d rest) 0
+    none-taken : {d : Desk} {rest : Word} → 0 < length rest → restTaken s table d rest ≡ 0
+        → Served d rest (restDesk s table d rest) (restLines s table d rest) 0
     some-taken : {d e : Desk} {rest : Word} {lines : List ℕ} {n : ℕ} → 0 < restTaken s table d rest
         → Served (restDesk s table d rest) (drop (restTaken s table d rest) rest) e lines n
         → Served d rest e (restLines s table d rest ++ lines) (restTaken s table d rest + n)

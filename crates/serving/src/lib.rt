@@ -5,7 +5,6 @@ use desk::Desk;
 use desk::Serial;
 use desk::pieces::new_list;
 use desk::pieces::taken_by;
-ghost use mathlib.Core.Path.{_≡_};
 ghost use Rattle.writing.specs.Buffer.{buffer};
 ghost use Rattle.serving.specs.Serving.{FeedsRest, FeedsPiece};
 

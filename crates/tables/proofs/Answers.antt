@@ -43,7 +43,8 @@ module _ {layout : Layout} (shaped : Shaped layout) where
 
 -- ---- the machines, from the lowest on
 
-module _ (n s : ℕ) (ts : List Word) (k m : ℕ) (low : m < k) (left : roomFrom n s ts 0 k ≡ roomFrom n s ts m (k - m)) (needs : ℕ) (is : needs ≡ states (tagsFor n ts m)) where
+module _ (n s : ℕ) (ts : List Word) (k m : ℕ) (low : m < k) (left : roomFrom n s ts 0 k ≡ roomFrom n s ts m (k - m)) (needs : ℕ)
+    (is : needs ≡ states (tagsFor n ts m)) where
   one-left : roomFrom n s ts 0 k ≡ roomFrom n s ts m (suc (k - (m + 1)))
   one-left = left ∙ ap (roomFrom n s ts m) (omega arith)
 
@@ -81,7 +82,8 @@ most-all n ts k m most h e =
 
 -- ---- tags
 
-module _ (n k : ℕ) (ts : List Word) (run : List ℕ) (s : ℕ) (slots : s ≡ slotsIn n k (length run)) (answer : Built) (judged : answer ≡ builtBy n ts (roomFrom n s ts 0 k)) where
+module _ (n k : ℕ) (ts : List Word) (run : List ℕ) (s : ℕ) (slots : s ≡ slotsIn n k (length run)) (answer : Built)
+    (judged : answer ≡ builtBy n ts (roomFrom n s ts 0 k)) where
   pub tags-answer : answer ≡ builtTags n k ts (length run)
   tags-answer = judged ∙ ap (λ (x : ℕ). builtBy n ts (roomFrom n x ts 0 k)) slots
 
@@ -102,7 +104,8 @@ module _ (n k : ℕ) (ts : List Word) (run : List ℕ) (s : ℕ) (slots : s ≡ 
         ∙ ap (tableBy n k ts run) (sym (sym (ap (λ (x : ℕ). roomFrom n x ts 0 k) slots) ∙ accepted-room))
 
   pub tags-kept : isAccepted answer ≡ false → run ≡ tableTags n k ts run
-  tags-kept no-good = ap (λ (x : ℕ). run) slots ∙ kept (roomFrom n s ts 0 k) (sym (ap isAccepted judged) ∙ no-good) ∙ ap (λ (x : ℕ). tableBy n k ts run (roomFrom n x ts 0 k)) slots
+  tags-kept no-good = ap (λ (x : ℕ). run) slots ∙ kept (roomFrom n s ts 0 k) (sym (ap isAccepted judged) ∙ no-good)
+      ∙ ap (λ (x : ℕ). tableBy n k ts run (roomFrom n x ts 0 k)) slots
     where
       kept : (r : Room) → isAccepted (builtBy n ts r) ≡ false → run ≡ tableBy n k ts run r
       kept enoughSlots h = absurd (false≢true (sym h))
@@ -127,7 +130,8 @@ module _ (n k : ℕ) (bytes run : List ℕ) where
   fault-table false e = refl
 
   module _ {r : SetRead} (g : GoodRead bytes r) where
-    pub good-answer : (answer : Built) → answer ≡ builtTags n k (cutAt bytes (take (r .tags .count) (r .tags .from)) (take (r .tags .count) (r .tags .to))) (length run)
+    pub good-answer : (answer : Built) → answer ≡ builtTags n k (cutAt bytes (take (r .tags .count) (r .tags .from)) (take (r .tags .count) (r .tags .to)))
+        (length run)
         → answer ≡ builtOf n k bytes (length run)
     unfolding builtOf
     good-answer answer e = rw (g .good) (e ∙ ap (λ (ts : List Word). builtTags n k ts (length run)) (g .lent .lies))

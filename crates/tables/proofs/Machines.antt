@@ -29,14 +29,16 @@ module _ (n : ℕ) (ts : List Word) (m s : ℕ) (l : List ℕ) (f : Filled (tags
       used : q < states (tagsFor n ts m) → q < length (prefixes (tagsFor n ts m))
       used h = rw (states-is (tagsFor n ts m)) h
 
-      go : Dec (q < states (tagsFor n ts m)) → Dec (j < 2 ^ n) → getD l (q * slotSize n + j) 0 ≡ getD (slot n (tagsFor n ts m) (prefixes (tagsFor n ts m)) q) j 0
+      go : Dec (q < states (tagsFor n ts m)) → Dec (j < 2 ^ n) → getD l (q * slotSize n + j) 0 ≡ getD
+          (slot n (tagsFor n ts m) (prefixes (tagsFor n ts m)) q) j 0
       go (yes h) (yes k) = f .done q h .nexts j k ∙ sym (slot-next n (tagsFor n ts m) (prefixes (tagsFor n ts m)) q j (used h) k)
       go (yes h) (no k) =
           let e : j ≡ 2 ^ n = omega arith in
           rw e (f .done q h .flags ∙ sym (slot-vector n (tagsFor n ts m) (prefixes (tagsFor n ts m)) q (used h)))
       go (no h) k =
           f .blank (q * slotSize n + j) (omega (arith, mul-le-mul-right {m = states (tagsFor n ts m)} {n = q} (slotSize n) (omega arith)))
-          ∙ sym (rw (slot-unused n (tagsFor n ts m) (prefixes (tagsFor n ts m)) q (rw (states-is (tagsFor n ts m)) (omega arith))) (getD-replicate (slotSize n) j 0 0 hj))
+          ∙ sym (rw (slot-unused n (tagsFor n ts m) (prefixes (tagsFor n ts m)) q (rw (states-is (tagsFor n ts m)) (omega arith)))
+          (getD-replicate (slotSize n) j 0 0 hj))
 
   slots-filled : l ≡ slots n s ts m
   unfolding slots
@@ -96,7 +98,8 @@ module _ {layout : Layout} (shaped : Shaped layout) {s : ℕ} {ts : List Word} {
         → Laid (layout .bits) s ts (m + 1) (at + s * (layout .letters + 1)) l₀ (take at l ++ (ys ++ drop (s * (layout .letters + 1)) (drop at l)))
     more ys long f =
         let z = s * (layout .letters + 1) in
-        let f′ : Filled (tagsFor (layout .bits) ts m) (2 ^ layout .bits) ys = subst (λ (x : ℕ). Filled (tagsFor (layout .bits) ts m) x ys) (shaped .letters) f in
+        let f′ : Filled (tagsFor (layout .bits) ts m) (2 ^ layout .bits) ys =
+        subst (λ (x : ℕ). Filled (tagsFor (layout .bits) ts m) x ys) (shaped .letters) f in
         let e : ys ≡ slots (layout .bits) s ts m = slots-filled (layout .bits) ts m s ys f′ (long ∙ size-is) in
         let front : length (laid (slots (layout .bits) s ts) 0 m) ≡ at =
         laid-length (slots (layout .bits) s ts) (s * slotSize (layout .bits)) (slots-length (layout .bits) s ts) 0 m ∙ sym (L .place) in

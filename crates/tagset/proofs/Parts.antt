@@ -79,7 +79,8 @@ module _ (x : Word) (ts : List Word) (t i : ℕ) (lt : t < length ts) (left : i 
 
   pub among-here : (w : Word) → w ≡ getD ts i [] → same x w ≡ true → true ≡ among x (drop i (take t ts))
   among-here w e h =
-      sym (ap (among x) front ∙ among-step x (getD ts i []) (drop (suc i) (take t ts)) ∙ or-l (same x (getD ts i [])) (among x (drop (suc i) (take t ts))) (rw e at h))
+      sym (ap (among x) front ∙ among-step x (getD ts i []) (drop (suc i) (take t ts))
+      ∙ or-l (same x (getD ts i [])) (among x (drop (suc i) (take t ts))) (rw e at h))
 
   pub among-later : (w : Word) → w ≡ getD ts i [] → same x w ≡ false → among x (drop i (take t ts)) ≡ among x (drop (i + 1) (take t ts))
   among-later w e h = rw (add-one i, front, among-step x (getD ts i []) (drop (suc i) (take t ts)), rw e at h)

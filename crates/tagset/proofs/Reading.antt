@@ -26,7 +26,8 @@ padded-set l v k e h =
     rw (n, m) (set-at l 0 (replicate (15 - length l) 0) v k e ∙ sym (append-assoc l (v ∷ []) (replicate (15 - length l) 0)))
 
 -- one more place, in either array
-place-more : (f : ℕ → Word → ℕ) (l : List ℕ) (ts : List Word) (t : Word) (k v : ℕ) → l ≡ padded 16 (along f 0 ts) → length ts ≡ k → k < 16 → v ≡ f (sizeOf ts) t
+place-more : (f : ℕ → Word → ℕ) (l : List ℕ) (ts : List Word) (t : Word) (k v : ℕ) → l ≡ padded 16 (along f 0 ts) → length ts ≡ k → k < 16
+    → v ≡ f (sizeOf ts) t
     → set l k v ≡ padded 16 (along f 0 (ts ++ t ∷ []))
 place-more f l ts t k v e n h ev =
     ap (λ (x : List ℕ). set x k v) e ∙ padded-set (along f 0 ts) v k (along-length f 0 ts ∙ n) h
@@ -95,7 +96,8 @@ module _ {bytes from to : List ℕ} {k at : ℕ} (g : Gone bytes from to k at) w
               };
             }
           where
-            rest : Whole k (drop at bytes) → end ≡ at + 4 + length (payload (drop at bytes)) → drop (4 + lengthAt (drop at bytes)) (drop at bytes) ≡ drop end bytes
+            rest : Whole k (drop at bytes) → end ≡ at + 4 + length (payload (drop at bytes))
+                → drop (4 + lengthAt (drop at bytes)) (drop at bytes) ≡ drop end bytes
             rest w ee =
                 let m : at + (4 + lengthAt (drop at bytes)) ≡ end = omega (arith, payload-length w) in
                 drop-drop (4 + lengthAt (drop at bytes)) at bytes ∙ ap (λ (i : ℕ). drop i bytes) m

@@ -52,7 +52,8 @@ cut-number kind calls s table piece n q =
 
 -- TAKEN IS HANDED: after any history the ticket of an undecided approval counts no more bytes than were handed in, and all of them exactly if
 -- each piece was answered Read
-pub taken-is-handed : (kind : Kind) (calls : List GateAct) (s : Serial) (k : ℕ) → Undecided (gateRun (gateStart kind) calls) s k → TakenOfHanded (gateRun (gateStart kind) calls) s k
+pub taken-is-handed : (kind : Kind) (calls : List GateAct) (s : Serial) (k : ℕ) → Undecided (gateRun (gateStart kind) calls) s k
+    → TakenOfHanded (gateRun (gateStart kind) calls) s k
 taken-is-handed kind calls s k u = taken-of-handed (gateRun (gateStart kind) calls) (standing calls (gateStart kind) (standing-start kind)) s k u
 
 -- so Unread is answered exactly if the ticket counts fewer bytes than were handed in, and Pass or Hold only if it counts every one
@@ -88,12 +89,14 @@ piece-as-left kind calls l s k u n =
 
 -- A BEGINNING: NO SET exactly if no replacement was accepted; then SERIAL exactly if 4,294,967,295 approvals were begun; then NO ROOM exactly if
 -- 16 of them are undecided; else the serial one above the number begun
-pub begin-exactly : (kind : Kind) (calls : List GateAct) → BeginExactly (gateRun (gateStart kind) calls) (beginOf (gateRun (gateStart kind) calls .gate) .answer)
+pub begin-exactly : (kind : Kind) (calls : List GateAct) → BeginExactly (gateRun (gateStart kind) calls)
+    (beginOf (gateRun (gateStart kind) calls .gate) .answer)
 begin-exactly kind calls = begins-exactly (gateRun (gateStart kind) calls) (standing calls (gateStart kind) (standing-start kind)) (held-all kind calls)
 
 -- A REPLACEMENT: a set fault or TABLE exactly if building answers it; then EDITION exactly if 4,294,967,295 were accepted; else the edition one
 -- above the number accepted, and the number of tags
-pub replace-exactly : (kind : Kind) (calls : List GateAct) (order : Order) (len : Sizes) → ReplaceExactly (gateRun (gateStart kind) calls) order len (changeOf (gateRun (gateStart kind) calls .gate) order len .answer)
+pub replace-exactly : (kind : Kind) (calls : List GateAct) (order : Order) (len : Sizes)
+    → ReplaceExactly (gateRun (gateStart kind) calls) order len (changeOf (gateRun (gateStart kind) calls .gate) order len .answer)
 replace-exactly kind calls = replaces-exactly (gateRun (gateStart kind) calls) (standing calls (gateStart kind) (standing-start kind)) (held-all kind calls)
 
 -- at most 16 tags are in force, so each has its bit in a mask

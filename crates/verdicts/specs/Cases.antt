@@ -95,4 +95,5 @@ pub record ReplaceExactly (w : GateWorld) (order : Order) (len : Sizes) (answer 
   pub fault : (x : SetFault) → (answer ≡ R.Fault x) ↔ DeskRefused order x
   pub table : (machine states : ℕ) → (answer ≡ R.Table machine states) ↔ DeskShort order len machine states
   pub edition-end : (answer ≡ R.EditionEnd) ↔ ((count : ℕ) × DeskBuilds order len count × (w .accepted ≡ largest))
-  pub replaced : (e : Edition) (count : ℕ) → (answer ≡ R.Replaced e count) ↔ (DeskBuilds order len count × (w .accepted < largest) × (e .0 ≡ suc (w .accepted)))
+  pub replaced : (e : Edition) (count : ℕ) → (answer ≡ R.Replaced e count) ↔
+      (DeskBuilds order len count × (w .accepted < largest) × (e .0 ≡ suc (w .accepted)))

@@ -60,7 +60,8 @@ module _ {ts : List Word} {before : Word} {calls : List Call} (ready : Ready ts 
   account = ap (λ (l : List Account). getD l 0 noAccount) (ready .accounts-are)
 
   ticket-open : stateOf (w .desk) (serialOf 1) ≡ A.Open (editionOf 1) (length before)
-  ticket-open = state-is w v 0 one ∙ ap (λ (a : Account). stateOfAccount (w .edition) a) account ∙ ap (λ (e : ℕ). stateOfAccount e (accountOf ts before)) (ready .edition-is)
+  ticket-open = state-is w v 0 one ∙ ap (λ (a : Account). stateOfAccount (w .edition) a) account
+      ∙ ap (λ (e : ℕ). stateOfAccount e (accountOf ts before)) (ready .edition-is)
 
   not-long : (piece : Word) → length before + length piece ≤ largest → feedOf (w .desk) (serialOf 1) (w .table) piece .answer ≡ F.Long → ⊥
   not-long piece few e = go _ (feeds (w .desk) (serialOf 1) (w .table) piece) e
@@ -74,7 +75,8 @@ module _ {ts : List Word} {before : Word} {calls : List Call} (ready : Ready ts 
       go r (feed-long h n m l) q =
           omega (arith, l, few, agrees w v (serialOf 1) 0 one refl h .taken, ap (λ (a : Account). length (a .bytes)) account)
 
-  some-bytes : (c : ℕ) (piece : Word) → Below 256 (c ∷ piece) → length before + length (c ∷ piece) ≤ largest → 0 < restTaken (serialOf 1) (w .table) (w .desk) (c ∷ piece)
+  some-bytes : (c : ℕ) (piece : Word) → Below 256 (c ∷ piece) → length before + length (c ∷ piece) ≤ largest
+      → 0 < restTaken (serialOf 1) (w .table) (w .desk) (c ∷ piece)
   some-bytes c piece below few =
       progress oneBit calls (ready .proper .0) (serialOf 1) (editionOf 1) (length before) ticket-open (ready .empty) c piece (not-long (c ∷ piece) few)
 
@@ -83,7 +85,8 @@ module _ {ts : List Word} {before : Word} {calls : List Call} (ready : Ready ts 
   unfolding onSerial
   ready-on {taken} c = record {
     proper = proper-append (start oneBit) calls (c .calls) (ready .proper) (c .proper);
-    accounts-are = ap (λ (x : World). x .accounts) (run-append (start oneBit) calls (c .calls)) ∙ c .accounts-are ∙ ap (λ (l : List Account). onSerial 1 (grown taken) l) (ready .accounts-are);
+    accounts-are = ap (λ (x : World). x .accounts) (run-append (start oneBit) calls (c .calls)) ∙ c .accounts-are
+        ∙ ap (λ (l : List Account). onSerial 1 (grown taken) l) (ready .accounts-are);
     edition-is = ap (λ (x : World). x .edition) (run-append (start oneBit) calls (c .calls)) ∙ c .edition-is ∙ ready .edition-is;
     empty =
         ap (λ (x : World). x .desk .records .count) (run-append (start oneBit) calls (c .calls))
@@ -110,10 +113,12 @@ whole {before = before} calls {table} {d} {piece = piece} ready at lent below fe
     let part = fed-at-most d s table piece in
     let same = run-append (start oneBit) calls (c .calls) in
     let left : length (before ++ take t piece) + length (drop t piece) ≤ largest = omega (arith, parts-length before piece t part, few) in
-    let rest = whole (calls ++ c .calls) (ready-on ready c) (ap (λ (x : World). x .desk) same ∙ c .desk-is) (ap (λ (x : World). x .table) same ∙ c .table-is ∙ lent) (below-rest t piece below) left more in
+    let rest = whole (calls ++ c .calls) (ready-on ready c) (ap (λ (x : World). x .desk) same ∙ c .desk-is)
+    (ap (λ (x : World). x .table) same ∙ c .table-is ∙ lent) (below-rest t piece below) left more in
     omega (arith, rest, part, length-drop t piece)
 
-whole-input : {ts : List Word} {before : Word} (calls : List Call) {table : Lent} {d e : Desk} {pieces : List Word} {lines : List ℕ} {bytes : Word} → Ready ts before calls
+whole-input : {ts : List Word} {before : Word} (calls : List Call) {table : Lent} {d e : Desk} {pieces : List Word} {lines : List ℕ} {bytes : Word}
+    → Ready ts before calls
     → run (start oneBit) calls .desk ≡ d → run (start oneBit) calls .table ≡ table → AllBelow 256 pieces → length before + length (joined pieces) ≤ largest
     → ServedAll (serialOf 1) table d pieces e lines bytes → bytes ≡ joined pieces
 unfolding joined
@@ -124,15 +129,20 @@ whole-input {before = before} calls ready at lent below few (one-piece {piece = 
     let c = served-comes (run (start oneBit) calls) (serialOf 1) at lent (below .0) served in
     let all : take n piece ≡ piece = take-all n piece (omega (arith, taken)) in
     let same = run-append (start oneBit) calls (c .calls) in
-    let left : length (before ++ take n piece) + length (joined pieces) ≤ largest = omega (arith, few, sizes, length-append before (take n piece), ap (λ (x : Word). length x) all) in
+    let left : length (before ++ take n piece) + length (joined pieces) ≤ largest =
+    omega (arith, few, sizes, length-append before (take n piece), ap (λ (x : Word). length x) all) in
     let rest : bytes ≡ joined pieces =
-    whole-input (calls ++ c .calls) (ready-on ready c) (ap (λ (x : World). x .desk) same ∙ c .desk-is) (ap (λ (x : World). x .table) same ∙ c .table-is ∙ lent) (below .1) left more in
+    whole-input (calls ++ c .calls) (ready-on ready c) (ap (λ (x : World). x .desk) same ∙ c .desk-is)
+    (ap (λ (x : World). x .table) same ∙ c .table-is ∙ lent) (below .1) left more in
     ap (λ (x : Word). x ++ bytes) all ∙ ap (λ (x : Word). piece ++ x) rest
 
 -- so bench writes the occurrences in the whole input
-pub whole-input-written : (set : List ℕ) (lent : Lent) (ts : List Word) (edition : Edition) (count : ℕ) (pieces : List Word) (e : Desk) (lines : List ℕ) (bytes : Word)
-    → Below 256 set → setOf set ≡ goodSet ts → replaceOf (newDesk oneBit) (bySet set) (sizesOf lent) .answer ≡ R.Replaced edition count → AllBelow 256 pieces → length (joined pieces) ≤ largest
-    → ServedAll (serialOf 1) (replacedRun (newDesk oneBit) (bySet set) lent) (openOf (replaceOf (newDesk oneBit) (bySet set) (sizesOf lent) .desk) .desk) pieces e lines bytes
+pub whole-input-written : (set : List ℕ) (lent : Lent) (ts : List Word) (edition : Edition) (count : ℕ) (pieces : List Word) (e : Desk) (lines : List ℕ)
+    (bytes : Word)
+    → Below 256 set → setOf set ≡ goodSet ts → replaceOf (newDesk oneBit) (bySet set) (sizesOf lent) .answer ≡ R.Replaced edition count → AllBelow 256 pieces
+    → length (joined pieces) ≤ largest
+    → ServedAll (serialOf 1) (replacedRun (newDesk oneBit) (bySet set) lent)
+    (openOf (replaceOf (newDesk oneBit) (bySet set) (sizesOf lent) .desk) .desk) pieces e lines bytes
     → (bytes ≡ joined pieces) × (lines ≡ linesOf (recordsOf (serialOf 1) (editionOf 1) (foundIn (exact ts) (joined pieces))))
 unfolding run
 whole-input-written set lent ts edition count pieces e lines bytes below tags accepted small few served = (
@@ -141,7 +151,8 @@ whole-input-written set lent ts edition count pieces e lines bytes below tags ac
       ∙ ap (λ (x : Word). linesOf (recordsOf (serialOf 1) (editionOf 1) (foundIn (exact ts) x))) taken,
 )
   where
-    b : Begun ts (run (start oneBit) (callReplace (bySet set) lent ∷ callOpen ∷ [])) (openOf (replaceOf (newDesk oneBit) (bySet set) (sizesOf lent) .desk) .desk) (replacedRun (newDesk oneBit) (bySet set) lent)
+    b : Begun ts (run (start oneBit) (callReplace (bySet set) lent ∷ callOpen ∷ []))
+        (openOf (replaceOf (newDesk oneBit) (bySet set) (sizesOf lent) .desk) .desk) (replacedRun (newDesk oneBit) (bySet set) lent)
     b = begun set lent ts edition count tags accepted
 
     both : Proper (start oneBit) (callReplace (bySet set) lent ∷ callOpen ∷ [])

@@ -33,7 +33,8 @@ put-words-requires-3 c κs = search needs
 returns-3 : tie.Need-returns-3
 unfolding stopWord
 returns-3 c =
-    rw (stop-damaged (c .before .before .before .before .before .args .stop) (c .before .before .before .before .if1 .left) (c .before .before .before .if2 .left))
+    rw (stop-damaged (c .before .before .before .before .before .args .stop) (c .before .before .before .before .if1 .left)
+    (c .before .before .before .if2 .left))
     (c .put-words3 .ensures)
 
 pub put-stop-spec : {M : Type 1} → statement M

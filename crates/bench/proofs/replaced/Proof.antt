@@ -14,7 +14,8 @@ use Rattle.bench.proofs.replaced.Tie as tie
 use Rattle.desk.specs.Layout.{bySet, oneBit}
 
 -- the desk is new, and the bytes are the set
-by-same : {d : Desk} {bytes set after : List ℕ} {r : Replacing} (run : List ℕ) → d ≡ newDesk oneBit → bytes ≡ set → r ≡ replaceOf d (bySet bytes) (length run) → after ≡ replacedRun d (bySet bytes) run
+by-same : {d : Desk} {bytes set after : List ℕ} {r : Replacing} (run : List ℕ) → d ≡ newDesk oneBit → bytes ≡ set → r ≡ replaceOf d (bySet bytes) (length run)
+    → after ≡ replacedRun d (bySet bytes) run
     → (r ≡ replaceOf (newDesk oneBit) (bySet set) (length run)) × (after ≡ replacedRun (newDesk oneBit) (bySet set) run)
 by-same run new same replaced left = (cc, cc)
 
@@ -36,7 +37,8 @@ replace-requires c κs = search needs
 returns : tie.Need-returns
 returns c =
     let a = c .before .before .before .before .before .before .args in
-    by-same (a .table .now) (c .before .before .before .new .ensures) (ap (λ (k : ℕ). take k (a .set .now)) (sub-zero (a .n))) (c .replace .ensures .0) (c .replace .ensures .1)
+    by-same (a .table .now) (c .before .before .before .new .ensures) (ap (λ (k : ℕ). take k (a .set .now)) (sub-zero (a .n))) (c .replace .ensures .0)
+    (c .replace .ensures .1)
 
 new-requires-2 : tie.Need-new-requires-2
 new-requires-2 c κs = search needs
@@ -47,7 +49,8 @@ replace-requires-2 c κs = search needs
 returns-2 : tie.Need-returns-2
 returns-2 c =
     let a = c .before .before .before .before .before .args in
-    by-same (a .table .now) (c .before .before .new2 .ensures) (sym (take-all (a .n) (a .set .now) (c .before .before .before .if1 .left))) (c .replace2 .ensures .0) (c .replace2 .ensures .1)
+    by-same (a .table .now) (c .before .before .new2 .ensures) (sym (take-all (a .n) (a .set .now) (c .before .before .before .if1 .left)))
+    (c .replace2 .ensures .0) (c .replace2 .ensures .1)
 
 pub replaced-spec : {M : Type 1} → statement M
 replaced-spec =

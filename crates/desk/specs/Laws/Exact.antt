@@ -17,7 +17,9 @@ use Rattle.desk.specs.Laws.Faults.{fault-numbers}
 use Rattle.desk.specs.Laws.Good.{good, room-held}
 use Rattle.desk.specs.Laws.Rooms.{firstRoom-found, all-held-iff, firstRoom-holds, for-held, held-inside}
 use Rattle.desk.specs.Laws.Shared.{held-length, held-popped}
-use Rattle.desk.specs.Laws.Views.{Closes, Feeds, Opens, Replaces, Takes, close-done, close-no-ticket, closes, feed-long, feed-no-place, feed-no-ticket, feed-other-slots, feed-read, feed-stale, feeds, open-done, open-no-room, open-no-set, open-serial-end, opens, replace-done, replace-edition-end, replace-fault, replace-table, replaces, take-nothing, take-oldest, takes}
+use Rattle.desk.specs.Laws.Views.{Closes, Feeds, Opens, Replaces, Takes, close-done, close-no-ticket, closes, feed-long, feed-no-place, feed-no-ticket}
+use Rattle.desk.specs.Laws.Views.{feed-other-slots, feed-read, feed-stale, feeds, open-done, open-no-room, open-no-set, open-serial-end, opens}
+use Rattle.desk.specs.Laws.Views.{replace-done, replace-edition-end, replace-fault, replace-table, replaces, take-nothing, take-oldest, takes}
 use Rattle.desk.specs.Numbers.{feedNumber}
 use Rattle.desk.specs.Reached.{Reached}
 use Rattle.desk.specs.Replace.{replaceOf}
@@ -166,23 +168,39 @@ replaces-exactly d order len = go _ (replaces d order len)
     go : (r : Replacing) → Replaces d order len r → ReplaceExact d order len (r .answer)
     go r (replace-fault fault b) = record {
       building = λ n values p q. let k = desk-number-iff order len n values in (rw b at k);
-      last-edition = (λ e. absurd (omega (arith, e, fault-numbers fault .1)), λ p. let t = desk-tags-iff order len (p .0 .0) .1 (p .0 .1) in let z : _≡_ {A = ℕ} 0 1 = cc in absurd (omega arith));
-      replaced = λ e count.
-          (λ q. let z : _≡_ {A = ℕ} 0 1 = cc in absurd (omega arith), λ p. let t = desk-tags-iff order len count .1 (p .0) in let z : _≡_ {A = ℕ} 0 1 = cc in absurd (omega arith));
+      last-edition = (
+        λ e. absurd (omega (arith, e, fault-numbers fault .1)),
+        λ p. let t = desk-tags-iff order len (p .0 .0) .1 (p .0 .1) in
+            let z : _≡_ {A = ℕ} 0 1 = cc in absurd (omega arith),
+      );
+      replaced = λ e count. (
+        λ q. let z : _≡_ {A = ℕ} 0 1 = cc in absurd (omega arith),
+        λ p. let t = desk-tags-iff order len count .1 (p .0) in let z : _≡_ {A = ℕ} 0 1 = cc in
+            absurd (omega arith),
+      );
     }
     go r (replace-table machine short b) = record {
       building = λ n values p q. let k = desk-number-iff order len n values in (rw b at k);
-      last-edition = (λ e. absurd (omega (arith, e)), λ p. let t = desk-tags-iff order len (p .0 .0) .1 (p .0 .1) in let z : _≡_ {A = ℕ} 0 1 = cc in absurd (omega arith));
-      replaced = λ e count.
-          (λ q. let z : _≡_ {A = ℕ} 0 1 = cc in absurd (omega arith), λ p. let t = desk-tags-iff order len count .1 (p .0) in let z : _≡_ {A = ℕ} 0 1 = cc in absurd (omega arith));
+      last-edition = (
+        λ e. absurd (omega (arith, e)),
+        λ p. let t = desk-tags-iff order len (p .0 .0) .1 (p .0 .1) in let z : _≡_ {A = ℕ} 0 1 = cc in
+            absurd (omega arith),
+      );
+      replaced = λ e count. (
+        λ q. let z : _≡_ {A = ℕ} 0 1 = cc in absurd (omega arith),
+        λ p. let t = desk-tags-iff order len count .1 (p .0) in let z : _≡_ {A = ℕ} 0 1 = cc in
+            absurd (omega arith),
+      );
     }
     go r (replace-edition-end tags b l) = record {
-      building = λ n values p q. let k = desk-number-iff order len n values in (λ e. absurd (omega (arith, e .0)), λ g. absurd (omega (arith, ap builtNumber b, k .1 g .0)));
+      building = λ n values p q. let k = desk-number-iff order len n values in
+          (λ e. absurd (omega (arith, e .0)), λ g. absurd (omega (arith, ap builtNumber b, k .1 g .0)));
       last-edition = (λ e. ((tags, desk-tags-iff order len tags .0 b), l), λ p. refl);
       replaced = λ e count. (λ q. let z : _≡_ {A = ℕ} 0 1 = cc in absurd (omega arith), λ p. absurd (p .1 l));
     }
     go r (replace-done tags b l) = record {
-      building = λ n values p q. let k = desk-number-iff order len n values in (λ e. absurd (omega (arith, e .0)), λ g. absurd (omega (arith, ap builtNumber b, k .1 g .0)));
+      building = λ n values p q. let k = desk-number-iff order len n values in
+          (λ e. absurd (omega (arith, e .0)), λ g. absurd (omega (arith, ap builtNumber b, k .1 g .0)));
       last-edition = (λ e. absurd (omega (arith, e)), λ p. absurd (l (p .1)));
       replaced = λ e count. (
         λ q. let c : tags ≡ count = cc in (desk-tags-iff order len count .0 (b ∙ ap B.Tags c), l, (cc)),

@@ -101,7 +101,8 @@ module _ (g : Ticket → Bool) where
   firstRoom-kept (r ∷ rooms) (suc i) t e = ap (λ (n : ℕ). cond (g r) 0 (suc n)) (firstRoom-kept rooms i t e)
 
   -- a ticket of which alone the test holds is the first
-  pub firstRoom-new : (rooms : List Ticket) (i : ℕ) (t : Ticket) → length rooms ≤ firstRoom g rooms → i < length rooms → g t ≡ true → firstRoom g (set rooms i t) ≡ i
+  pub firstRoom-new : (rooms : List Ticket) (i : ℕ) (t : Ticket) → length rooms ≤ firstRoom g rooms → i < length rooms → g t ≡ true
+      → firstRoom g (set rooms i t) ≡ i
   unfolding firstRoom
   firstRoom-new [] i t n h e = absurd (omega arith)
   firstRoom-new (r ∷ rooms) zero t n h e = rw e

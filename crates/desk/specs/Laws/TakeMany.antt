@@ -21,14 +21,16 @@ take-one : (d : Desk) → 0 < d .records .count
     → takeOf d ≡ record { desk = withRecords d (popped (d .records)); answer = K.Taken (getD (d .records .ring) (d .records .first % mostRecords) noRecord) }
 take-one d h = go _ (takes d)
   where
-    go : (r : Taking) → Takes d r → r ≡ record { desk = withRecords d (popped (d .records)); answer = K.Taken (getD (d .records .ring) (d .records .first % mostRecords) noRecord) }
+    go : (r : Taking) → Takes d r → r
+        ≡ record { desk = withRecords d (popped (d .records)); answer = K.Taken (getD (d .records .ring) (d .records .first % mostRecords) noRecord) }
     go r (take-nothing e) = absurd (omega (arith, e, h))
     go r (take-oldest p) = refl
 
 -- n takings, one after another: what they hand out, and the desk then
 pub data Takings : ℕ → Desk → List Record → Desk → Type 0 where
   no-more : {d : Desk} → Takings 0 d [] d
-  one-more : {n : ℕ} {d e : Desk} {r : Record} {rs : List Record} → takeOf d .answer ≡ K.Taken r → Takings n (takeOf d .desk) rs e → Takings (suc n) d (r ∷ rs) e
+  one-more : {n : ℕ} {d e : Desk} {r : Record} {rs : List Record} → takeOf d .answer ≡ K.Taken r → Takings n (takeOf d .desk) rs e
+      → Takings (suc n) d (r ∷ rs) e
 
 pub many-takings : (n : ℕ) (d : Desk) → n ≤ d .records .count → Takings n d (oldest n (d .records)) (withRecords d (without n (d .records)))
 unfolding oldest without
@@ -36,7 +38,8 @@ many-takings zero d h = no-more
 many-takings (suc n) d h =
     let e = take-one d (omega arith) in
     one-more (ap (λ (r : Taking). r .answer) e)
-    (subst (λ (x : Desk). Takings n x (oldest n (popped (d .records))) (withRecords d (without n (popped (d .records))))) (ap (λ (r : Taking). r .desk) (sym e))
+    (subst (λ (x : Desk). Takings n x (oldest n (popped (d .records))) (withRecords d (without n (popped (d .records)))))
+    (ap (λ (r : Taking). r .desk) (sym e))
     (many-takings n (withRecords d (popped (d .records))) (omega arith)))
 
 takings-reached : {n : ℕ} {d e : Desk} {rs : List Record} → Takings n d rs e → Reached d → Reached e

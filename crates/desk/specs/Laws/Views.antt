@@ -90,7 +90,8 @@ takes d = go _ refl
 
 pub data Replaces (d : Desk) (order : Order) (len : Sizes) : Replacing → Type 0 where
   replace-fault : (fault : SetFault) → deskBuilt order len ≡ B.Fault fault → Replaces d order len (record { desk = d; answer = R.Fault fault })
-  replace-table : (machine needs : ℕ) → deskBuilt order len ≡ B.Table machine needs → Replaces d order len (record { desk = d; answer = R.Table machine needs })
+  replace-table : (machine needs : ℕ) → deskBuilt order len ≡ B.Table machine needs
+      → Replaces d order len (record { desk = d; answer = R.Table machine needs })
   replace-edition-end : (count : ℕ) → deskBuilt order len ≡ B.Tags count → d .edition .0 ≡ largest
       → Replaces d order len (record { desk = d; answer = R.EditionEnd })
   replace-done : (count : ℕ) → deskBuilt order len ≡ B.Tags count → Not (d .edition .0) largest

@@ -101,7 +101,8 @@ module _ (d : Desk) (wide : length (d .tickets) ≡ mostTickets) (k : Told d) wh
   told-replaces order len r (replace-edition-end count e l) = k
   told-replaces order len r (replace-done count e l) = record { given = k .given; apart = k .apart }
 
-  told-feeds : (i : ℕ) (table : List ℕ) (piece : Word) (r : Feeding) → (i < mostTickets → isHeld (ticketIn (d .tickets) i) ≡ true) → Feeds d i table piece r → Told (r .desk)
+  told-feeds : (i : ℕ) (table : List ℕ) (piece : Word) (r : Feeding) → (i < mostTickets → isHeld (ticketIn (d .tickets) i) ≡ true) → Feeds d i table piece r
+      → Told (r .desk)
   told-feeds i table piece r f (feed-no-ticket a) = k
   told-feeds i table piece r f (feed-stale a b) = k
   told-feeds i table piece r f (feed-other-slots a b c) = k

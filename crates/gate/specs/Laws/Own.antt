@@ -57,7 +57,8 @@ noted-unread rooms seen (r ∷ rs) j = noted-unread rooms (notedOne rooms seen (
     go (no n) = ap (λ (y : Seen). y .unread) (getD-set-other seen i j x nothingSeen n)
 
 -- a record without a room
-one-nowhere : (rooms : List Ticket) (seen : List Seen) (serial tag : ℕ) → length seen ≡ mostTickets → mostTickets ≤ roomOf rooms (serialOf serial) → notedOne rooms seen serial tag ≡ seen
+one-nowhere : (rooms : List Ticket) (seen : List Seen) (serial tag : ℕ) → length seen ≡ mostTickets → mostTickets ≤ roomOf rooms (serialOf serial)
+    → notedOne rooms seen serial tag ≡ seen
 one-nowhere rooms seen serial tag w h = set-out seen (roomOf rooms (serialOf serial)) _ (omega (arith, w, h))
 
 pub noted-nowhere : (rooms : List Ticket) (seen : List Seen) (before : List Record) (r : Record) (after : List Record) → length seen ≡ mostTickets
@@ -69,11 +70,13 @@ noted-nowhere rooms seen (x ∷ before) r after w h =
 
 module _ (rooms : List Ticket) (wide : length rooms ≡ mostTickets) where
   -- the ticket of a serial that has a room
-  has-room : (s : Serial) → roomOf rooms s < mostTickets → (isHeld (ticketIn rooms (roomOf rooms s)) ≡ true) × (ticketIn rooms (roomOf rooms s) .serial .0 ≡ s .0)
+  has-room : (s : Serial) → roomOf rooms s < mostTickets → (isHeld (ticketIn rooms (roomOf rooms s)) ≡ true) ×
+      (ticketIn rooms (roomOf rooms s) .serial .0 ≡ s .0)
   has-room s h = for-held s (ticketIn rooms (roomOf rooms s)) (firstRoom-holds (isFor s) rooms (omega (arith, wide, h)))
 
   -- a record leaves every room but that of its serial
-  one-other : (seen : List Seen) (serial tag i : ℕ) → length seen ≡ mostTickets → (roomOf rooms (serialOf serial) < mostTickets → i ≡ roomOf rooms (serialOf serial) → ⊥)
+  one-other : (seen : List Seen) (serial tag i : ℕ) → length seen ≡ mostTickets
+      → (roomOf rooms (serialOf serial) < mostTickets → i ≡ roomOf rooms (serialOf serial) → ⊥)
       → seenIn (notedOne rooms seen serial tag) i ≡ seenIn seen i
   one-other seen serial tag i w n = go (decLt (roomOf rooms (serialOf serial)) mostTickets)
     where
@@ -81,7 +84,8 @@ module _ (rooms : List Ticket) (wide : length rooms ≡ mostTickets) where
       go (yes h) = getD-set-other seen (roomOf rooms (serialOf serial)) i _ nothingSeen (n h)
       go (no h) = ap (λ (l : List Seen). seenIn l i) (one-nowhere rooms seen serial tag w (omega (arith, h)))
 
-  pub noted-free : (seen : List Seen) (rs : List Record) → length seen ≡ mostTickets → (i : ℕ) → isHeld (ticketIn rooms i) ≡ false → seenIn (noted rooms seen rs) i ≡ seenIn seen i
+  pub noted-free : (seen : List Seen) (rs : List Record) → length seen ≡ mostTickets → (i : ℕ) → isHeld (ticketIn rooms i) ≡ false
+      → seenIn (noted rooms seen rs) i ≡ seenIn seen i
   unfolding noted
   noted-free seen [] w i f = refl
   noted-free seen (r ∷ rs) w i f =
@@ -101,7 +105,8 @@ module _ (rooms : List Ticket) (wide : length rooms ≡ mostTickets) where
       → seenIn (noted rooms seen rs) i .mask ≡ withBits (seenIn seen i .mask) (ofSerial (ticketIn rooms i .serial .0) rs)
   unfolding noted withBits ofSerial
   noted-own apart seen [] w i h = refl
-  noted-own apart seen (r ∷ rs) w i h = noted-own apart next rs (length-set seen (roomOf rooms (serialOf (r .serial .0))) _ ∙ w) i h ∙ go (eqb (r .serial .0) n) refl
+  noted-own apart seen (r ∷ rs) w i h = noted-own apart next rs (length-set seen (roomOf rooms (serialOf (r .serial .0))) _ ∙ w) i h
+      ∙ go (eqb (r .serial .0) n) refl
     where
       n : ℕ
       n = ticketIn rooms i .serial .0

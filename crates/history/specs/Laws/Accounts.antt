@@ -33,7 +33,8 @@ onSerial-at n f (a ∷ l) (suc k) h = onSerial-at n f l k (omega arith)
 pub onSerial-hit : (n : ℕ) (f : Account → Account) (l : List Account) (k : ℕ) → k < length l → getD l k noAccount .serial ≡ n
     → getD (onSerial n f l) k noAccount ≡ f (getD l k noAccount)
 onSerial-hit n f l k h e =
-    onSerial-at n f l k h ∙ ap (λ (b : Bool). cond b (f (getD l k noAccount)) (getD l k noAccount)) (is-true (eqb (getD l k noAccount .serial) n) (rw e (eqb-refl n)))
+    onSerial-at n f l k h ∙ ap (λ (b : Bool). cond b (f (getD l k noAccount)) (getD l k noAccount))
+    (is-true (eqb (getD l k noAccount .serial) n) (rw e (eqb-refl n)))
 
 pub onSerial-miss : (n : ℕ) (f : Account → Account) (l : List Account) (k : ℕ) → k < length l → (getD l k noAccount .serial ≡ n → ⊥)
     → getD (onSerial n f l) k noAccount ≡ getD l k noAccount
@@ -57,7 +58,8 @@ recordsFor-append n (r ∷ a) b = go (eqb (r .serial .0) n) (recordsFor-append n
 pub recordsFor-own : (s : Serial) (e : Edition) (os : List Occurrence) → recordsFor (s .0) (recordsOf s e os) ≡ recordsOf s e os
 unfolding recordsFor
 recordsFor-own s e [] = refl
-recordsFor-own s e (o ∷ os) = rw (is-true (eqb (s .0) (s .0)) (eqb-refl (s .0))) (ap {B = List Record} (λ (l : List Record). recordOf s e o ∷ l) (recordsFor-own s e os))
+recordsFor-own s e (o ∷ os) = rw (is-true (eqb (s .0) (s .0)) (eqb-refl (s .0)))
+    (ap {B = List Record} (λ (l : List Record). recordOf s e o ∷ l) (recordsFor-own s e os))
 
 pub recordsFor-other : (n : ℕ) (s : Serial) (e : Edition) (os : List Occurrence) → (s .0 ≡ n → ⊥) → recordsFor n (recordsOf s e os) ≡ []
 unfolding recordsFor

@@ -143,7 +143,8 @@ open-answered w g = go _ (opens-for w g)
       opened = λ s. (λ e. (h, l, f, cc), λ z d. O.Opened (record { 0 = sym (z .3) d }));
     }
 
-pub replace-answered : {Left : Type 0} (w : World) → Sound Left w → (order : Order) (len : Sizes) → ReplaceAnswers w order len (replaceOf (w .desk) order len .answer)
+pub replace-answered : {Left : Type 0} (w : World) → Sound Left w → (order : Order) (len : Sizes)
+    → ReplaceAnswers w order len (replaceOf (w .desk) order len .answer)
 replace-answered w g order len = go _ (replaces (w .desk) order len)
   where
     now : length (w .orders) ≡ w .desk .edition .0
@@ -184,7 +185,8 @@ replace-answered w g order len = go _ (replaces (w .desk) order len)
             let x : w .desk .edition .0 + 1 ≡ i .0 = cc in
             (desk-tags-iff order len n .0 (cc), few q, omega (arith, x, now))
 
-        so : (i : Edition) (n : ℕ) → deskBuilt order len ≡ B.Tags n → i .0 ≡ suc (length (w .orders)) → R.Replaced (editionOf (w .desk .edition .0 + 1)) c ≡ R.Replaced i n
+        so : (i : Edition) (n : ℕ) → deskBuilt order len ≡ B.Tags n → i .0 ≡ suc (length (w .orders))
+            → R.Replaced (editionOf (w .desk .edition .0 + 1)) c ≡ R.Replaced i n
         so i n e x =
             let y : w .desk .edition .0 + 1 ≡ i .0 = omega (arith, x, now) in
             let z : c ≡ n = cc in
@@ -201,7 +203,8 @@ close-answered w v s = go _ (closes (w .desk) s)
     go r (close-done i p h) =
         let l : roomOf (w .desk .tickets) s < mostTickets = omega (arith, p, h) in
         let g = given w v s l in
-        let o : OpenOrStale w s (g .0) = record { inside = g .1; serial = v .numbered (g .0) (g .1) ∙ sym (g .2); not-closed = live w v s (g .0) (g .1) (g .2) l } in
+        let o : OpenOrStale w s (g .0) =
+        record { inside = g .1; serial = v .numbered (g .0) (g .1) ∙ sym (g .2); not-closed = live w v s (g .0) (g .1) (g .2) l } in
         record { no-ticket = (λ e. differ cc, λ f. absurd (not-gone w s (g .0) f o)); closed = (λ e. (g .0, o), λ z. refl) }
 
 pub take-answered : (w : World) → TakeAnswers w (takeOf (w .desk) .answer)

@@ -20,7 +20,8 @@ use Rattle.history.specs.Laws.Invariant.{Inv, Kept, Stranger, changed-ea
 use Rattle.history.specs.Laws.Seats.{Seat, for-other, no-seat, room-for, room-kept, seat-gone, seat-kept, unique-set}
 use Rattle.desk.specs.Limits.{mostTickets}
 
-module _ {Left : Type 0} (w : World) (v : Inv Left w) (s : Serial) (i : ℕ) (ei : i ≡ roomOf (w .desk .tickets) s) (hi : i < mostTickets) (p : Reached (withTicket (w .desk) i freeTicket))
+module _ {Left : Type 0} (w : World) (v : Inv Left w) (s : Serial) (i : ℕ) (ei : i ≡ roomOf (w .desk .tickets) s) (hi : i < mostTickets)
+    (p : Reached (withTicket (w .desk) i freeTicket))
     (k : ℕ) (hk : k < length (w .accounts)) (ek : s .0 ≡ suc k) where
   abbrev rooms : List Ticket
   rooms = w .desk .tickets
@@ -45,7 +46,8 @@ module _ {Left : Type 0} (w : World) (v : Inv Left w) (s : Serial) (i : ℕ) (ei
   gone : Seat Left (set rooms i freeTicket) (shut (accountAt w k))
   gone =
       no-seat refl
-      (subst (λ (n : Serial). mostTickets ≤ roomOf (set rooms i freeTicket) n) (λ d. record { 0 = (ek ∙ sym (v .numbered k hk)) d }) (seat-gone rooms (wide w v) s i (v .unique) ei hi))
+      (subst (λ (n : Serial). mostTickets ≤ roomOf (set rooms i freeTicket) n) (λ d. record { 0 = (ek ∙ sym (v .numbered k hk)) d })
+      (seat-gone rooms (wide w v) s i (v .unique) ei hi))
 
   stranger : (n : Serial) → Stranger (length (after .accounts)) (n .0) → isFor n (ticketIn rooms i) ≡ false
   stranger n h = for-other s n (ticketIn rooms i) mine (λ e. no h e)
@@ -62,8 +64,10 @@ module _ {Left : Type 0} (w : World) (v : Inv Left w) (s : Serial) (i : ℕ) (ei
     edition = v .edition;
     force = v .force;
     kept = each (λ j a. Kept (w .edition) (w .tags) a) (λ j h n. v .kept j h) (same-kept (v .kept k hk));
-    seats = each (λ j a. Seat Left (set rooms i freeTicket) a) (λ j h n. seat-kept rooms (wide w v) i freeTicket hi (accountAt w j) (apart j h n) refl (v .seats j h)) gone;
-    strangers = λ n h. le-trans (v .strangers n (subst (λ (c : ℕ). Stranger c (n .0)) count h)) (le-of-eq (sym (room-kept rooms (wide w v) i freeTicket hi n (stranger n h) refl)));
+    seats = each (λ j a. Seat Left (set rooms i freeTicket) a)
+        (λ j h n. seat-kept rooms (wide w v) i freeTicket hi (accountAt w j) (apart j h n) refl (v .seats j h)) gone;
+    strangers = λ n h. le-trans (v .strangers n (subst (λ (c : ℕ). Stranger c (n .0)) count h))
+        (le-of-eq (sym (room-kept rooms (wide w v) i freeTicket hi n (stranger n h) refl)));
     unique = unique-set rooms (wide w v) i freeTicket hi (v .unique) (λ n j a b c. false≢true c);
     records = λ l. each (λ j a. recordsFor (suc j) (stream w) ≡ recordsDue a) (λ j h n. v .records l j h) (v .records l k hk);
     nobody = λ n h. v .nobody n (subst (λ (c : ℕ). Stranger c n) count h);

@@ -51,7 +51,8 @@ stream-grown d out rs g h =
 
 -- a reading for a serial that has a room, over any table: its records come behind all others
 pub stream-fed : (d : Desk) (out : List Record) (s : Serial) (table : Lent) (piece : Word) → Reached d → roomOf (d .tickets) s < mostTickets
-    → out ++ held (fedBy d (roomOf (d .tickets) s) (ticketIn (d .tickets) (roomOf (d .tickets) s)) (readFor d (ticketIn (d .tickets) (roomOf (d .tickets) s)) table piece) .desk .records)
+    → out ++ held (fedBy d (roomOf (d .tickets) s) (ticketIn (d .tickets) (roomOf (d .tickets) s))
+    (readFor d (ticketIn (d .tickets) (roomOf (d .tickets) s)) table piece) .desk .records)
     ≡ (out ++ held (d .records)) ++ recordsOf (ticketIn (d .tickets) (roomOf (d .tickets) s) .serial) (ticketIn (d .tickets) (roomOf (d .tickets) s) .edition)
     (readFor d (ticketIn (d .tickets) (roomOf (d .tickets) s)) table piece .found)
 stream-fed d out s table piece reached hi =
@@ -61,7 +62,8 @@ stream-fed d out s table piece reached hi =
     stream-grown d out (recordsOf (t .serial) (t .edition) (r .found)) (good reached)
     (omega (arith, any .fits, recordsOf-length (t .serial) (t .edition) (r .found), good reached .count))
 
-module _ {Left : Type 0} (w : World) (v : Inv Left w) (s : Serial) (k : ℕ) (hk : k < length (w .accounts)) (ek : s .0 ≡ suc k) (table : Lent) (lent : Left → table ≡ w .table) (piece : Word) (b : Below 256 piece)
+module _ {Left : Type 0} (w : World) (v : Inv Left w) (s : Serial) (k : ℕ) (hk : k < length (w .accounts)) (ek : s .0 ≡ suc k) (table : Lent)
+    (lent : Left → table ≡ w .table) (piece : Word) (b : Below 256 piece)
     (hi : roomOf (w .desk .tickets) s < mostTickets) (same : ticketIn (w .desk .tickets) (roomOf (w .desk .tickets) s) .edition .0 ≡ w .desk .edition .0)
     (short : ticketIn (w .desk .tickets) (roomOf (w .desk .tickets) s) .taken + length piece ≤ largest) where
   abbrev rooms : List Ticket
@@ -117,7 +119,8 @@ module _ {Left : Type 0} (w : World) (v : Inv Left w) (s : Serial) (k : ℕ) (hk
       ∙ recordsFor-append (suc k) (stream w) (recordsOf (serialOf (suc k)) (editionOf (a .edition)) (r .found))
       ∙ ap₂ _++_ (v .records l k hk) (recordsFor-own (serialOf (suc k)) (editionOf (a .edition)) (r .found))
       ∙ ap₂ (λ (n : ℕ) (l : List Occurrence). recordsDue a ++ recordsOf (serialOf n) (editionOf (a .edition)) l) (sym (v .numbered k hk)) (done l .found)
-      ∙ sym (recordsOf-append (serialOf (a .serial)) (editionOf (a .edition)) (foundIn (a .tags) (a .bytes)) (foundFrom (a .tags) (a .bytes) (length (a .bytes)) more))
+      ∙ sym (recordsOf-append (serialOf (a .serial)) (editionOf (a .edition)) (foundIn (a .tags) (a .bytes))
+      (foundFrom (a .tags) (a .bytes) (length (a .bytes)) more))
       ∙ ap (recordsOf (serialOf (a .serial)) (editionOf (a .edition)))
       (sym (occurrencesBy-append (tagsAt (a .tags)) [] 0 (a .bytes) more
       ∙ ap {B = List Occurrence} (λ (n : ℕ). foundIn (a .tags) (a .bytes) ++ foundFrom (a .tags) (a .bytes) n more) (zero-add (length (a .bytes)))))
@@ -126,19 +129,23 @@ module _ {Left : Type 0} (w : World) (v : Inv Left w) (s : Serial) (k : ℕ) (hk
   elsewhere : (n : ℕ) → (n ≡ suc k → ⊥) → recordsFor n (stream after) ≡ recordsFor n (stream w)
   elsewhere n ne =
       ap (recordsFor n) fed ∙ recordsFor-append n (stream w) rs
-      ∙ ap {B = List Record} (λ (l : List Record). recordsFor n (stream w) ++ l) (recordsFor-other n (t .serial) (t .edition) (r .found) (λ e. ne (sym e ∙ for-held s t for-s .1 ∙ ek)))
+      ∙ ap {B = List Record} (λ (l : List Record). recordsFor n (stream w) ++ l)
+      (recordsFor-other n (t .serial) (t .edition) (r .found) (λ e. ne (sym e ∙ for-held s t for-s .1 ∙ ek)))
       ∙ append-nil (recordsFor n (stream w))
 
   seat : Seat Left (set rooms i (readOn t r)) (grown more a)
   seat =
       let q = seat-same rooms (wide w v) i (readOn t r) hi s refl read-for in
-      subst (λ (n : ℕ). Seat Left (set rooms i (readOn t r)) (record { serial = n; edition = a .edition; tags = a .tags; bytes = a .bytes ++ more; closed = a .closed }))
+      subst (λ (n : ℕ). Seat Left (set rooms i (readOn t r))
+      (record { serial = n; edition = a .edition; tags = a .tags; bytes = a .bytes ++ more; closed = a .closed }))
       (ek ∙ sym (v .numbered k hk))
       (seated (live w v s k hk ek hi) (omega (arith, q .0))
-      (subst (λ (x : Ticket). Agrees Left x (record { serial = s .0; edition = a .edition; tags = a .tags; bytes = a .bytes ++ more; closed = a .closed })) (sym (q .1))
+      (subst (λ (x : Ticket). Agrees Left x (record { serial = s .0; edition = a .edition; tags = a .tags; bytes = a .bytes ++ more; closed = a .closed }))
+      (sym (q .1))
       (record {
         edition = fit .edition;
-        taken = ap (λ (n : ℕ). n + r .taken) (fit .taken) ∙ sym (length-append (a .bytes) more ∙ ap (λ (n : ℕ). length (a .bytes) + n) (length-take-le (r .taken) piece (any .part)));
+        taken = ap (λ (n : ℕ). n + r .taken) (fit .taken) ∙ sym
+            (length-append (a .bytes) more ∙ ap (λ (n : ℕ). length (a .bytes) + n) (length-take-le (r .taken) piece (any .part)));
         place = λ l. done l .place;
       })))
 
@@ -177,10 +184,13 @@ module _ {Left : Type 0} (w : World) (v : Inv Left w) (s : Serial) (k : ℕ) (hk
     force = v .force;
     kept = each (λ j x. Kept (w .edition) (w .tags) x) (λ j h n. v .kept j h) kept;
     seats = each (λ j x. Seat Left (set rooms i (readOn t r)) x)
-        (λ j h n. seat-kept rooms (wide w v) i (readOn t r) hi (accountAt w j) (for-other s _ t for-s (apart j h n)) (for-other s _ (readOn t r) read-for (apart j h n)) (v .seats j h)) seat;
-    strangers = λ n h. le-trans (v .strangers n (subst (λ (c : ℕ). Stranger c (n .0)) count h)) (le-of-eq (sym (firstRoom-kept (isFor n) rooms i (readOn t r) refl)));
+        (λ j h n. seat-kept rooms (wide w v) i (readOn t r) hi (accountAt w j) (for-other s _ t for-s (apart j h n))
+        (for-other s _ (readOn t r) read-for (apart j h n)) (v .seats j h)) seat;
+    strangers = λ n h. le-trans (v .strangers n (subst (λ (c : ℕ). Stranger c (n .0)) count h))
+        (le-of-eq (sym (firstRoom-kept (isFor n) rooms i (readOn t r) refl)));
     unique = unique-set rooms (wide w v) i (readOn t r) hi (v .unique) (λ n j ne x y. ne (v .unique n j i x (same-for n y)));
-    records = λ l. each (λ j x. recordsFor (suc j) (stream after) ≡ recordsDue x) (λ j h n. elsewhere (suc j) (λ e. n (omega (arith, e))) ∙ v .records l j h) (here l);
+    records = λ l. each (λ j x. recordsFor (suc j) (stream after) ≡ recordsDue x) (λ j h n. elsewhere (suc j) (λ e. n (omega (arith, e))) ∙ v .records l j h)
+        (here l);
     nobody = λ n h. elsewhere n (stranger n h) ∙ v .nobody n (subst (λ (c : ℕ). Stranger c n) count h);
   }
     where

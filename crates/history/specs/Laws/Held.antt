@@ -108,7 +108,8 @@ feed-held d r s table piece = go _ (feeds d s table piece) refl
           found = o .found;
           ordered = k .ordered;
           behind = ap (λ (y : Feeding). held (y .desk .records)) q
-              ∙ held-pushAll (d .records) (recordsOf (t .serial) (t .edition) (o .found)) (g .ring) (omega (arith, k .fits, recordsOf-length (t .serial) (t .edition) (o .found), g .count))
+              ∙ held-pushAll (d .records) (recordsOf (t .serial) (t .edition) (o .found)) (g .ring)
+              (omega (arith, k .fits, recordsOf-length (t .serial) (t .edition) (o .found), g .count))
               ∙ λ i. held (d .records) ++ recordsOf (record { 0 = for-held s t (room-held d s g h) .1 i }) (t .edition) (o .found);
           refused = λ n. absurd (n (ap (λ (y : Feeding). feedNumber (y .answer)) q));
           counted = λ i p. (let z = ap (λ (y : Feeding). y .answer) (sym q) ∙ p in cc);

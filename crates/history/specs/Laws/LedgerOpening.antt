@@ -20,7 +20,8 @@ use Rattle.desk.specs.Reached.{callOpen}
 use Rattle.matching.specs.Limits.{largest}
 use Rattle.desk.specs.Limits.{mostTickets}
 
-module _ {Left : Type 0} (w : World) (v : Inv Left w) (g : Ledger w) (i : ℕ) (ei : i ≡ freeRoom (w .desk .tickets)) (hi : i < mostTickets) (more : w .desk .serial .0 ≡ largest → ⊥) where
+module _ {Left : Type 0} (w : World) (v : Inv Left w) (g : Ledger w) (i : ℕ) (ei : i ≡ freeRoom (w .desk .tickets)) (hi : i < mostTickets)
+    (more : w .desk .serial .0 ≡ largest → ⊥) where
   abbrev new : Account
   new = newAccount w (w .desk .serial .0 + 1)
 
@@ -80,9 +81,11 @@ module _ {Left : Type 0} (w : World) (v : Inv Left w) (g : Ledger w) (i : ℕ) (
       tags-new : (k : ℕ) → Dec (suc k ≤ length (w .accounts)) → k < length (after .accounts) → (e : ℕ) → accountAt after k .edition ≡ suc e
           → accountAt after k .tags ≡ tagsOfOrder (orderAt w e)
       tags-new k (yes b) h e q = ap (λ (a : Account). a .tags) (old k b) ∙ g .account-tags k b e (ap (λ (a : Account). a .edition) (sym (old k b)) ∙ q)
-      tags-new k (no b) h e q = let z = last k (at-end k b h) in ap (λ (a : Account). a .tags) z ∙ g .last e (ap (λ (a : Account). a .edition) (sym z) ∙ q) .tags
+      tags-new k (no b) h e q = let z = last k (at-end k b h) in ap (λ (a : Account). a .tags) z ∙ g .last e
+          (ap (λ (a : Account). a .edition) (sym z) ∙ q) .tags
 
-      rising-new : (a b : ℕ) → a ≤ b → b < length (after .accounts) → Dec (suc b ≤ length (w .accounts)) → accountAt after a .edition ≤ accountAt after b .edition
+      rising-new : (a b : ℕ) → a ≤ b → b < length (after .accounts) → Dec (suc b ≤ length (w .accounts))
+          → accountAt after a .edition ≤ accountAt after b .edition
       rising-new a b h l (yes q) = rw (old a (omega arith), old b q) (g .rising a b h q)
       rising-new a b h l (no q) = last-rises (decLe (suc a) (length (w .accounts)))
         where

@@ -24,7 +24,8 @@ use Rattle.matching.specs.Occurrence.{occurrencesBy}
 use Rattle.desk.specs.Laws.Layout.{start-after}
 use Rattle.desk.specs.Limits.{mostTickets}
 
-module _ {Left : Type 0} (w : World) (v : Inv Left w) (i : ℕ) (ei : i ≡ freeRoom (w .desk .tickets)) (hi : i < mostTickets) (some : w .desk .edition .0 ≡ 0 → ⊥) (p : Reached (openedIn (w .desk) i)) where
+module _ {Left : Type 0} (w : World) (v : Inv Left w) (i : ℕ) (ei : i ≡ freeRoom (w .desk .tickets)) (hi : i < mostTickets)
+    (some : w .desk .edition .0 ≡ 0 → ⊥) (p : Reached (openedIn (w .desk) i)) where
   abbrev rooms : List Ticket
   rooms = w .desk .tickets
 
@@ -76,7 +77,8 @@ module _ {Left : Type 0} (w : World) (v : Inv Left w) (i : ℕ) (ei : i ≡ free
     force = v .force;
     kept = each (λ k a. Kept (w .edition) (w .tags) a) (v .kept) new-kept;
     seats = each (λ k a. Seat Left (set rooms i ticket) a)
-        (λ k h. seat-kept rooms (wide w v) i ticket hi (accountAt w k) (free _) (others _ (λ e. omega (arith, e, v .numbered k h, h, number))) (v .seats k h)) new-seat;
+        (λ k h. seat-kept rooms (wide w v) i ticket hi (accountAt w k) (free _) (others _ (λ e. omega (arith, e, v .numbered k h, h, number)))
+        (v .seats k h)) new-seat;
     strangers = λ s h. le-trans (v .strangers s (stranger-less (length (w .accounts)) (length (after .accounts)) (s .0) (omega (arith, count)) h))
         (le-of-eq (sym (room-kept rooms (wide w v) i ticket hi s (free s) (others s (stranger s h)))));
     unique = unique-set rooms (wide w v) i ticket hi (v .unique) (λ s j n a b.

@@ -33,7 +33,8 @@ use Rattle.matching.specs.Tags.{Tags, exact, foundFrom, tagsAt}
 use Rattle.matching.specs.Limits.{largest}
 
 -- a reading that stopped so, and found these, is as demanded
-pub demanded : (tags : Tags) (v piece : Word) (room : ℕ) (r : Outcome) → r .found ≡ foundFrom tags v (length v) (take (r .taken) piece) → length (r .found) ≤ room
+pub demanded : (tags : Tags) (v piece : Word) (room : ℕ) (r : Outcome) → r .found ≡ foundFrom tags v (length v) (take (r .taken) piece)
+    → length (r .found) ≤ room
     → ((r .stop ≡ S.All) × (r .taken ≡ length piece))
     ⊎ ((r .stop ≡ S.Full) × (r .taken < length piece) × (room < length (r .found) + length (tagsAt tags (v ++ take (suc (r .taken)) piece))))
     → Demanded tags v piece room r
@@ -52,7 +53,8 @@ demanded tags v piece room r found fits stopped = go stopped
         (subst (λ (l : List Occurrence). room < length l + length (tagsAt tags (v ++ take (suc (r .taken)) piece))) found (q .2)))
 
 -- what a reading has done is as demanded
-pub done-demanded : (n k : ℕ) (ts : List Word) (v piece : Word) (room : ℕ) (r : Outcome) → Done n k ts v (length v) room piece r → Demanded (exact ts) v piece room r
+pub done-demanded : (n k : ℕ) (ts : List Word) (v piece : Word) (room : ℕ) (r : Outcome) → Done n k ts v (length v) room piece r
+    → Demanded (exact ts) v piece room r
 unfolding tagsAt
 done-demanded n k ts v piece room r d = demanded (exact ts) v piece room r (d .found) (d .fits) (d .stopped)
 
@@ -101,7 +103,8 @@ module _ (n k : ℕ) (set run : List ℕ) (ts : List Word) (b : AsBuilt n k set 
 
   -- a reading from the place after v is refused if it is LONG, and else is as expected
   pub read-is : (v piece : Word) (list : ℕ) → Below 256 v → Below 256 piece
-      → readOf n k table (placeAfter n ts 0 k v) (length v) piece list ≡ readBy (expected n k ts v (length v) (list / 2) piece) true (ltb largest (length v + length piece))
+      → readOf n k table (placeAfter n ts 0 k v) (length v) piece list
+      ≡ readBy (expected n k ts v (length v) (list / 2) piece) true (ltb largest (length v + length piece))
   unfolding readOf
   read-is v piece list hv hp =
       ap₂ (λ (r : Outcome) (t : Bool). readBy r t (ltb largest (length v + length piece))) same (place-below v)
@@ -130,7 +133,8 @@ module _ (n k : ℕ) (set run : List ℕ) (ts : List Word) (b : AsBuilt n k set 
 
   pub row-by : (v : Word) (t : Turn) (turns : List Turn) → Below 256 v → Below 256 (t .piece) → RowBy v t turns (rowAfter n k set run ts v (t ∷ turns))
   unfolding inTurn
-  row-by v t turns hv hp = subst (λ (x : ReadOf). RowBy v t turns (by x)) (sym (read-is v (t .piece) (t .list) hv hp)) (go (ltb largest (length v + length (t .piece))) refl)
+  row-by v t turns hv hp = subst (λ (x : ReadOf). RowBy v t turns (by x)) (sym (read-is v (t .piece) (t .list) hv hp))
+      (go (ltb largest (length v + length (t .piece))) refl)
     where
       by : ReadOf → Row
       by x = onTurn x (t .piece) (rowAfter n k set run ts v turns) (λ r. inTurn n k table (r .place) (length v + r .taken) turns)
@@ -155,13 +159,15 @@ module _ (n k : ℕ) (set run : List ℕ) (ts : List Word) (b : AsBuilt n k set 
     pub found : w .found ≡ occurrencesFrom ts v (length v) (w .taken)
     pub place : w .place ≡ placeAfter n ts 0 k (v ++ w .taken)
 
-  row-then : (v : Word) (t : Turn) (w : Row) → RowDone (v ++ take (turnOf n k ts v t .taken) (t .piece)) w → RowDone v (rowThen (t .piece) (turnOf n k ts v t) w)
+  row-then : (v : Word) (t : Turn) (w : Row) → RowDone (v ++ take (turnOf n k ts v t .taken) (t .piece)) w
+      → RowDone v (rowThen (t .piece) (turnOf n k ts v t) w)
   row-then v t w h =
       let r = turnOf n k ts v t in
       let d = expected-done n k ts (t .piece) v (length v) (t .list / 2) in
       let part = take (r .taken) (t .piece) in
       record {
-        found = ap₂ (λ (x y : List Occurrence). x ++ y) (d .found) (h .found ∙ ap (λ (c : ℕ). occurrencesFrom ts (v ++ part) c (w .taken)) (length-append v part))
+        found = ap₂ (λ (x y : List Occurrence). x ++ y) (d .found)
+            (h .found ∙ ap (λ (c : ℕ). occurrencesFrom ts (v ++ part) c (w .taken)) (length-append v part))
             ∙ sym (occurrencesBy-append (tagsEnding ts) v (length v) part (w .taken));
         place = h .place ∙ ap (placeAfter n ts 0 k) (append-assoc v part (w .taken));
       }
@@ -185,7 +191,8 @@ pub record AlikeRows (a b : Row) : Type 0 where
 
 -- over the tables of one set in two layouts
 module _ (n k n′ k′ : ℕ) (set run run′ : List ℕ) (ts : List Word) (b : AsBuilt n k set run ts) (b′ : AsBuilt n′ k′ set run′ ts) where
-  alike-then : (v : Word) (t : Turn) (w w′ : Row) → AlikeRows w w′ → AlikeRows (rowThen (t .piece) (turnOf n k ts v t) w) (rowThen (t .piece) (turnOf n′ k′ ts v t) w′)
+  alike-then : (v : Word) (t : Turn) (w w′ : Row) → AlikeRows w w′ → AlikeRows (rowThen (t .piece) (turnOf n k ts v t) w)
+      (rowThen (t .piece) (turnOf n′ k′ ts v t) w′)
   alike-then v t w w′ h =
       let a = expected-alike n k n′ k′ ts (t .piece) v (length v) (t .list / 2) in
       record {
@@ -194,10 +201,12 @@ module _ (n k n′ k′ : ℕ) (set run run′ : List ℕ) (ts : List Word) (b :
         stops = ap₂ (λ (x : Stop) (l : List Stop). x ∷ l) (a .stop) (h .stops);
       }
 
-  pub alike-rows : (turns : List Turn) → TurnsOfBytes turns → (v : Word) → Below 256 v → AlikeRows (rowAfter n k set run ts v turns) (rowAfter n′ k′ set run′ ts v turns)
+  pub alike-rows : (turns : List Turn) → TurnsOfBytes turns → (v : Word) → Below 256 v
+      → AlikeRows (rowAfter n k set run ts v turns) (rowAfter n′ k′ set run′ ts v turns)
   unfolding inTurn
   alike-rows [] h v hv = record { taken = refl; found = refl; stops = refl }
-  alike-rows (t ∷ turns) h v hv = go _ (row-by n k set run ts b v t turns hv (h .0)) _ (row-by n′ k′ set run′ ts b′ v t turns hv (h .0)) (alike-rows turns (h .1))
+  alike-rows (t ∷ turns) h v hv = go _ (row-by n k set run ts b v t turns hv (h .0)) _ (row-by n′ k′ set run′ ts b′ v t turns hv (h .0))
+      (alike-rows turns (h .1))
     where
       part : Word
       part = take (turnOf n k ts v t .taken) (t .piece)

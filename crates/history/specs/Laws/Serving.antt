@@ -53,13 +53,15 @@ same-edition w v s t e = sym (t .ledger .editions) ∙ ap {B = ℕ} length e ∙
 abbrev Enough : ℕ → World → Word → Type 0
 Enough most w b = (suc (length b) < most) ⊎ ((length b < most) × (w .desk .records .count ≡ 0))
 
-at-fedWhole : (most : ℕ) (w : World) (pre : List Account) (x : Account) → Served w pre x → (b : Word) → Below 256 b → length (x .bytes) + length b ≤ largest → Enough most w b
+at-fedWhole : (most : ℕ) (w : World) (pre : List Account) (x : Account) → Served w pre x → (b : Word) → Below 256 b → length (x .bytes) + length b ≤ largest
+    → Enough most w b
     → Becomes w (fedWhole most (serialOf (x .serial)) b w) (w .orders) (pre ++ grown b x ∷ [])
 unfolding fedWhole run
 at-fedWhole zero w pre x t b small short (inl h) = absurd (omega arith)
 at-fedWhole zero w pre x t b small short (inr h) = absurd (omega (arith, h .0))
 at-fedWhole (suc most) w pre x t b small short enough =
-    subst (λ (y : FeedAnswer). Becomes w (callFeed n (w .table) b ∷ afterFull y more w1) (w .orders) (pre ++ grown b x ∷ [])) (sym (f .answer)) (cases (at-fedWhole most) (f .stops))
+    subst (λ (y : FeedAnswer). Becomes w (callFeed n (w .table) b ∷ afterFull y more w1) (w .orders) (pre ++ grown b x ∷ [])) (sym (f .answer))
+    (cases (at-fedWhole most) (f .stops))
   where
     n : Serial
     n = serialOf (x .serial)
@@ -108,30 +110,37 @@ at-fedWhole (suc most) w pre x t b small short enough =
         → ((f .stop ≡ S.All) × (c ≡ length b)) ⊎ ((f .stop ≡ S.Full) × (c < length b) × (w .desk .records .count ≡ 0 → 0 < c))
         → Becomes w (callFeed n (w .table) b ∷ afterFull (F.Fed (advance c (f .records) (f .stop))) more w1) (w .orders) (pre ++ grown b x ∷ [])
     cases more-feeds (inl q) =
-        subst (λ (y : Stop). Becomes w (callFeed n (w .table) b ∷ afterFull (F.Fed (advance c (f .records) y)) more w1) (w .orders) (pre ++ grown b x ∷ [])) (sym (q .0))
-        (subst (λ (p : Word). Becomes w (callFeed n (w .table) b ∷ []) (w .orders) (pre ++ grown p x ∷ [])) (take-all c b (le-of-eq (sym (q .1)))) (f .becomes))
+        subst (λ (y : Stop). Becomes w (callFeed n (w .table) b ∷ afterFull (F.Fed (advance c (f .records) y)) more w1) (w .orders) (pre ++ grown b x ∷ []))
+        (sym (q .0))
+        (subst (λ (p : Word). Becomes w (callFeed n (w .table) b ∷ []) (w .orders) (pre ++ grown p x ∷ [])) (take-all c b (le-of-eq (sym (q .1))))
+        (f .becomes))
     cases more-feeds (inr q) =
         let rest = more-feeds w2 pre x1 t2 (drop c b) (below-drop 256 c b small)
-        (omega (arith, short, length-append (x .bytes) (take c b), length-take-le c b (omega (arith, q .1)), length-drop c b, q .1)) (inr (left (q .2) (q .1) enough, e .empty)) in
+        (omega (arith, short, length-append (x .bytes) (take c b), length-take-le c b (omega (arith, q .1)), length-drop c b, q .1))
+        (inr (left (q .2) (q .1) enough, e .empty)) in
         let o2 : w2 .orders ≡ w .orders = e .becomes .orders-are ∙ f .becomes .orders-are in
         let whole : grown (drop c b) x1 ≡ grown b x = grown-more x (take c b) (drop c b) ∙ ap (λ (p : Word). grown p x) (take-append-drop c b) in
-        subst (λ (y : Stop). Becomes w (callFeed n (w .table) b ∷ afterFull (F.Fed (advance c (f .records) y)) more w1) (w .orders) (pre ++ grown b x ∷ [])) (sym (q .0))
+        subst (λ (y : Stop). Becomes w (callFeed n (w .table) b ∷ afterFull (F.Fed (advance c (f .records) y)) more w1) (w .orders) (pre ++ grown b x ∷ []))
+        (sym (q .0))
         (becomes-append w (callFeed n (w .table) b ∷ []) (then emptied (more c) w1) _ _ _ _ (f .becomes)
         (becomes-append w1 (emptied w1) (more c w2) _ _ _ _ (e .becomes)
         (subst₂ (λ (os : List Replacement) (y : Account). Becomes w2 (more c w2) os (pre ++ y ∷ [])) o2 whole rest)))
 
-pub at-fedPieces : (ps : List Word) (w : World) (pre : List Account) (x : Account) → Served w pre x → Below 256 (joined ps) → length (x .bytes) + length (joined ps) ≤ largest
+pub at-fedPieces : (ps : List Word) (w : World) (pre : List Account) (x : Account) → Served w pre x → Below 256 (joined ps)
+    → length (x .bytes) + length (joined ps) ≤ largest
     → Becomes w (fedPieces (serialOf (x .serial)) ps w) (w .orders) (pre ++ grown (joined ps) x ∷ [])
 unfolding fedPieces joined
 at-fedPieces [] w pre x t small short =
-    subst (λ (l : List Account). Becomes w [] (w .orders) l) (t .accounts ∙ ap {B = List Account} (λ (y : Account). pre ++ y ∷ []) (sym (grown-nothing x))) (becomes-nothing w)
+    subst (λ (l : List Account). Becomes w [] (w .orders) l) (t .accounts ∙ ap {B = List Account} (λ (y : Account). pre ++ y ∷ []) (sym (grown-nothing x)))
+    (becomes-nothing w)
 at-fedPieces (p ∷ ps) w pre x t small short =
     let n = serialOf (x .serial) in
     let sizes = length-append p (joined ps) in
     let one = at-fedWhole (length p + 2) w pre x t p (below-left 256 p (joined ps) small) (omega (arith, short, sizes)) (inl (omega arith)) in
     let w1 = run w (fedWhole (length p + 2) n p w) in
     let s1 = becomes-sound w (fedWhole (length p + 2) n p w) _ _ (t .sound) one in
-    let t1 : Served w1 pre (grown p x) = record { sound = s1; accounts = one .accounts-are; live = t .live; now = t .now ∙ sym (same-edition w w1 (t .sound) s1 (one .orders-are)) } in
+    let t1 : Served w1 pre (grown p x) =
+    record { sound = s1; accounts = one .accounts-are; live = t .live; now = t .now ∙ sym (same-edition w w1 (t .sound) s1 (one .orders-are)) } in
     let rest = at-fedPieces ps w1 pre (grown p x) t1 (below-right 256 p (joined ps) small) (omega (arith, short, sizes, length-append (x .bytes) p)) in
     becomes-append w (fedWhole (length p + 2) n p w) (fedPieces n ps w1) _ _ _ _ one
     (subst₂ (λ (os : List Replacement) (y : Account). Becomes w1 (fedPieces n ps w1) os (pre ++ y ∷ [])) (one .orders-are) (grown-more x p (joined ps)) rest)

@@ -56,7 +56,8 @@ module _ (os : List Replacement) (fine : AllFine os) (few : length os ≤ larges
 
   some-fine : (m n : ℕ) → m + n ≤ length os → AllFine (take n (drop m os))
   some-fine m n h e k =
-      subst Fine (sym (getD-take n (drop m os) e noOrder (omega (arith, k, length-take-le n (drop m os) (omega (arith, length-drop m os)))) ∙ getD-drop m os e noOrder))
+      subst Fine (sym (getD-take n (drop m os) e noOrder (omega (arith, k, length-take-le n (drop m os) (omega (arith, length-drop m os))))
+      ∙ getD-drop m os e noOrder))
       (fine (m + e) (omega (arith, k, h, length-take-le n (drop m os) (omega (arith, length-drop m os)))))
 
   -- the replacements from the edition in force up to another
@@ -67,7 +68,8 @@ module _ (os : List Replacement) (fine : AllFine os) (few : length os ≤ larges
       (omega (arith, few, length-take-le (e - w .edition) (drop (w .edition) os) (omega (arith, length-drop (w .edition) os)))) in
       let sum : w .edition + (e - w .edition) ≡ e = omega arith in
       let q : w .orders ++ take (e - w .edition) (drop (w .edition) os) ≡ take e os =
-      ap {B = List Replacement} (λ (l : List Replacement). l ++ take (e - w .edition) (drop (w .edition) os)) (s .orders) ∙ take-more (w .edition) (e - w .edition) os ∙ ap (λ (n : ℕ). take n os) sum in
+      ap {B = List Replacement} (λ (l : List Replacement). l ++ take (e - w .edition) (drop (w .edition) os)) (s .orders)
+      ∙ take-more (w .edition) (e - w .edition) os ∙ ap (λ (n : ℕ). take n os) sum in
       subst₂ (λ (l : List Replacement) (x : List Account). Becomes w (called (take (e - w .edition) (drop (w .edition) os))) l x) q (s .accounts) p
 
   -- a world in which so many replacements were made is under that edition, and under its tags
@@ -79,7 +81,8 @@ module _ (os : List Replacement) (fine : AllFine os) (few : length os ≤ larges
       s .ledger .last e (edition-is w s (suc e) h q) .tags
       ∙ ap (λ (l : List Replacement). tagsOfOrder (getD l e noOrder)) q ∙ ap tagsOfOrder (getD-take (suc e) os e noOrder (omega arith))
 
-  at-servedOne : (w : World) (pre : List Account) (a : Account) → SoFar w pre → Ready os pre a → w .edition ≤ a .edition → (ps : List Word) → joined ps ≡ a .bytes
+  at-servedOne : (w : World) (pre : List Account) (a : Account) → SoFar w pre → Ready os pre a → w .edition ≤ a .edition → (ps : List Word)
+      → joined ps ≡ a .bytes
       → Becomes w (servedOne os a ps w) (take (a .edition) os) (pre ++ a ∷ [])
   at-servedOne w pre a s r low ps bytes =
       becomes-append w first (then (λ v. callOpen ∷ []) (then (fedPieces n ps) (shutIf (a .closed) n)) w1) _ _ _ _ one
@@ -116,13 +119,21 @@ module _ (os : List Replacement) (fine : AllFine os) (few : length os ≤ larges
           go (suc e) q = tags-are w1 s1 e (omega (arith, q, r .upto)) (one .orders-are ∙ ap (λ (m : ℕ). take m os) q) ∙ sym (r .tags e q)
 
       is-a0 : newAccount w1 (suc (length (w1 .accounts))) ≡ a0
-      is-a0 = λ d. record { serial = (ap {B = ℕ} (λ (l : List Account). suc (length l)) (one .accounts-are) ∙ sym (r .serial)) d; edition = e1 d; tags = t1 d; bytes = []; closed = false }
+      is-a0 = λ d. record {
+        serial = (ap {B = ℕ} (λ (l : List Account). suc (length l)) (one .accounts-are) ∙ sym (r .serial)) d;
+        edition = e1 d;
+        tags =
+            t1 d;
+        bytes = [];
+        closed = false;
+      }
 
       two : Becomes w1 (callOpen ∷ []) (take (a .edition) os) (pre ++ a0 ∷ [])
       two =
           subst₂ (λ (l : List Replacement) (x : List Account). Becomes w1 (callOpen ∷ []) l x) (one .orders-are)
           (ap₂ (λ (x : List Account) (y : Account). x ++ y ∷ []) (one .accounts-are) is-a0)
-          (opened-one w1 s1 (omega (arith, e1, r .from)) (omega (arith, r .count, ap {B = ℕ} length (one .accounts-are))) (le-trans (le-of-eq (ap lives (one .accounts-are))) (r .roomy)))
+          (opened-one w1 s1 (omega (arith, e1, r .from)) (omega (arith, r .count, ap {B = ℕ} length (one .accounts-are)))
+          (le-trans (le-of-eq (ap lives (one .accounts-are))) (r .roomy)))
 
       w2 : World
       w2 = run w1 (callOpen ∷ [])
@@ -153,7 +164,8 @@ module _ (os : List Replacement) (fine : AllFine os) (few : length os ≤ larges
           subst₂ (λ (l : List Replacement) (b : Word). Becomes w3 (shutIf (a .closed) n w3) l
           (pre ++ withBytes a b ∷ []))
           (three .orders-are) bytes
-          (at-shutIf (a .closed) w3 pre a1 (record { sound = s3; accounts = three .accounts-are; live = refl; now = sym (edition-is w3 s3 (a .edition) (r .upto) (three .orders-are)) }))
+          (at-shutIf (a .closed) w3 pre a1
+          (record { sound = s3; accounts = three .accounts-are; live = refl; now = sym (edition-is w3 s3 (a .edition) (r .upto) (three .orders-are)) }))
 
   -- the accounts rest, behind those of pre; L is all of them
   pub at-servedAll : (L : List Account) → ((pre : List Account) (a : Account) (rest : List Account) → L ≡ pre ++ a ∷ rest → Ready os pre a)
@@ -167,7 +179,8 @@ module _ (os : List Replacement) (fine : AllFine os) (few : length os ≤ larges
       let p = to-edition w pre s (length os) (s .low) (omega arith) in
       let m : take (length os - w .edition) (drop (w .edition) os) ≡ drop (w .edition) os =
       take-all (length os - w .edition) (drop (w .edition) os) (omega (arith, length-drop (w .edition) os)) in
-      subst₂ (λ (l : List Replacement) (x : List Account). Becomes w (called (drop (w .edition) os)) l x) (take-all (length os) os (omega arith)) (sym (append-nil pre) ∙ sym q)
+      subst₂ (λ (l : List Replacement) (x : List Account). Becomes w (called (drop (w .edition) os)) l x) (take-all (length os) os (omega arith))
+      (sym (append-nil pre) ∙ sym q)
       (subst (λ (l : List Replacement). Becomes w (called l) (take (length os) os) pre) m p)
   at-servedAll L ready rising cut cuts (a ∷ rest) w pre q s above =
       let k = length pre in
@@ -209,6 +222,7 @@ ready w s pre a rest q =
 pub served : (kind : Kind) (w : World) → SoundLeft w → (cut : ℕ → List Word) → ((k : ℕ) → k < length (w .accounts) → joined (cut k) ≡ accountAt w k .bytes)
     → Becomes (start kind) (serving kind cut w) (w .orders) (w .accounts)
 served kind w s cut cuts =
-    at-servedAll (w .orders) (s .ledger .fine) (le-trans (le-of-eq (s .ledger .editions)) (s .ledger .few-editions)) (w .accounts) (ready w s) (s .ledger .rising) cut cuts
+    at-servedAll (w .orders) (s .ledger .fine) (le-trans (le-of-eq (s .ledger .editions)) (s .ledger .few-editions)) (w .accounts) (ready w s)
+    (s .ledger .rising) cut cuts
     (w .accounts) (start kind) [] refl
     (record { sound = record { inv = inv-start kind; ledger = ledger-start kind }; accounts = refl; orders = refl; low = omega arith }) (λ k l h. omega arith)

@@ -18,7 +18,8 @@ module _ {A : Type 0} (l : List A) (x d : A) where
   snoc-last k e = ap (λ (n : ℕ). getD (l ++ x ∷ []) n d) e ∙ getD-append-seam l x [] d
 
   -- what holds of each before and of the new one holds of each after
-  pub snoc-each : (P : ℕ → A → Type 0) → ((k : ℕ) → k < length l → P k (getD l k d)) → P (length l) x → (k : ℕ) → k < length (l ++ x ∷ []) → P k (getD (l ++ x ∷ []) k d)
+  pub snoc-each : (P : ℕ → A → Type 0) → ((k : ℕ) → k < length l → P k (getD l k d)) → P (length l) x → (k : ℕ) → k < length (l ++ x ∷ [])
+      → P k (getD (l ++ x ∷ []) k d)
   snoc-each P f g k h = go (decLe (suc k) (length l))
     where
       go : Dec (suc k ≤ length l) → P k (getD (l ++ x ∷ []) k d)

@@ -47,7 +47,14 @@ module _ {Left : Type 0} (w : World) (v : Inv Left w) where
 
       -- the account under a number
       numbered : ℕ → Account
-      numbered n = record { serial = n; edition = accountAt w k .edition; tags = accountAt w k .tags; bytes = accountAt w k .bytes; closed = accountAt w k .closed }
+      numbered n = record {
+        serial = n;
+        edition = accountAt w k .edition;
+        tags = accountAt w k .tags;
+        bytes = accountAt w k .bytes;
+        closed =
+            accountAt w k .closed;
+      }
 
       -- the account, closed or not
       told : Bool → StateAnswer
@@ -58,7 +65,8 @@ module _ {Left : Type 0} (w : World) (v : Inv Left w) where
           ap₂ (λ (x y : Bool). stateBy (t .edition) (t .taken) x (eqb (t .edition .0) (w .desk .edition .0)) y) (ltb-no room mostTickets q) (given-test k h)
           ∙ ap told (sym c)
       go (seated c q g) =
-          ap (λ (x : Bool). stateBy (t .edition) (t .taken) x (eqb (t .edition .0) (w .desk .edition .0)) (isGiven (serialOf (suc k)) (w .desk .serial))) (lt-ltb room mostTickets q)
+          ap (λ (x : Bool). stateBy (t .edition) (t .taken) x (eqb (t .edition .0) (w .desk .edition .0)) (isGiven (serialOf (suc k)) (w .desk .serial)))
+          (lt-ltb room mostTickets q)
           ∙ (λ i. heldBy (record { 0 = g .edition i }) (g .taken i) (eqb (g .edition i) (sym (v .edition) i)))
           ∙ ap told (sym c)
 
@@ -66,8 +74,11 @@ module _ {Left : Type 0} (w : World) (v : Inv Left w) where
   unfolding stateOf
   state-none s h =
       let t = ticketIn (w .desk .tickets) (roomOf (w .desk .tickets) s) in
-      ap₂ (λ (x y : Bool). stateBy (t .edition) (t .taken) x (eqb (t .edition .0) (w .desk .edition .0)) y) (ltb-no (roomOf (w .desk .tickets) s) mostTickets (v .strangers s h))
-      (is-false (isGiven s (w .desk .serial)) (λ e. no h (and-l (not (eqb (s .0) 0)) (not (ltb (w .desk .serial .0) (s .0))) e) (and-r (not (eqb (s .0) 0)) (not (ltb (w .desk .serial .0) (s .0))) e)))
+      ap₂ (λ (x y : Bool). stateBy (t .edition) (t .taken) x (eqb (t .edition .0) (w .desk .edition .0)) y)
+      (ltb-no (roomOf (w .desk .tickets) s) mostTickets (v .strangers s h))
+      (is-false (isGiven s (w .desk .serial))
+      (λ e. no h (and-l (not (eqb (s .0) 0)) (not (ltb (w .desk .serial .0) (s .0))) e)
+      (and-r (not (eqb (s .0) 0)) (not (ltb (w .desk .serial .0) (s .0))) e)))
     where
       no : Stranger (length (w .accounts)) (s .0) → not (eqb (s .0) 0) ≡ true → not (ltb (w .desk .serial .0) (s .0)) ≡ true → ⊥
       no (inl z) p q = eqb-false (s .0) 0 (not-true _ p) z
@@ -83,7 +94,8 @@ module _ {Left : Type 0} (w : World) (v : Inv Left w) where
       go (no h) = inr (inr (omega arith))
 
 -- two worlds with the same accounts under the same edition show the same of every serial
-pub states-same : {Left : Type 0} (w v : World) → Inv Left w → Inv Left v → v .accounts ≡ w .accounts → v .edition ≡ w .edition → (s : Serial) → stateOf (v .desk) s ≡ stateOf (w .desk) s
+pub states-same : {Left : Type 0} (w v : World) → Inv Left w → Inv Left v → v .accounts ≡ w .accounts → v .edition ≡ w .edition → (s : Serial)
+    → stateOf (v .desk) s ≡ stateOf (w .desk) s
 states-same w v i j e f s = go (known-or-not w i (s .0))
   where
     go : ((k : ℕ) × (k < length (w .accounts)) × (s .0 ≡ suc k)) ⊎ Stranger (length (w .accounts)) (s .0) → stateOf (v .desk) s ≡ stateOf (w .desk) s
@@ -95,7 +107,8 @@ states-same w v i j e f s = go (known-or-not w i (s .0))
     go (inr h) = state-none v j s (subst (λ (l : List Account). Stranger (length l) (s .0)) (sym e) h) ∙ sym (state-none w i s h)
 
 -- and have the same records of every serial
-pub records-same : {Left : Type 0} (w v : World) → Inv Left w → Inv Left v → Left → v .accounts ≡ w .accounts → (n : ℕ) → recordsFor n (stream v) ≡ recordsFor n (stream w)
+pub records-same : {Left : Type 0} (w v : World) → Inv Left w → Inv Left v → Left → v .accounts ≡ w .accounts → (n : ℕ)
+    → recordsFor n (stream v) ≡ recordsFor n (stream w)
 records-same w v i j l e n = go (known-or-not w i n)
   where
     go : ((k : ℕ) × (k < length (w .accounts)) × (n ≡ suc k)) ⊎ Stranger (length (w .accounts)) n → recordsFor n (stream v) ≡ recordsFor n (stream w)

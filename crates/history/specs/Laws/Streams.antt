@@ -24,7 +24,8 @@ use Rattle.desk.specs.declared.Opening.{Opening}
 use Rattle.desk.specs.declared.Replacing.{Replacing}
 use Rattle.desk.specs.declared.Serial.{Serial}
 use Rattle.history.specs.History.{Account, AllBytes, AsLeft, LentAsLeft, OfBytes, World}
-use Rattle.history.specs.History.{accountAt, closing, feeding, grown, newAccount, noAccount, onSerial, opening, recordsFor, replacing, run, shut, step, stream}
+use Rattle.history.specs.History.{accountAt, closing, feeding, grown, newAccount, noAccount, onSerial, opening, recordsFor, replacing, run, shut, step}
+use Rattle.history.specs.History.{stream}
 use Rattle.history.specs.Laws.Accounts.{grown-none, recordsFor-own}
 use Rattle.history.specs.Laws.Fed.{stream-fed}
 use Rattle.history.specs.Laws.Feeding.{read-done}
@@ -47,7 +48,8 @@ adds-feeds : (w : World) → Reached (w .desk) → (s : Serial) (table : Lent) (
 unfolding recordsFor
 adds-feeds w d s table piece = go _ (feeds (w .desk) s table piece)
   where
-    go : (r : Feeding) → Feeds (w .desk) (roomOf (w .desk .tickets) s) table piece r → Adds w (feeding w s piece (r .desk) (r .answer)) (callFeed s table piece)
+    go : (r : Feeding) → Feeds (w .desk) (roomOf (w .desk .tickets) s) table piece r
+        → Adds w (feeding w s piece (r .desk) (r .answer)) (callFeed s table piece)
     go r (feed-no-ticket h) = quiet w _ _ refl refl
     go r (feed-stale h e) = quiet w _ _ refl refl
     go r (feed-other-slots h e n) = quiet w _ _ refl refl
@@ -95,7 +97,8 @@ in-append [] m = omega arith
 in-append (a ∷ l) m = omega (arith, in-append l m)
 
 in-set : (l : List Account) (k : ℕ) (y : Account) (n : ℕ) → k < length l
-    → length (foundIn (y .tags) (y .bytes)) ≡ length (foundIn (getD l k noAccount .tags) (getD l k noAccount .bytes)) + n → occurrencesIn (set l k y) ≡ occurrencesIn l + n
+    → length (foundIn (y .tags) (y .bytes)) ≡ length (foundIn (getD l k noAccount .tags) (getD l k noAccount .bytes)) + n
+    → occurrencesIn (set l k y) ≡ occurrencesIn l + n
 unfolding occurrencesIn
 in-set [] k y n h e = absurd (omega arith)
 in-set (a ∷ l) zero y n h e = omega arith
@@ -108,11 +111,13 @@ Even w = length (stream w) ≡ occurrencesIn (w .accounts)
 even-changed : {Left : Type 0} (w : World) → Inv Left w → (s : Serial) (k : ℕ) → k < length (w .accounts) → s .0 ≡ suc k
     → (f : Account → Account) (v : World) → v .accounts ≡ onSerial (s .0) f (w .accounts)
     → (n : ℕ) → length (stream v) ≡ length (stream w) + n
-    → length (foundIn (f (accountAt w k) .tags) (f (accountAt w k) .bytes)) ≡ length (foundIn (accountAt w k .tags) (accountAt w k .bytes)) + n → Even w → Even v
+    → length (foundIn (f (accountAt w k) .tags) (f (accountAt w k) .bytes)) ≡ length (foundIn (accountAt w k .tags) (accountAt w k .bytes)) + n → Even w
+    → Even v
 even-changed w i s k hk ek f v q n more due e =
     omega (arith, more, e, in-set (w .accounts) k (f (accountAt w k)) n hk due, ap occurrencesIn (q ∙ changed-is w i s k hk ek f))
 
-even-feeds : (w : World) → Inv (Unit {0}) w → (s : Serial) (table : Lent) (piece : Word) → Below 256 piece → table ≡ w .table → Even w → Even (step w (callFeed s table piece))
+even-feeds : (w : World) → Inv (Unit {0}) w → (s : Serial) (table : Lent) (piece : Word) → Below 256 piece → table ≡ w .table → Even w
+    → Even (step w (callFeed s table piece))
 even-feeds w v s table piece b lent e = go _ (feeds (w .desk) s table piece)
   where
     go : (r : Feeding) → Feeds (w .desk) (roomOf (w .desk .tickets) s) table piece r → Even (feeding w s piece (r .desk) (r .answer))

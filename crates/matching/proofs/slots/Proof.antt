@@ -19,10 +19,12 @@ div-most : tie.Need-div-most
 div-most c = rw (c .letters .ensures) (mul-pos (c .before .pre .1 .0) (omega arith))
 
 returns : tie.Need-returns
-returns c = slots-some (c .before .before .args .len) (c .before .before .args .bits) (c .before .before .args .k) (c .before .letters .result) (c .before .letters .ensures) (c .if1 .taken)
+returns c = slots-some (c .before .before .args .len) (c .before .before .args .bits) (c .before .before .args .k) (c .before .letters .result)
+    (c .before .letters .ensures) (c .if1 .taken)
 
 returns-2 : tie.Need-returns-2
-returns-2 c = slots-most (c .before .before .args .len) (c .before .before .args .bits) (c .before .before .args .k) (c .before .letters .result) (c .before .letters .ensures) (c .if1 .left)
+returns-2 c = slots-most (c .before .before .args .len) (c .before .before .args .bits) (c .before .before .args .k) (c .before .letters .result)
+    (c .before .letters .ensures) (c .if1 .left)
 
 pub slots-spec : {M : Type 1} → statement M
 slots-spec = tie.close (tie.spec letters-requires add-most mul-most div-most returns returns-2)

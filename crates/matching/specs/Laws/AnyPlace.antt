@@ -47,7 +47,8 @@ module _ (n k s : ℕ) (ts : List Word) (rest : List ℕ) (some : 0 < s) (fits :
       go : Dec (length (prefixes (tagsFor n ts m)) ≤ q) → getD (built n k s ts ++ rest) (spot n s m q + slice n m c) 0 < s
       go (yes h) =
           let z : getD (slot n (tagsFor n ts m) (prefixes (tagsFor n ts m)) q) (slice n m c) 0 ≡ 0
-          = ap (λ (l : List ℕ). getD l (slice n m c) 0) (slot-unused n (tagsFor n ts m) (prefixes (tagsFor n ts m)) q h) ∙ getD-replicate (slotSize n) (slice n m c) 0 0 (omega (arith, slice-lt n m c)) in
+          = ap (λ (l : List ℕ). getD l (slice n m c) 0) (slot-unused n (tagsFor n ts m) (prefixes (tagsFor n ts m)) q h)
+          ∙ getD-replicate (slotSize n) (slice n m c) 0 0 (omega (arith, slice-lt n m c)) in
           omega (arith, at, z, some)
       go (no h) =
           let z = slot-next n (tagsFor n ts m) (prefixes (tagsFor n ts m)) q (slice n m c) (omega arith) (slice-lt n m c) in

@@ -32,9 +32,12 @@ pub record Kept (s : ℕ) (place : List ℕ) (count room : ℕ) (w : Word) (r : 
 pub onesOf-within : (width i v : ℕ) → Every (λ j. (i ≤ j) × (j < i + width)) (onesOf i width v)
 unfolding onesOf
 onesOf-within zero i v = tt
-onesOf-within (suc width) i v = go (bit-cases v) (every-map _ (λ j. (i ≤ j) × (j < i + suc width)) (onesOf (suc i) width (v / 2)) (λ j h. (omega (arith, h .0), omega (arith, h .1))) (onesOf-within width (suc i) (v / 2)))
+onesOf-within (suc width) i v = go (bit-cases v)
+    (every-map _ (λ j. (i ≤ j) × (j < i + suc width)) (onesOf (suc i) width (v / 2)) (λ j h. (omega (arith, h .0), omega (arith, h .1)))
+    (onesOf-within width (suc i) (v / 2)))
   where
-    go : (v % 2 ≡ 1) ⊎ (v % 2 ≡ 0) → Every (λ j. (i ≤ j) × (j < i + suc width)) (onesOf (suc i) width (v / 2)) → Every (λ j. (i ≤ j) × (j < i + suc width)) (onesOf i (suc width) v)
+    go : (v % 2 ≡ 1) ⊎ (v % 2 ≡ 0) → Every (λ j. (i ≤ j) × (j < i + suc width)) (onesOf (suc i) width (v / 2))
+        → Every (λ j. (i ≤ j) × (j < i + suc width)) (onesOf i (suc width) v)
     go (inl q) ih = rw (onesOf-one i width v q) ((omega arith, omega arith), ih)
     go (inr q) ih = rw (onesOf-none i width v q) ih
 
@@ -44,7 +47,8 @@ onesOf-rising zero i v = tt
 onesOf-rising (suc width) i v = go (bit-cases v) (onesOf-rising width (suc i) (v / 2))
   where
     go : (v % 2 ≡ 1) ⊎ (v % 2 ≡ 0) → Rising (onesOf (suc i) width (v / 2)) → Rising (onesOf i (suc width) v)
-    go (inl q) ih = rw (onesOf-one i width v q) (every-map _ (λ j. i < j) (onesOf (suc i) width (v / 2)) (λ j h. h .0) (onesOf-within width (suc i) (v / 2)), ih)
+    go (inl q) ih = rw (onesOf-one i width v q)
+        (every-map _ (λ j. i < j) (onesOf (suc i) width (v / 2)) (λ j h. h .0) (onesOf-within width (suc i) (v / 2)), ih)
     go (inr q) ih = rw (onesOf-none i width v q) ih
 
 -- a place keeps its number of states
@@ -68,7 +72,12 @@ module _ (n s : ℕ) (table place : List ℕ) (c : ℕ) where
       go (inl b) =
           let z = sym (tableStep-goes n s table place c b) ∙ e in
           let at : nexts n s table 0 place c ≡ to = cc in
-          record { there = at; below = subst (λ (x : List ℕ). allBelow s x ≡ true) at b; marks = (let q : flagged n s table (nexts n s table 0 place c) ≡ tags = cc in rw at at q) }
+          record {
+            there = at;
+            below = subst (λ (x : List ℕ). allBelow s x ≡ true) at b;
+            marks =
+                (let q : flagged n s table (nexts n s table 0 place c) ≡ tags = cc in rw at at q);
+          }
       go (inr b) = absurd (let y = sym (tableStep-wrong n s table place c b) ∙ e in let z : _≡_ {A = ℕ} 0 1 = cc in omega arith)
 
   -- the tags of a step rise, and are below 16
@@ -79,7 +88,8 @@ module _ (n s : ℕ) (table place : List ℕ) (c : ℕ) where
   pub moved-tags : (to tags : List ℕ) → tableStep n s table place c ≡ goesTo to tags → Every (λ i. i < 16) tags
   unfolding flagged
   moved-tags to tags e = subst (Every (λ i. i < 16)) (moved to tags e .marks)
-      (every-map _ (λ i. i < 16) (onesOf 0 16 (anded 65535 (vectorsAt n s table 0 to))) (λ j h. omega (arith, h .1)) (onesOf-within 16 0 (anded 65535 (vectorsAt n s table 0 to))))
+      (every-map _ (λ i. i < 16) (onesOf 0 16 (anded 65535 (vectorsAt n s table 0 to))) (λ j h. omega (arith, h .1))
+      (onesOf-within 16 0 (anded 65535 (vectorsAt n s table 0 to))))
 
 pub read-kept : (n s : ℕ) (table place : List ℕ) (count room : ℕ) (w : Word) → Kept s place count room w (read n s table place count room w)
 unfolding read

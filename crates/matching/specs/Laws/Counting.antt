@@ -77,7 +77,8 @@ every-of P (p ∷ ps) h = (h p (among-head p ps), every-of P ps (λ v e. h v (am
 pub by-depth : (D : ℕ) (ps : List Word) → EachWord (λ p. length p < D) ps → length ps ≡ sumTo D (λ d. tally (deep d) ps)
 unfolding tally deep
 by-depth D [] h = sym (sum-zero D (λ d. tally (deep d) []) (λ i. refl))
-by-depth D (p ∷ ps) h = omega (arith, by-depth D ps (h .1), sum-raise D (length p) 1 (λ d. tally (deep d) ps) (λ d. tally (deep d) (p ∷ ps)) (h .0) (λ d. refl))
+by-depth D (p ∷ ps) h = omega
+    (arith, by-depth D ps (h .1), sum-raise D (length p) 1 (λ d. tally (deep d) ps) (λ d. tally (deep d) (p ∷ ps)) (h .0) (λ d. refl))
 
 -- ---- no more than there are tags
 
@@ -121,7 +122,13 @@ withPrefixes-tally (x ∷ w) ps p d = go (ℕ-discrete (suc (length p)) d) (with
     go : Dec (suc (length p) ≡ d) → tally (deep d) (withPrefixes (withWord ps (p ++ x ∷ [])) (p ++ x ∷ []) w) ≤ tally (deep d) (withWord ps (p ++ x ∷ [])) + 1
         → tally (deep d) (withPrefixes (withWord ps (p ++ x ∷ [])) (p ++ x ∷ []) w) ≤ tally (deep d) ps + 1
     go (yes e) ih =
-        omega (arith, withPrefixes-below w (withWord ps (p ++ x ∷ [])) (p ++ x ∷ []) d (omega (arith, length-append p (x ∷ []))), withWord-tally (deep d) ps (p ++ x ∷ []), one-le (deep d (p ++ x ∷ [])))
+        omega (
+          arith,
+          withPrefixes-below w (withWord ps (p ++ x ∷ [])) (p ++ x ∷ []) d (omega (arith, length-append p (x ∷ []))),
+          withWord-tally (deep d) ps
+              (p ++ x ∷ []),
+          one-le (deep d (p ++ x ∷ [])),
+        )
     go (no ne) ih =
         omega (arith, withWord-tally (deep d) ps (p ++ x ∷ []), deep-no d (p ++ x ∷ []) (λ e. ne (omega (arith, length-append p (x ∷ [])))))
 
@@ -156,7 +163,8 @@ among-after c w [] h = h
 among-after c w ([] ∷ ps) h = among-tail (c ∷ w) [] ps (among-after c w ps h)
 among-after c w ((x ∷ v) ∷ ps) h = go (decided (eqb x c)) (among-after c w ps)
   where
-    first : eqb x c ≡ true → (same w v ≡ true) ⊎ (among w (after c ps) ≡ true) → (among w (after c ps) ≡ true → among (c ∷ w) ps ≡ true) → among (c ∷ w) ((x ∷ v) ∷ ps) ≡ true
+    first : eqb x c ≡ true → (same w v ≡ true) ⊎ (among w (after c ps) ≡ true) → (among w (after c ps) ≡ true → among (c ∷ w) ps ≡ true)
+        → among (c ∷ w) ((x ∷ v) ∷ ps) ≡ true
     first e (inl i) ih = among-hit (c ∷ w) (x ∷ v) ps (eq-same (c ∷ w) (x ∷ v) (ap₂ _∷_ (sym (eqb-eq x c e)) (same-eq w v i)))
     first e (inr i) ih = among-tail (c ∷ w) (x ∷ v) ps (ih i)
 
@@ -171,7 +179,8 @@ after-distinct c ([] ∷ ps) d = after-distinct c ps (d .1)
 after-distinct c ((x ∷ w) ∷ ps) d = go (decided (eqb x c)) (after-distinct c ps (d .1))
   where
     go : (eqb x c ≡ true) ⊎ (eqb x c ≡ false) → Distinct (after c ps) → Distinct (after c ((x ∷ w) ∷ ps))
-    go (inl e) ih = rw (after-hit c x w ps e) (is-false (among w (after c ps)) (λ h. not-both (subst (λ (y : ℕ). among (y ∷ w) ps ≡ true) (sym (eqb-eq x c e)) (among-after c w ps h)) (d .0)), ih)
+    go (inl e) ih = rw (after-hit c x w ps e)
+        (is-false (among w (after c ps)) (λ h. not-both (subst (λ (y : ℕ). among (y ∷ w) ps ≡ true) (sym (eqb-eq x c e)) (among-after c w ps h)) (d .0)), ih)
     go (inr e) ih = rw (after-miss c x w ps e) ih
 
 after-below : (r c : ℕ) (ps : List Word) → EachWord (Below r) ps → EachWord (Below r) (after c ps)
@@ -199,9 +208,11 @@ after-tally r d ((x ∷ w) ∷ ps) h =
     raise : (c : ℕ) → tally (deep d) (after c ((x ∷ w) ∷ ps)) ≡ tally (deep d) (after c ps) + cond (eqb x c) (cond (deep d w) 1 0) 0
     raise c = go (decided (eqb x c))
       where
-        go : (eqb x c ≡ true) ⊎ (eqb x c ≡ false) → tally (deep d) (after c ((x ∷ w) ∷ ps)) ≡ tally (deep d) (after c ps) + cond (eqb x c) (cond (deep d w) 1 0) 0
+        go : (eqb x c ≡ true) ⊎ (eqb x c ≡ false) → tally (deep d) (after c ((x ∷ w) ∷ ps)) ≡ tally (deep d) (after c ps) + cond (eqb x c)
+            (cond (deep d w) 1 0) 0
         go (inl e) = ap (tally (deep d)) (after-hit c x w ps e) ∙ ap (λ (b : Bool). tally (deep d) (after c ps) + cond b (cond (deep d w) 1 0) 0) (sym e)
-        go (inr e) = ap (tally (deep d)) (after-miss c x w ps e) ∙ omega (arith, ap (λ (b : Bool). tally (deep d) (after c ps) + cond b (cond (deep d w) 1 0) 0) e)
+        go (inr e) = ap (tally (deep d)) (after-miss c x w ps e) ∙ omega
+            (arith, ap (λ (b : Bool). tally (deep d) (after c ps) + cond b (cond (deep d w) 1 0) 0) e)
 
 -- the empty word stands once at the most
 no-empties : (ps : List Word) → among [] ps ≡ false → tally (deep 0) ps ≡ 0

@@ -2,7 +2,7 @@
 use Prim.Native.Nat.{_+_, _<_, _≤_, suc, ℕ}
 use mathlib.Core.List.{List, [], _++_, _∷_}
 use mathlib.Core.Logic.{_⊎_}
-use mathlib.Core.Path.{_∙_, _≡_, ap, refl}
+use mathlib.Core.Path.{_≡_, ap, refl}
 use native.Mathlib.Omega.{arith}
 use lib.Dec.{le→leb}
 use lib.ListN.{length, take}
@@ -60,4 +60,5 @@ expected-alike n k n′ k′ ts w v count room = record { taken = refl; stop = r
 pub expected-advances : (n k : ℕ) (ts : List Word) (c : ℕ) (w v : Word) (count room : ℕ) → length ts ≤ room → 0 < expected n k ts v count room (c ∷ w) .taken
 unfolding tookByte
 expected-advances n k ts c w v count room h =
-    rw (expected-tookByte n k ts v count room c w (is-true _ (le→leb (length (tagsEnding ts (v ++ c ∷ []))) room (omega (arith, tagsEnding-length ts (v ++ c ∷ [])))))) (omega arith)
+    rw (expected-tookByte n k ts v count room c w
+    (is-true _ (le→leb (length (tagsEnding ts (v ++ c ∷ []))) room (omega (arith, tagsEnding-length ts (v ++ c ∷ [])))))) (omega arith)

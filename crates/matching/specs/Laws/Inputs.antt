@@ -77,18 +77,31 @@ module _ (f : Word → List ℕ) where
       sizes = omega (arith, length-append (occurAt (suc count) (f (v ++ c ∷ []))) (r .found), occurAt-length (suc count) (f (v ++ c ∷ [])))
 
       go : ((r .stop ≡ All) × (r .taken ≡ length w))
-          ⊎ ((r .stop ≡ Full) × (r .taken < length w) × (room - length (f (v ++ c ∷ [])) < length (r .found) + length (f ((v ++ c ∷ []) ++ take (suc (r .taken)) w))))
+          ⊎ ((r .stop ≡ Full) × (r .taken < length w) ×
+          (room - length (f (v ++ c ∷ [])) < length (r .found) + length (f ((v ++ c ∷ []) ++ take (suc (r .taken)) w))))
           → ((r .stop ≡ All) × (suc (r .taken) ≡ suc (length w)))
           ⊎ ((r .stop ≡ Full) × (suc (r .taken) < suc (length w))
           × (room < length (occurAt (suc count) (f (v ++ c ∷ [])) ++ r .found) + length (f (v ++ c ∷ take (suc (r .taken)) w))))
       go (inl e) = inl (e .0, ap suc (e .1))
-      go (inr e) = inr (e .0, omega (arith, e .1), omega (arith, e .2, sizes, ap (λ (u : Word). length (f u)) (append-assoc v (c ∷ []) (take (suc (r .taken)) w))))
+      go (inr e) = inr (
+        e .0,
+        omega (arith, e .1),
+        omega
+            (arith, e .2, sizes, ap (λ (u : Word). length (f u)) (append-assoc v (c ∷ []) (take (suc (r .taken)) w))),
+      )
 
   pub done-by : (w v : Word) (count room : ℕ) → DoneBy v count room w (readBy (inputStep f) v count room w)
   unfolding halted occurrencesBy
   done-by = every-input DoneBy (record {
     none = λ v count room. record { part = omega arith; place = sym (append-nil v); found = refl; fits = omega arith; stopped = inl (refl, refl) };
-    full = λ v count room c w h. record { part = omega arith; place = sym (append-nil v); found = refl; fits = omega arith; stopped = inr (refl, omega arith, omega (arith, h)) };
+    full = λ v count room c w h. record {
+      part = omega arith;
+      place = sym (append-nil v);
+      found = refl;
+      fits = omega arith;
+      stopped =
+          inr (refl, omega arith, omega (arith, h));
+    };
     took = done-took;
   })
 
@@ -98,17 +111,33 @@ module _ (f : Word → List ℕ) where
   unfolding readBy halted occurrencesBy tookByte
   all-by [] v count room h = ap {B = OutcomeOf Word} (λ (u : Word). record { taken = 0; place = u; stop = All; found = [] }) (sym (append-nil v))
   all-by (c ∷ w) v count room h =
-      readBy-took (inputStep f) v count room c w (v ++ c ∷ []) (f (v ++ c ∷ [])) (input-step v c) (le-is (length (f (v ++ c ∷ []))) room (omega (arith, sizes)))
-      ∙ ap {B = OutcomeOf Word} (tookByte (suc count) (f (v ++ c ∷ []))) (all-by w (v ++ c ∷ []) (suc count) (room - length (f (v ++ c ∷ []))) (omega (arith, sizes)))
-      ∙ ap {B = OutcomeOf Word} (λ (u : Word). record { taken = suc (length w); place = u; stop = All; found = occurAt (suc count) (f (v ++ c ∷ [])) ++ occurrencesBy f (v ++ c ∷ []) (suc count) w }) (append-assoc v (c ∷ []) w)
+      readBy-took (inputStep f) v count room c w (v ++ c ∷ []) (f (v ++ c ∷ [])) (input-step v c)
+      (le-is (length (f (v ++ c ∷ []))) room (omega (arith, sizes)))
+      ∙ ap {B = OutcomeOf Word} (tookByte (suc count) (f (v ++ c ∷ [])))
+      (all-by w (v ++ c ∷ []) (suc count) (room - length (f (v ++ c ∷ []))) (omega (arith, sizes)))
+      ∙ ap {B = OutcomeOf Word}
+      (λ (u : Word). record {
+        taken = suc (length w);
+        place = u;
+        stop = All;
+        found =
+            occurAt (suc count) (f (v ++ c ∷ [])) ++ occurrencesBy f (v ++ c ∷ []) (suc count) w;
+      }) (append-assoc v (c ∷ []) w)
     where
-      sizes : length (occurAt (suc count) (f (v ++ c ∷ [])) ++ occurrencesBy f (v ++ c ∷ []) (suc count) w) ≡ length (f (v ++ c ∷ [])) + length (occurrencesBy f (v ++ c ∷ []) (suc count) w)
-      sizes = omega (arith, length-append (occurAt (suc count) (f (v ++ c ∷ []))) (occurrencesBy f (v ++ c ∷ []) (suc count) w), occurAt-length (suc count) (f (v ++ c ∷ [])))
+      sizes : length (occurAt (suc count) (f (v ++ c ∷ [])) ++ occurrencesBy f (v ++ c ∷ []) (suc count) w)
+          ≡ length (f (v ++ c ∷ [])) + length (occurrencesBy f (v ++ c ∷ []) (suc count) w)
+      sizes = omega (
+        arith,
+        length-append (occurAt (suc count) (f (v ++ c ∷ []))) (occurrencesBy f (v ++ c ∷ []) (suc count) w),
+        occurAt-length (suc count)
+            (f (v ++ c ∷ [])),
+      )
 
 -- ---- readings that follow it
 
 -- a reading whose place stands for the input is the same, its place put for the input
-pub outcome-eq : {P Q : Type 0} (φ : Q → P) (a : OutcomeOf P) (b : OutcomeOf Q) → a .taken ≡ b .taken → a .place ≡ φ (b .place) → a .stop ≡ b .stop → a .found ≡ b .found
+pub outcome-eq : {P Q : Type 0} (φ : Q → P) (a : OutcomeOf P) (b : OutcomeOf Q) → a .taken ≡ b .taken → a .place ≡ φ (b .place) → a .stop ≡ b .stop
+    → a .found ≡ b .found
     → a ≡ onPlace φ b
 unfolding onPlace
 outcome-eq φ a b t p s f = λ i. record { taken = t i; place = p i; stop = s i; found = f i }

@@ -9,7 +9,8 @@ use lib.ListN.{List·getD-append, getD, length, length-append}
 use lib.Seq.{getD-append-seam}
 use Rattle.matching.specs.Laws.Bools.{decided, is-false, not-both, or-false, or-l, or-r}
 use Rattle.matching.specs.Laws.Machine.{Closed, fail-step, longest-among, longest-hit, longest-nil, next-longest}
-use Rattle.matching.specs.Laws.Words.{Distinct, among-append, among-head, among-one, getD-indexOf, indexOf-append, indexOf-getD, indexOf-new, snoc-inj, snoc-last}
+use Rattle.matching.specs.Laws.Words.{Distinct, among-append, among-head, among-one, getD-indexOf, indexOf-append, indexOf-getD, indexOf-new, snoc-inj}
+use Rattle.matching.specs.Laws.Words.{snoc-last}
 use Rattle.matching.specs.Machine.{longest, next}
 use Rattle.matching.specs.Words.{Word, among, indexOf}
 
@@ -56,7 +57,8 @@ child-none ps s c e = rw (e, child) refl
 pub child-new : (ps : List Word) (q d : ℕ) → q < length ps → among (getD ps q [] ++ d ∷ []) ps ≡ false
     → child (ps ++ (getD ps q [] ++ d ∷ []) ∷ []) q d ≡ length ps
 child-new ps q d hq h =
-    child-is (ps ++ w ∷ []) q d (ap (λ (v : Word). among (v ++ d ∷ []) (ps ++ w ∷ [])) same-word ∙ among-append w ps (w ∷ []) ∙ or-r (among w ps) (among w (w ∷ [])) (among-head w []))
+    child-is (ps ++ w ∷ []) q d
+    (ap (λ (v : Word). among (v ++ d ∷ []) (ps ++ w ∷ [])) same-word ∙ among-append w ps (w ∷ []) ∙ or-r (among w ps) (among w (w ∷ [])) (among-head w []))
     ∙ ap (λ (v : Word). indexOf (v ++ d ∷ []) (ps ++ w ∷ [])) same-word ∙ indexOf-new w ps [] h
   where
     w : Word
@@ -80,14 +82,19 @@ child-kept ps q d u hq h s c hs other = go (decided (among v ps))
     same-word = List·getD-append ps (w ∷ []) [] s hs
 
     differ : v ≡ w → ⊥
-    differ e = other (sym (indexOf-getD ps s u hs) ∙ ap (λ (x : Word). indexOf x ps) (snoc-inj (getD ps s []) (getD ps q []) c d e) ∙ indexOf-getD ps q u hq, snoc-last (getD ps s []) (getD ps q []) c d e)
+    differ e = other (
+      sym (indexOf-getD ps s u hs) ∙ ap (λ (x : Word). indexOf x ps) (snoc-inj (getD ps s []) (getD ps q []) c d e)
+          ∙ indexOf-getD ps q u hq,
+      snoc-last (getD ps s []) (getD ps q []) c d e,
+    )
 
     not-new : among v (w ∷ []) ≡ false
     not-new = is-false (among v (w ∷ [])) (λ i. differ (among-one v w i))
 
     old : (b : Bool) → among v ps ≡ b → among (getD (ps ++ w ∷ []) s [] ++ c ∷ []) (ps ++ w ∷ []) ≡ b
     old true i = ap (λ (x : Word). among (x ++ c ∷ []) (ps ++ w ∷ [])) same-word ∙ among-append v ps (w ∷ []) ∙ or-l (among v ps) (among v (w ∷ [])) i
-    old false i = ap (λ (x : Word). among (x ++ c ∷ []) (ps ++ w ∷ [])) same-word ∙ among-append v ps (w ∷ []) ∙ or-false (among v ps) (among v (w ∷ [])) i not-new
+    old false i = ap (λ (x : Word). among (x ++ c ∷ []) (ps ++ w ∷ [])) same-word ∙ among-append v ps (w ∷ [])
+        ∙ or-false (among v ps) (among v (w ∷ [])) i not-new
 
     go : (among v ps ≡ true) ⊎ (among v ps ≡ false) → child (ps ++ w ∷ []) s c ≡ child ps s c
     go (inl i) =

@@ -120,7 +120,8 @@ ends-longest ps t (x ∷ w) h = go (decided (among (x ∷ w) ps)) (ends-longest 
   where
     go : (among (x ∷ w) ps ≡ true) ⊎ (among (x ∷ w) ps ≡ false) → ends t (longest ps w) ≡ ends t w → ends t (longest ps (x ∷ w)) ≡ ends t (x ∷ w)
     go (inl e) ih = rw (longest-hit ps x w e) refl
-    go (inr e) ih = rw (longest-miss ps x w e) (ih ∙ ap (λ (b : Bool). b || ends t w) (sym (ne-same t (x ∷ w) (λ q. not-both (subst (λ (u : Word). among u ps ≡ true) q h) e))))
+    go (inr e) ih = rw (longest-miss ps x w e)
+        (ih ∙ ap (λ (b : Bool). b || ends t w) (sym (ne-same t (x ∷ w) (λ q. not-both (subst (λ (u : Word). among u ps ≡ true) q h) e))))
 
 abbrev pub AllAmong : List Word → List Word → Type 0
 AllAmong [] ps = Unit {0}

@@ -32,7 +32,8 @@ tagsEnding-length ts w = numbersWhere-length (λ t. ends t w) 0 ts
 
 -- ---- the tags that are found
 
-pub numbersWhere-has : {A : Type 0} (z : A) (g : A → Bool) (ts : List A) (i j : ℕ) → j < length ts → g (getD ts j z) ≡ true → List·Memᴰ (i + j) (numbersWhere g i ts)
+pub numbersWhere-has : {A : Type 0} (z : A) (g : A → Bool) (ts : List A) (i j : ℕ) → j < length ts → g (getD ts j z) ≡ true
+    → List·Memᴰ (i + j) (numbersWhere g i ts)
 numbersWhere-has z g [] i j h e = absurd (not-suc-le-zero h)
 numbersWhere-has z g (t ∷ ts) i zero h e = rw (numbersWhere-hit g i t ts e, add-zero i) (List·Memᴰ·head refl)
 numbersWhere-has {A} z g (t ∷ ts) i (suc j) h e = go (decided (g t)) (numbersWhere-has z g ts (suc i) j (le-of-suc-le-suc h) e)
@@ -44,12 +45,14 @@ numbersWhere-has {A} z g (t ∷ ts) i (suc j) h e = go (decided (g t)) (numbersW
     go (inl q) m = rw (numbersWhere-hit g i t ts q, ← sum) (List·Memᴰ·tail m)
     go (inr q) m = rw (numbersWhere-miss g i t ts q, ← sum) m
 
-pub numbersWhere-only : {A : Type 0} (z : A) (g : A → Bool) (ts : List A) (i x : ℕ) → List·Memᴰ x (numbersWhere g i ts) → (j : ℕ) × (x ≡ i + j) × (j < length ts) × (g (getD ts j z) ≡ true)
+pub numbersWhere-only : {A : Type 0} (z : A) (g : A → Bool) (ts : List A) (i x : ℕ) → List·Memᴰ x (numbersWhere g i ts)
+    → (j : ℕ) × (x ≡ i + j) × (j < length ts) × (g (getD ts j z) ≡ true)
 unfolding numbersWhere
 numbersWhere-only z g [] i x m = absurd (List·Memᴰ·not-nil m)
 numbersWhere-only {A} z g (t ∷ ts) i x m = go (decided (g t)) (numbersWhere-only z g ts (suc i) x)
   where
-    up : (j : ℕ) × (x ≡ suc i + j) × (j < length ts) × (g (getD ts j z) ≡ true) → (j : ℕ) × (x ≡ i + j) × (j < suc (length ts)) × (g (getD (t ∷ ts) j z) ≡ true)
+    up : (j : ℕ) × (x ≡ suc i + j) × (j < length ts) × (g (getD ts j z) ≡ true)
+        → (j : ℕ) × (x ≡ i + j) × (j < suc (length ts)) × (g (getD (t ∷ ts) j z) ≡ true)
     up r = (suc (r .0), omega (arith, r .1), omega (arith, r .2), r .3)
 
     first : g t ≡ true → (x ≡ i) ⊎ List·Memᴰ x (numbersWhere g (suc i) ts)

@@ -8,7 +8,8 @@ use native.Mathlib.Omega.{arith}
 use lib.ListN.{getD, length, length-append}
 use Rattle.matching.specs.Laws.Bools.{both-ways, decided, or-cases, or-l, or-r}
 use Rattle.matching.specs.Laws.Machine.{AllAmong, Closed, longest-among, longest-nil, vector-longest, walk-longest}
-use Rattle.matching.specs.Laws.Words.{Distinct, Distinct-snoc, among-append, among-head, among-one, begins-append, begins-split, eq-same, getD-indexOf, indexOf-hit, indexOf-lt, same-eq, same-self, snoc-inj}
+use Rattle.matching.specs.Laws.Words.{Distinct, Distinct-snoc, among-append, among-head, among-one, begins-append, begins-split, eq-same, getD-indexOf}
+use Rattle.matching.specs.Laws.Words.{indexOf-hit, indexOf-lt, same-eq, same-self, snoc-inj}
 use Rattle.matching.specs.Machine.{longest, prefixes, states, vector, walk, withPrefixes, withTags, withWord}
 use Rattle.matching.specs.Words.{Word, among, begins, beginsOne, indexOf, same}
 
@@ -91,7 +92,8 @@ withPrefixes-distinct (x ∷ w) ps p d = withPrefixes-distinct w (withWord ps (p
 withPrefixes-closed : (w : Word) (ps : List Word) (p : Word) → Closed ps → among p ps ≡ true → Closed (withPrefixes ps p w)
 unfolding withPrefixes
 withPrefixes-closed [] ps p k h = k
-withPrefixes-closed (x ∷ w) ps p k h = withPrefixes-closed w (withWord ps (p ++ x ∷ [])) (p ++ x ∷ []) (withWord-closed ps p x k h) (withWord-has ps (p ++ x ∷ []))
+withPrefixes-closed (x ∷ w) ps p k h = withPrefixes-closed w (withWord ps (p ++ x ∷ [])) (p ++ x ∷ []) (withWord-closed ps p x k h)
+    (withWord-has ps (p ++ x ∷ []))
 
 withPrefixes-has : (u r : Word) (ps : List Word) (p : Word) → among p ps ≡ true → among (p ++ u) (withPrefixes ps p (u ++ r)) ≡ true
 unfolding withPrefixes
@@ -133,7 +135,13 @@ unfolding among
 tree-nil = record { root = among-head [] []; closed = λ w c h. absurd (concat-ne-nil c w (among-one (w ++ c ∷ []) [] h)); distinct = (refl, tt) }
 
 tree-withPrefixes : (w : Word) (ps : List Word) → Tree ps → Tree (withPrefixes ps [] w)
-tree-withPrefixes w ps t = record { root = withPrefixes-keeps w ps [] [] (t .root); closed = withPrefixes-closed w ps [] (t .closed) (t .root); distinct = withPrefixes-distinct w ps [] (t .distinct) }
+tree-withPrefixes w ps t =
+    record {
+      root = withPrefixes-keeps w ps [] [] (t .root);
+      closed = withPrefixes-closed w ps [] (t .closed) (t .root);
+      distinct =
+          withPrefixes-distinct w ps [] (t .distinct);
+    }
 
 tree-withTags : (ts ps : List Word) → Tree ps → Tree (withTags ps ts)
 unfolding withTags
@@ -160,7 +168,8 @@ unfolding withTags beginsOne
 withTags-has [] ps v h e = absurd (false≢true e)
 withTags-has (w ∷ ts) ps v h e = go (or-cases (begins v w) (beginsOne v ts) e) (withTags-has ts (withPrefixes ps [] w) v (withPrefixes-keeps w ps [] [] h))
   where
-    go : (begins v w ≡ true) ⊎ (beginsOne v ts ≡ true) → (beginsOne v ts ≡ true → among v (withTags (withPrefixes ps [] w) ts) ≡ true) → among v (withTags (withPrefixes ps [] w) ts) ≡ true
+    go : (begins v w ≡ true) ⊎ (beginsOne v ts ≡ true) → (beginsOne v ts ≡ true → among v (withTags (withPrefixes ps [] w) ts) ≡ true)
+        → among v (withTags (withPrefixes ps [] w) ts) ≡ true
     go (inl i) ih = let r = begins-split v w i in withTags-keeps ts (withPrefixes ps [] w) v (rw (r .1) (withPrefixes-has v (r .0) ps [] h))
     go (inr i) ih = ih i
 
@@ -208,7 +217,11 @@ indexOf-nil ts = let m = prefixes-first ts in rw (m .1) (indexOf-hit [] [] (m .0
 tags-begin : (ts us : List Word) → ((v : Word) → beginsOne v ts ≡ true → among v us ≡ true) → AllAmong ts us
 unfolding beginsOne
 tags-begin [] us f = tt
-tags-begin (t ∷ ts) us f = (f t (or-l (begins t t) (beginsOne t ts) (ap (begins t) (sym (append-nil t)) ∙ begins-append t [])), tags-begin ts us (λ v e. f v (or-r (begins v t) (beginsOne v ts) e)))
+tags-begin (t ∷ ts) us f = (
+  f t (or-l (begins t t) (beginsOne t ts) (ap (begins t) (sym (append-nil t)) ∙ begins-append t [])),
+  tags-begin ts us
+      (λ v e. f v (or-r (begins v t) (beginsOne v ts) e)),
+)
 
 pub tags-among : (ts : List Word) → AllAmong ts (prefixes ts)
 tags-among ts = tags-begin ts (prefixes ts) (λ v e. among-prefixes ts v ∙ or-r (same v []) (beginsOne v ts) e)

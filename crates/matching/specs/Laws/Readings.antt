@@ -48,7 +48,8 @@ module _ (n k s : ℕ) (ts : List Word) (tab : List ℕ) (held : Holds n k s ts 
       first : getD tab (spot n s m (walk (prefixes (tagsFor n ts m)) 0 (map (slice n m) v)) + slice n m c) 0
           ≡ walk (prefixes (tagsFor n ts m)) 0 (map (slice n m) (v ++ c ∷ []))
       first =
-          held .moves m (walk (prefixes (tagsFor n ts m)) 0 (map (slice n m) v)) (slice n m c) (omega arith) (walk-lt (tagsFor n ts m) (map (slice n m) v)) (slice-lt n m c)
+          held .moves m (walk (prefixes (tagsFor n ts m)) 0 (map (slice n m) v)) (slice n m c) (omega arith) (walk-lt (tagsFor n ts m) (map (slice n m) v))
+          (slice-lt n m c)
           ∙ sym (walk-snoc (prefixes (tagsFor n ts m)) 0 (map (slice n m) v) (slice n m c))
           ∙ ap (walk (prefixes (tagsFor n ts m)) 0) (sym (map-append (slice n m) v (c ∷ [])))
 
@@ -58,7 +59,8 @@ module _ (n k s : ℕ) (ts : List Word) (tab : List ℕ) (held : Holds n k s ts 
   below-placeAfter (suc j) m v h =
       and-both (ltb (walk (prefixes (tagsFor n ts m)) 0 (map (slice n m) v)) s) (allBelow s (placeAfter n ts (suc m) j v))
       (is-true (ltb (walk (prefixes (tagsFor n ts m)) 0 (map (slice n m) v)) s)
-      (lt→ltb (walk (prefixes (tagsFor n ts m)) 0 (map (slice n m) v)) s (omega (arith, walk-lt (tagsFor n ts m) (map (slice n m) v), held .fits m (omega arith)))))
+      (lt→ltb (walk (prefixes (tagsFor n ts m)) 0 (map (slice n m) v)) s
+      (omega (arith, walk-lt (tagsFor n ts m) (map (slice n m) v), held .fits m (omega arith)))))
       (below-placeAfter j (suc m) v (omega arith))
 
   vectors-placeAfter : (j m : ℕ) (v : Word) → m + j ≤ k → vectorsAt n s tab m (placeAfter n ts m j v) ≡ vectors (slices n m j) ts v

@@ -51,7 +51,8 @@ module _ {P : Type 0} (step : Step P) (place : P) (count room c : ℕ) (w : Word
   unfolding readBy stepped
   readBy-damaged e = rw e refl
 
--- ---- THE CASES OF A READING, once: what holds at the end, at damage, for want of room, and of a byte before a reading of which it holds, holds of every reading
+-- ---- THE CASES OF A READING, once: what holds at the end, at damage, for want of room, and of a byte before a reading of which it holds, holds of every
+-- reading
 
 pub record Cases {P : Type 0} (step : Step P) (M : P → ℕ → ℕ → Word → OutcomeOf P → Type 0) : Type 0 where
   pub none : (place : P) (count room : ℕ) → M place count room [] (halted place All)
@@ -70,7 +71,8 @@ module _ {P : Type 0} (step : Step P) (M : P → ℕ → ℕ → Word → Outcom
       fits : (to : P) (tags : List ℕ) → step place c ≡ goesTo to tags → ((to : P) (left : ℕ) → M to (suc count) left w (readBy step to (suc count) left w))
           → (leb (length tags) room ≡ true) ⊎ (leb (length tags) room ≡ false) → M place count room (c ∷ w) (readBy step place count room (c ∷ w))
       fits to tags e ih (inl f) = rw (readBy-took step place count room c w to tags e f)
-          (k .took place count room c w to tags (readBy step to (suc count) (room - length tags) w) e (leb-le (length tags) room f) (ih to (room - length tags)))
+          (k .took place count room c w to tags (readBy step to (suc count) (room - length tags) w) e (leb-le (length tags) room f)
+          (ih to (room - length tags)))
       fits to tags e ih (inr f) = rw (readBy-full step place count room c w to tags e f) (k .full place count room c w to tags e (leb-lt (length tags) room f))
 
       go : (x : Stepped P) → step place c ≡ x → ((to : P) (left : ℕ) → M to (suc count) left w (readBy step to (suc count) left w))
@@ -159,7 +161,8 @@ module _ {P : Type 0} (step : Step P) where
     why = atEnd refl refl;
   }
 
-  why-full : (place : P) (room c : ℕ) (w : Word) (to : P) (tags : List ℕ) → step place c ≡ goesTo to tags → room < length tags → Why step room (c ∷ w) (halted place Full)
+  why-full : (place : P) (room c : ℕ) (w : Word) (to : P) (tags : List ℕ) → step place c ≡ goesTo to tags → room < length tags
+      → Why step room (c ∷ w) (halted place Full)
   unfolding halted
   why-full place room c w to tags e h = noRoom to tags refl (omega arith) e (omega arith)
 
@@ -227,7 +230,8 @@ Rising [] = Unit {0}
 Rising (i ∷ is) = Every (λ j. i < j) is × Rising is
 
 -- the matches of a byte before those of later ones
-pub rising-before : (e : ℕ) (tags : List ℕ) (rest : List Occurrence) → Rising tags → Ordered rest → Every (λ o. e < o .end) rest → Ordered (occurAt e tags ++ rest)
+pub rising-before : (e : ℕ) (tags : List ℕ) (rest : List Occurrence) → Rising tags → Ordered rest → Every (λ o. e < o .end) rest
+    → Ordered (occurAt e tags ++ rest)
 unfolding occurAt
 rising-before e [] rest h ho f = ho
 rising-before e (i ∷ tags) rest h ho f = (every-one (Before (record { end = e; tag = i })) (occurAt e tags ++ rest) all, rising-before e tags rest (h .1) ho f)
@@ -269,7 +273,8 @@ module _ {P : Type 0} (step : Step P) where
   pub cut-all : (v : Word) (place : P) (count room : ℕ) (w : Word) → readBy step place count room v .stop ≡ All
       → readBy step place count room (v ++ w)
       ≡ joined (readBy step place count room v)
-      (readBy step (readBy step place count room v .place) (count + readBy step place count room v .taken) (room - length (readBy step place count room v .found)) w)
+      (readBy step (readBy step place count room v .place) (count + readBy step place count room v .taken)
+      (room - length (readBy step place count room v .found)) w)
   unfolding halted tookByte
   cut-all v place count room w = every-reading step (λ place count room v r. r .stop ≡ All
       → readBy step place count room (v ++ w) ≡ joined r (readBy step (r .place) (count + r .taken) (room - length (r .found)) w)) (record {
@@ -281,7 +286,8 @@ module _ {P : Type 0} (step : Step P) where
         full = λ place count room c w to tags e l f. absurd (full-not-all f);
         took = λ place count room c v to tags r e l k f.
             let a : suc count + r .taken ≡ count + suc (r .taken) = omega arith in
-            let b : room - length tags - length (r .found) ≡ room - length (occurAt (suc count) tags ++ r .found) = omega (arith, took-length (suc count) tags r) in
+            let b : room - length tags - length (r .found) ≡ room - length (occurAt (suc count) tags ++ r .found) =
+            omega (arith, took-length (suc count) tags r) in
             readBy-took step place count room c (v ++ w) to tags e (le-is (length tags) room l)
             ∙ ap (tookByte (suc count) tags) (k f)
             ∙ joined-took (suc count) tags r (readBy step (r .place) (suc count + r .taken) (room - length tags - length (r .found)) w)
@@ -295,7 +301,8 @@ module _ {P : Type 0} (step : Step P) where
     none = λ place count room h. absurd (h refl);
     wrong = λ place count room c v e h. readBy-damaged step place count room c (v ++ w) e;
     full = λ place count room c v to tags e l h. readBy-full step place count room c (v ++ w) to tags e (lt-is (length tags) room l);
-    took = λ place count room c v to tags r e l k h. readBy-took step place count room c (v ++ w) to tags e (le-is (length tags) room l) ∙ ap (tookByte (suc count) tags) (k h);
+    took = λ place count room c v to tags r e l k h. readBy-took step place count room c (v ++ w) to tags e (le-is (length tags) room l)
+        ∙ ap (tookByte (suc count) tags) (k h);
   }) v place count room
 
 -- ---- THE SIMULATION: related places that step alike read alike
@@ -333,7 +340,13 @@ module _ {P Q : Type 0} (R : P → Q → Type 0) where
     simulation w p q count room = every-reading f (λ p count room w r. (q : Q) → R p q → Below m w → Together R r (readBy g q count room w)) (record {
       none = λ p count room q h b. record { taken = refl; stop = refl; found = refl; place = h };
       wrong = λ p count room c w e q h b.
-          rw (readBy-damaged g q count room c w (along-stop (f p c) (g q c) (alike p q c h (b .0)) e)) record { taken = refl; stop = refl; found = refl; place = h };
+          rw (readBy-damaged g q count room c w (along-stop (f p c) (g q c) (alike p q c h (b .0)) e)) record {
+            taken = refl;
+            stop = refl;
+            found =
+                refl;
+            place = h;
+          };
       full = λ p count room c w to tags e l q h b.
           let s = along-go (f p c) (g q c) (alike p q c h (b .0)) to tags e in
           rw (readBy-full g q count room c w (s .0) tags (s .1) (lt-is (length tags) room l)) record { taken = refl; stop = refl; found = refl; place = h };
@@ -341,5 +354,11 @@ module _ {P Q : Type 0} (R : P → Q → Type 0) where
           let s = along-go (f p c) (g q c) (alike p q c h (b .0)) to tags e in
           let t = k (s .0) (s .2) (b .1) in
           rw (readBy-took g q count room c w (s .0) tags (s .1) (le-is (length tags) room l))
-          record { taken = ap suc (t .taken); stop = t .stop; found = ap {B = List Occurrence} (λ (x : List Occurrence). occurAt (suc count) tags ++ x) (t .found); place = t .place };
+          record {
+            taken = ap suc (t .taken);
+            stop = t .stop;
+            found = ap {B = List Occurrence} (λ (x : List Occurrence). occurAt (suc count) tags ++ x)
+                (t .found);
+            place = t .place;
+          };
     }) w p count room q

@@ -5,7 +5,8 @@ use mathlib.Core.List.{List, [], _++_, _∷_}
 use mathlib.Core.Logic.{_⊎_, inl, inr}
 use mathlib.Core.Path.{_∙_, _≡_, ap, ap₂, refl, subst, sym}
 use native.Mathlib.Decide.{decLe, ℕ-discrete}
-use native.Mathlib.Nat.{add-assoc, add-mul, div-add-mod', div-lt-iff-lt-mul, eq-zero-or-pos, le-of-suc-le-suc, mod-lt, mul-assoc, mul-zero, not-suc-le-zero, suc-mul, zero-add, zero-mul}
+use native.Mathlib.Nat.{add-assoc, add-mul, div-add-mod', div-lt-iff-lt-mul, eq-zero-or-pos, le-of-suc-le-suc, mod-lt, mul-assoc, mul-zero, not-suc-le-zero}
+use native.Mathlib.Nat.{suc-mul, zero-add, zero-mul}
 use native.Mathlib.Omega.{arith}
 use lib.Arith.{digits-lt}
 use lib.Dec.{ltb, ltb→lt, lt→ltb}
@@ -75,7 +76,8 @@ slot-vector n ts ps q hq =
 
 pub slots-length : (n s : ℕ) (ts : List Word) (m : ℕ) → length (slots n s ts m) ≡ s * (slotSize n)
 unfolding slots
-slots-length n s ts m = laid-length (slot n (tagsFor n ts m) (prefixes (tagsFor n ts m))) (slotSize n) (slot-length n (tagsFor n ts m) (prefixes (tagsFor n ts m))) 0 s
+slots-length n s ts m = laid-length (slot n (tagsFor n ts m) (prefixes (tagsFor n ts m))) (slotSize n)
+    (slot-length n (tagsFor n ts m) (prefixes (tagsFor n ts m))) 0 s
 
 pub built-length : (n k s : ℕ) (ts : List Word) → length (built n k s ts) ≡ k * (s * (slotSize n))
 unfolding built
@@ -105,8 +107,10 @@ unfolding states
 built-holds n k s ts rest room =
     record {
       fits = room;
-      moves = λ m q c hm hq hc. built-at n k s ts rest m q c hm (omega (arith, room m hm, hq)) (omega (arith, hc)) ∙ slot-next n (tagsFor n ts m) (prefixes (tagsFor n ts m)) q c hq hc;
-      marks = λ m q hm hq. built-at n k s ts rest m q (2 ^ n) hm (omega (arith, room m hm, hq)) (omega arith) ∙ slot-vector n (tagsFor n ts m) (prefixes (tagsFor n ts m)) q hq;
+      moves = λ m q c hm hq hc. built-at n k s ts rest m q c hm (omega (arith, room m hm, hq)) (omega (arith, hc))
+          ∙ slot-next n (tagsFor n ts m) (prefixes (tagsFor n ts m)) q c hq hc;
+      marks = λ m q hm hq. built-at n k s ts rest m q (2 ^ n) hm (omega (arith, room m hm, hq)) (omega arith)
+          ∙ slot-vector n (tagsFor n ts m) (prefixes (tagsFor n ts m)) q hq;
     }
 
 -- ---- the machine that is short of slots
@@ -119,7 +123,10 @@ module _ (n s : ℕ) (ts : List Word) where
   pub roomFrom-next : (m k : ℕ) → states (tagsFor n ts m) ≤ s → roomFrom n s ts m (suc k) ≡ roomFrom n s ts (suc m) k
   unfolding roomFrom
   roomFrom-next m k h =
-      rw (is-false (ltb s (states (tagsFor n ts m))) (λ e. omega (arith, ltb→lt s (states (tagsFor n ts m)) (to-T (ltb s (states (tagsFor n ts m))) e))), roomFrom) refl
+      rw (
+        is-false (ltb s (states (tagsFor n ts m))) (λ e. omega (arith, ltb→lt s (states (tagsFor n ts m)) (to-T (ltb s (states (tagsFor n ts m))) e))),
+        roomFrom,
+      ) refl
 
   -- machine j is the lowest of machines m, .., m + k - 1 that is short of slots
   pub record Lowest (m k j : ℕ) : Type 0 where
@@ -162,7 +169,8 @@ module _ (n s : ℕ) (ts : List Word) where
     where
       go : Dec (states (tagsFor n ts m) ≤ s) → Judged (suc m) k (roomFrom n s ts (suc m) k) → Judged m (suc k) (roomFrom n s ts m (suc k))
       go (yes h) ih = rw (roomFrom-next m k h) (judged-next m k (roomFrom n s ts (suc m) k) h ih)
-      go (no h) ih = rw (roomFrom-short m k (omega arith)) (one-short m (record { from = omega arith; below = omega arith; short = omega arith; others = λ i a b. absurd (omega arith) }))
+      go (no h) ih = rw (roomFrom-short m k (omega arith))
+          (one-short m (record { from = omega arith; below = omega arith; short = omega arith; others = λ i a b. absurd (omega arith) }))
 
 -- ---- a list that agrees cell by cell is the one laid
 

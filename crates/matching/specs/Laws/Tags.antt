@@ -1,6 +1,6 @@
 -- What is known of the tags of a set.
 use Prim.Native.Nat.{ℕ, _<_, _≤_}
-use mathlib.Core.Bool.{false, true}
+use mathlib.Core.Bool.{true}
 use mathlib.Core.List.{List, List·Memᴰ, []}
 use mathlib.Core.Logic.{_↔_}
 use mathlib.Core.Path.{_≡_, refl}
@@ -11,7 +11,7 @@ use Rattle.matching.specs.Laws.Matches.{tagsEnding-has, tagsEnding-lengt
 use Rattle.matching.specs.Laws.Occurrences.{found-iff, occurrencesBy-ordered, tagsEnding-rising}
 use Rattle.matching.specs.Laws.Stepping.{Rising}
 use Rattle.matching.specs.Limits.{mostTags}
-use Rattle.matching.specs.Occurrence.{Occurrence, Ordered, occurrencesFrom, tagsEnding}
+use Rattle.matching.specs.Occurrence.{Ordered, occurrencesFrom, tagsEnding}
 use Rattle.matching.specs.Tags.{LawfulTags, Tags, exact, foundFrom, foundIn, tagCount, tagEnds, tagsAt}
 use Rattle.matching.specs.Words.{Lawful, Word, ends}
 
@@ -31,7 +31,11 @@ count-exact ts = refl
 pub ends-exact : (ts : List Word) (i : ℕ) (w : Word) → (tagEnds (exact ts) i w ≡ true) ↔ ((i < length ts) × (ends (getD ts i []) w ≡ true))
 unfolding tagEnds
 ends-exact ts i w = (
-  λ e. (ltb→lt i (length ts) (to-T (ltb i (length ts)) (and-l (ltb i (length ts)) (ends (getD ts i []) w) e)), and-r (ltb i (length ts)) (ends (getD ts i []) w) e),
+  λ e. (
+    ltb→lt i (length ts) (to-T (ltb i (length ts)) (and-l (ltb i (length ts)) (ends (getD ts i []) w) e)),
+    and-r (ltb i (length ts))
+        (ends (getD ts i []) w) e,
+  ),
   λ h. and-both (ltb i (length ts)) (ends (getD ts i []) w) (is-true (ltb i (length ts)) (lt→ltb i (length ts) (h .0))) (h .1),
 )
 
@@ -66,7 +70,8 @@ module _ (tags : Tags) where
   found-ordered = occurrencesBy-ordered (tagsAt tags) at-rising
 
   -- WHAT IS FOUND: the record (e, i) exactly if tag i ends the first e bytes of the input
-  pub tag-found-iff : (w : Word) (e i : ℕ) → List·Memᴰ (record { end = e; tag = i }) (foundIn tags w) ↔ ((0 < e) × (e ≤ length w) × (tagEnds tags i (take e w) ≡ true))
+  pub tag-found-iff : (w : Word) (e i : ℕ) → List·Memᴰ (record { end = e; tag = i }) (foundIn tags w) ↔
+      ((0 < e) × (e ≤ length w) × (tagEnds tags i (take e w) ≡ true))
   tag-found-iff w e i = (
     λ m. (let h = found-iff (tagsAt tags) w e i .0 m in (h .0, h .1, at-iff (take e w) i .0 (h .2))),
     λ h. found-iff (tagsAt tags) w e i .1 (h .0, h .1, at-iff (take e w) i .1 (h .2)),

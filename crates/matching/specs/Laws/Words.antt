@@ -1,7 +1,8 @@
 -- The laws of the tests on words.
 use Prim.Native.Nat.{_-_, _<_, _≤_, suc, suc-le-suc, zero, ℕ}
 use mathlib.Core.Bool.{Bool, _||_, false, false≢true, true}
-use mathlib.Core.List.{List, List·Memᴰ, List·Memᴰ·cases-cons, List·Memᴰ·head, List·Memᴰ·not-nil, List·Memᴰ·tail, [], _++_, _∷_, append-cancel-left, head-eq-of-cons-eq}
+use mathlib.Core.List.{List, List·Memᴰ, List·Memᴰ·cases-cons, List·Memᴰ·head, List·Memᴰ·not-nil, List·Memᴰ·tail, [], _++_, _∷_, append-cancel-left}
+use mathlib.Core.List.{head-eq-of-cons-eq}
 use mathlib.Core.Logic.{_↔_, _⊎_, inl, inr}
 use mathlib.Core.Path.{_∙_, _≡_, ap, ap₂, refl, subst, sym}
 use native.Mathlib.Nat.{le-of-suc-le-suc, not-suc-le-zero}
@@ -9,7 +10,8 @@ use native.Mathlib.Omega.{arith}
 use lib.Dec.{eqb, eqb-refl, eqb→eq}
 use lib.ListN.{drop, getD, length, length-append, take, take-append-drop}
 use lib.Seq.{drop-at, take-at}
-use Rattle.matching.specs.Laws.Bools.{and-both, and-l, and-r, decided, is-false, is-true, not-both, or-cases, or-false, or-false-l, or-false-r, or-l, or-r, to-T}
+use Rattle.matching.specs.Laws.Bools.{and-both, and-l, and-r, decided, is-false, is-true, not-both, or-cases, or-false, or-false-l, or-false-r, or-l}
+use Rattle.matching.specs.Laws.Bools.{or-r, to-T}
 use Rattle.matching.specs.Words.{Word, among, begins, ends, indexOf, same}
 
 -- ---- same
@@ -183,7 +185,8 @@ pub ends-drop : (t w : Word) → ends t w ≡ true → drop (length w - length t
 ends-drop t w h = let r = ends-split t w h in rw (r .1) (drop-at (r .0) t (length (r .0 ++ t) - length t) (omega (arith, length-append (r .0) t)))
 
 pub drop-ends : (t w : Word) → drop (length w - length t) w ≡ t → ends t w ≡ true
-drop-ends t w h = ends-iff t w .1 (take (length w - length t) w, sym (take-append-drop (length w - length t) w) ∙ ap {B = Word} (λ (l : Word). take (length w - length t) w ++ l) h)
+drop-ends t w h = ends-iff t w .1
+    (take (length w - length t) w, sym (take-append-drop (length w - length t) w) ∙ ap {B = Word} (λ (l : Word). take (length w - length t) w ++ l) h)
 
 pub ends-drop-iff : (t w : Word) → (ends t w ≡ true) ↔ ((length t ≤ length w) × (drop (length w - length t) w ≡ t))
 ends-drop-iff t w = (λ h. (ends-length t w h, ends-drop t w h), λ h. drop-ends t w (h .1))
@@ -220,7 +223,8 @@ snoc-last v p c x e = head-eq-of-cons-eq (append-cancel-left p (c ∷ []) (x ∷
 pub Distinct-snoc : (ps : List Word) (w : Word) → Distinct ps → among w ps ≡ false → Distinct (ps ++ w ∷ [])
 unfolding among
 Distinct-snoc [] w d h = (refl, tt)
-Distinct-snoc (p ∷ ps) w d h = (among-append p ps (w ∷ []) ∙ or-false (among p ps) (among p (w ∷ [])) (d .0) other, Distinct-snoc ps w (d .1) (or-false-r (same w p) (among w ps) h))
+Distinct-snoc (p ∷ ps) w d h =
+    (among-append p ps (w ∷ []) ∙ or-false (among p ps) (among p (w ∷ [])) (d .0) other, Distinct-snoc ps w (d .1) (or-false-r (same w p) (among w ps) h))
   where
     other : among p (w ∷ []) ≡ false
     other = or-false (same p w) false (ne-same p w (λ e. not-both (eq-same w p (sym e)) (or-false-l (same w p) (among w ps) h))) refl
@@ -238,4 +242,5 @@ indexOf-append w (p ∷ ps) qs h = go (decided (same w p)) (indexOf-append w ps 
 pub indexOf-new : (w : Word) (ps qs : List Word) → among w ps ≡ false → indexOf w (ps ++ w ∷ qs) ≡ length ps
 unfolding among
 indexOf-new w [] qs h = indexOf-hit w w qs (same-self w)
-indexOf-new w (p ∷ ps) qs h = indexOf-miss w p (ps ++ w ∷ qs) (or-false-l (same w p) (among w ps) h) ∙ ap suc (indexOf-new w ps qs (or-false-r (same w p) (among w ps) h))
+indexOf-new w (p ∷ ps) qs h = indexOf-miss w p (ps ++ w ∷ qs) (or-false-l (same w p) (among w ps) h)
+    ∙ ap suc (indexOf-new w ps qs (or-false-r (same w p) (among w ps) h))

@@ -47,7 +47,8 @@ module _ (n k : ℕ) (table place : List ℕ) (count : ℕ) (piece : List ℕ) (
   read-goes b h = rw (← e, b, h)
 
 -- by the number of the code's verdict
-first-refused : (r : Outcome) (sound long : Bool) (why : ReadRefusal) → readNumber why ≡ firstOf (readGrounds sound long) → readBy r sound long ≡ refusedRead why
+first-refused : (r : Outcome) (sound long : Bool) (why : ReadRefusal) → readNumber why ≡ firstOf (readGrounds sound long)
+    → readBy r sound long ≡ refusedRead why
 unfolding firstOf
 first-refused r false long Place e = refl
 first-refused r false long Long e = absurd (omega (arith, e))
@@ -80,7 +81,8 @@ states-fit n s table place count room piece h b i l =
     let k = read-kept n s table place count room piece in
     omega (arith, below-at s (read n s table place count room piece .place) (k .below b) i (omega (arith, k .long)))
 
-pub split-read : (r : ReadOf) (o : Outcome) (place : List ℕ) (went : Went) (at l l′ : List ℕ) → r ≡ readTo o → went ≡ wentOf o → at ≡ went .place → l′ ≡ listOf l o
+pub split-read : (r : ReadOf) (o : Outcome) (place : List ℕ) (went : Went) (at l l′ : List ℕ) → r ≡ readTo o → went ≡ wentOf o → at ≡ went .place
+    → l′ ≡ listOf l o
     → (record { taken = went .taken; place = at; records = went .records; ending = Stopped (went .stop) } ≡ splitBy place r) × (l′ ≡ listBy l r)
 split-read r o place went at l l′ er ew ea el = rw (er, ea, ew, el) (refl, refl)
 
@@ -89,7 +91,8 @@ pub whole-read : (r : ReadOf) (o : Outcome) (place : ℕ) (went : WentOne) (l l�
 whole-read r o place went l l′ er ew el = rw (er, ew, el) (refl, refl)
 
 -- the list keeps its length
-pub list-long : (n s : ℕ) (table place : List ℕ) (count : ℕ) (piece l l′ : List ℕ) → l′ ≡ listOf l (read n s table place count (length l / 2) piece) → length l′ ≡ length l
+pub list-long : (n s : ℕ) (table place : List ℕ) (count : ℕ) (piece l l′ : List ℕ) → l′ ≡ listOf l (read n s table place count (length l / 2) piece)
+    → length l′ ≡ length l
 list-long n s table place count piece l l′ e =
     let o = read n s table place count (length l / 2) piece in
     ap length e ∙ simp (length-append, length-drop) (omega (arith, flat-length (o .found), read-kept n s table place count (length l / 2) piece .fits))

@@ -63,13 +63,15 @@ module _ (n k : ℕ) (table place : List ℕ) (count : ℕ) (piece : Word) (len 
   pub judged : Judged n k table place count piece len answer
   judged = go (decided (allBelow slots place)) (decided (ltb 4294967295 (count + length piece)))
     where
-      go : (allBelow slots place ≡ true) ⊎ (allBelow slots place ≡ false) → (ltb 4294967295 (count + length piece) ≡ true) ⊎ (ltb 4294967295 (count + length piece) ≡ false)
+      go : (allBelow slots place ≡ true) ⊎ (allBelow slots place ≡ false)
+          → (ltb 4294967295 (count + length piece) ≡ true) ⊎ (ltb 4294967295 (count + length piece) ≡ false)
           → Judged n k table place count piece len answer
       go (inr b) h =
           let w = not-below slots place b in
           rw (read-place n k table place count piece len slots refl b) (not-a-state (w .0) (w .1 .0) (w .1 .1))
       go (inl b) (inl h) =
-          rw (read-long n k table place count piece len slots refl b h) (too-many-bytes (below-at slots place b) (ltb-true 4294967295 (count + length piece) h))
+          rw (read-long n k table place count piece len slots refl b h)
+          (too-many-bytes (below-at slots place b) (ltb-true 4294967295 (count + length piece) h))
       go (inl b) (inr h) =
           rw (read-goes n k table place count piece len slots refl b h) (is-read (below-at slots place b) (ltb-false 4294967295 (count + length piece) h))
 
@@ -105,12 +107,14 @@ module _ (n k : ℕ) (table place : List ℕ) (count : ℕ) (piece : Word) (len 
   pub read-iff : (answer ≡ readTo (read n slots table place count (len / 2) piece)) ↔ (States slots place × (count + length piece ≤ 4294967295))
   read-iff = (there answer judged, back answer judged)
     where
-      there : (r : ReadOf) → Judged n k table place count piece len r → r ≡ readTo (read n slots table place count (len / 2) piece) → States slots place × (count + length piece ≤ 4294967295)
+      there : (r : ReadOf) → Judged n k table place count piece len r → r ≡ readTo (read n slots table place count (len / 2) piece)
+          → States slots place × (count + length piece ≤ 4294967295)
       there r (not-a-state i l h) e = let z : _≡_ {A = ℕ} 0 1 = cc in absurd (omega arith)
       there r (too-many-bytes f h) e = let z : _≡_ {A = ℕ} 0 1 = cc in absurd (omega arith)
       there r (is-read f h) e = (f, h)
 
-      back : (r : ReadOf) → Judged n k table place count piece len r → States slots place × (count + length piece ≤ 4294967295) → r ≡ readTo (read n slots table place count (len / 2) piece)
+      back : (r : ReadOf) → Judged n k table place count piece len r → States slots place × (count + length piece ≤ 4294967295)
+          → r ≡ readTo (read n slots table place count (len / 2) piece)
       back r (not-a-state i l h) w = absurd (omega (arith, w .0 i l, h))
       back r (too-many-bytes f h) w = absurd (omega (arith, w .1, h))
       back r (is-read f h) w = refl
@@ -122,7 +126,8 @@ numberBy (readTo r) = 0
 
 -- PLACE, then LONG: the number is that of the first ground that holds
 pub read-refusals : (n k : ℕ) (table place : List ℕ) (count : ℕ) (piece : Word) (len : ℕ)
-    → numberBy (readOf n k table place count piece len) ≡ firstOf (readGrounds (allBelow (slotsIn n k (length table)) place) (ltb 4294967295 (count + length piece)))
+    → numberBy (readOf n k table place count piece len) ≡ firstOf
+    (readGrounds (allBelow (slotsIn n k (length table)) place) (ltb 4294967295 (count + length piece)))
 unfolding readOf firstOf
 read-refusals n k table place count piece len = go _ (allBelow (slotsIn n k (length table)) place) (ltb 4294967295 (count + length piece))
   where
@@ -150,7 +155,8 @@ whole-refused place (readTo o) why = (λ e. let z : _≡_ {A = ℕ} 0 1 = cc in 
 
 -- a number is one refusal's
 by-number : (why : ReadRefusal) (ending : Ending) → RefusedWith ending (readNumber why) [] ↔ (ending ≡ Refused why)
-by-number why ending = (λ w. w .refused ∙ ap Refused (same (w .why) why (w .number-is)), λ e. record { why = why; refused = e; number-is = refl; values-are = refl })
+by-number why ending =
+    (λ w. w .refused ∙ ap Refused (same (w .why) why (w .number-is)), λ e. record { why = why; refused = e; number-is = refl; values-are = refl })
   where
     same : (a b : ReadRefusal) → readNumber a ≡ readNumber b → a ≡ b
     same Place Place e = refl
@@ -212,7 +218,8 @@ module _ (table : List ℕ) (place count : ℕ) (piece : Word) (len : ℕ) where
       all h zero l = h
       all h (suc i) l = absurd (omega (arith, l))
 
-  pub whole-refusals : endingNumber wholeEnding ≡ firstOf (readGrounds (allBelow (slotsIn 8 1 (length table)) (place ∷ [])) (ltb 4294967295 (count + length piece)))
+  pub whole-refusals : endingNumber wholeEnding ≡ firstOf
+      (readGrounds (allBelow (slotsIn 8 1 (length table)) (place ∷ [])) (ltb 4294967295 (count + length piece)))
   whole-refusals = whole-number place wholeRead ∙ read-refusals 8 1 table (place ∷ []) count piece len
 
 -- ---- what it keeps
@@ -234,11 +241,13 @@ abbrev pub endingBy : ReadOf → Ending
 endingBy (refusedRead why) = Refused why
 endingBy (readTo r) = Stopped (r .stop)
 
-pub split-is : (place : List ℕ) (r : ReadOf) → splitBy place r ≡ record { taken = takenBy r; place = placeBy place r; records = recordsBy r; ending = endingBy r }
+pub split-is : (place : List ℕ) (r : ReadOf) → splitBy place r
+    ≡ record { taken = takenBy r; place = placeBy place r; records = recordsBy r; ending = endingBy r }
 split-is place (refusedRead why) = refl
 split-is place (readTo r) = refl
 
-pub whole-is : (place : ℕ) (r : ReadOf) → wholeBy place r ≡ record { taken = takenBy r; place = getD (placeBy (place ∷ []) r) 0 0; records = recordsBy r; ending = endingBy r }
+pub whole-is : (place : ℕ) (r : ReadOf) → wholeBy place r
+    ≡ record { taken = takenBy r; place = getD (placeBy (place ∷ []) r) 0 0; records = recordsBy r; ending = endingBy r }
 whole-is place (refusedRead why) = refl
 whole-is place (readTo r) = refl
 
@@ -293,7 +302,8 @@ kept-read n s table place count piece list =
     stopped-is : (a b : Stop) → Stopped a ≡ Stopped b → a ≡ b
     stopped-is a b e = cc
 
-pub read-keeps : (n k : ℕ) (table place : List ℕ) (count : ℕ) (piece : Word) (list : List ℕ) → ReadKept place piece list (readOf n k table place count piece (length list))
+pub read-keeps : (n k : ℕ) (table place : List ℕ) (count : ℕ) (piece : Word) (list : List ℕ)
+    → ReadKept place piece list (readOf n k table place count piece (length list))
 read-keeps n k table place count piece list = go _ (judged n k table place count piece (length list))
   where
     go : (r : ReadOf) → Judged n k table place count piece (length list) r → ReadKept place piece list r

@@ -84,9 +84,17 @@ module _ (l₀ : List ℕ) (from e hits : ℕ) where
   module _ (l : List ℕ) (w rest tag : ℕ) (p : Putting l₀ from e hits l w rest tag) where
     pub putting-room : tag < 16 → 2 * (from + length (onesOf 0 16 hits)) ≤ length l₀ → 2 * (w + length (tagIf (rest % 2) tag)) ≤ length l
     putting-room less r =
-        omega (arith, p .count, p .long, ap length (ones-step tag rest less), length-append (tagIf (rest % 2) tag) (onesOf (tag + 1) (16 - (tag + 1)) (rest / 2)))
+        omega (
+          arith,
+          p .count,
+          p .long,
+          ap length (ones-step tag rest less),
+          length-append (tagIf (rest % 2) tag)
+              (onesOf (tag + 1) (16 - (tag + 1)) (rest / 2)),
+        )
 
-    pub putting-more : tag < 16 → (l′ : List ℕ) (w′ : ℕ) → w′ ≡ w + length (tagIf (rest % 2) tag) → l′ ≡ sets l (2 * w) (flat (occurAt e (tagIf (rest % 2) tag)))
+    pub putting-more : tag < 16 → (l′ : List ℕ) (w′ : ℕ) → w′ ≡ w + length (tagIf (rest % 2) tag)
+        → l′ ≡ sets l (2 * w) (flat (occurAt e (tagIf (rest % 2) tag)))
         → Putting l₀ from e hits l′ w′ (rest / 2) (tag + 1)
     putting-more less l′ w′ ew el =
         let x = tagIf (rest % 2) tag in

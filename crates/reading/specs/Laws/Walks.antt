@@ -40,9 +40,17 @@ sets-after a b l h =
     let m = a ++ drop (length a) l in
     let fits : length a + length b ≤ length m = simp (length-append, length-drop) (omega arith) in
     sets-eq b m (length a) fits
-    ∙ rw (take-append-seam a (drop (length a) l), drop-append-add a (drop (length a) l) (length b), drop-drop (length b) (length a) l, length-append, append-assoc)
+    ∙ rw (
+      take-append-seam a (drop (length a) l),
+      drop-append-add a (drop (length a) l) (length b),
+      drop-drop (length b)
+          (length a) l,
+      length-append,
+      append-assoc,
+    )
 
-records-after : (l l₀ : List ℕ) (done new : List Occurrence) (w : ℕ) → length done ≡ w → l ≡ flat done ++ drop (length (flat done)) l₀ → 2 * (w + length new) ≤ length l₀
+records-after : (l l₀ : List ℕ) (done new : List Occurrence) (w : ℕ) → length done ≡ w → l ≡ flat done ++ drop (length (flat done)) l₀
+    → 2 * (w + length new) ≤ length l₀
     → sets l (2 * w) (flat new) ≡ flat (done ++ new) ++ drop (length (flat (done ++ new))) l₀
 records-after l l₀ done new w e el fits =
     let at : 2 * w ≡ length (flat done) = omega (arith, flat-length done) in
@@ -173,7 +181,9 @@ module _ (n s : ℕ) (table : List ℕ) (count : ℕ) (piece l₀ start : List �
               done = g .done ++ occurAt (suc (count + i)) tags;
               written = length-append (g .done) (occurAt (suc (count + i)) tags) ∙ rw (g .written, occurAt-length, f .1);
               fits = omega (arith, f .1, g .fits);
-              list = el ∙ rw (f .0, e) (records-after l l₀ (g .done) (occurAt (suc (count + i)) tags) w (g .written) (g .list) (omega (arith, occurAt-length (suc (count + i)) tags, g .fits)));
+              list = el ∙ rw (f .0, e)
+                  (records-after l l₀ (g .done) (occurAt (suc (count + i)) tags) w (g .written) (g .list)
+                  (omega (arith, occurAt-length (suc (count + i)) tags, g .fits)));
               is = g .is ∙ ap (ahead i (g .done)) byte ∙ ahead-ahead i 1 (g .done) (occurAt (suc (count + i)) tags) _ ∙ rw (on, less-room);
             }
 
@@ -207,7 +217,8 @@ module _ (s : ℕ) (table : List ℕ) (count : ℕ) (piece l₀ start : List ℕ
       pub split-all : length piece ≤ i → SplitRight l place All w i
       split-all more = right l place All w i (going-all 1 s table count piece l₀ start l place w i g more)
 
-      module _ (less : i < length piece) (next : List ℕ) (long : length next ≡ 8) (moves : take 8 next ≡ nexts 1 s table 0 (take 8 place) (getD piece i 0)) where
+      module _ (less : i < length piece) (next : List ℕ) (long : length next ≡ 8)
+          (moves : take 8 next ≡ nexts 1 s table 0 (take 8 place) (getD piece i 0)) where
         moved : next ≡ nexts 1 s table 0 place (getD piece i 0)
         moved = rw (full next long, full place eight) at moves
 
@@ -215,15 +226,18 @@ module _ (s : ℕ) (table : List ℕ) (count : ℕ) (piece l₀ start : List ℕ
         split-damaged b = right l place Damaged w i (going-damaged 1 s table count piece l₀ start l place w i g less next moved (rw (full next long) at b))
 
         module _ (below : allBelow s (take 8 next) ≡ true) (hits : ℕ) (vector : hits ≡ anded 65535 (vectorsAt 1 s table 0 (take 8 next))) where
-          pub split-full : NoRoom ≡ emitOf l w (onesOf 0 16 hits) → (l′ : List ℕ) → l′ ≡ emitted l w (count + i + 1) (onesOf 0 16 hits) → SplitRight l′ place Full w i
+          pub split-full : NoRoom ≡ emitOf l w (onesOf 0 16 hits) → (l′ : List ℕ) → l′ ≡ emitted l w (count + i + 1) (onesOf 0 16 hits)
+              → SplitRight l′ place Full w i
           split-full none l′ el =
               right l′ place Full w i
-              (going-full 1 s table count piece l₀ start l place w i g less next moved (rw (full next long) at below) hits (rw (full next long) at vector) none l′ el)
+              (going-full 1 s table count piece l₀ start l place w i g less next moved (rw (full next long) at below) hits
+              (rw (full next long) at vector) none l′ el)
 
           pub split-took : (x : ℕ) → Written x ≡ emitOf l w (onesOf 0 16 hits) → (l′ : List ℕ) → l′ ≡ emitted l w (count + i + 1) (onesOf 0 16 hits)
               → Going 1 s table count piece l₀ start l′ next x (i + 1)
           split-took x some l′ el =
-              going-took 1 s table count piece l₀ start l place w i g less next moved (rw (full next long) at below) hits (rw (full next long) at vector) x some l′ el
+              going-took 1 s table count piece l₀ start l place w i g less next moved (rw (full next long) at below) hits
+              (rw (full next long) at vector) x some l′ el
 
 -- ---- and for the whole-byte machine
 
@@ -233,7 +247,8 @@ module _ (s : ℕ) (table : List ℕ) (count : ℕ) (piece l₀ : List ℕ) (sta
       (record { taken = i; state = q; records = w; stop = why } ≡ wentOneOf (read 8 s table (start ∷ []) count (length l₀ / 2) piece))
       × (l ≡ listOf l₀ (read 8 s table (start ∷ []) count (length l₀ / 2) piece))
 
-  right-one : (l : List ℕ) (q : ℕ) (why : Stop) (w i : ℕ) → Ended (read 8 s table (start ∷ []) count (length l₀ / 2) piece) l₀ l (q ∷ []) why w i → WholeRight l q why w i
+  right-one : (l : List ℕ) (q : ℕ) (why : Stop) (w i : ℕ) → Ended (read 8 s table (start ∷ []) count (length l₀ / 2) piece) l₀ l (q ∷ []) why w i
+      → WholeRight l q why w i
   right-one l q why w i e = (rw (e .taken, e .place-is, e .stop, e .records), e .list)
 
   pub whole-begin : start < s → Going 8 s table count piece l₀ (start ∷ []) l₀ (start ∷ []) 0 0
@@ -250,7 +265,8 @@ module _ (s : ℕ) (table : List ℕ) (count : ℕ) (piece l₀ : List ℕ) (sta
           right-one l q Damaged w i (going-damaged 8 s table count piece l₀ (start ∷ []) l (q ∷ []) w i g less (n ∷ []) moves (rw (le-ltb n s h)))
 
       module _ (below : n < s) (hits : ℕ) (vector : anded 65535 (vectorsAt 8 s table 0 (n ∷ [])) ≡ hits) where
-        pub whole-full : NoRoom ≡ emitOf l w (onesOf 0 16 hits) → (l′ : List ℕ) → l′ ≡ emitted l w (count + i + 1) (onesOf 0 16 hits) → WholeRight l′ q Full w i
+        pub whole-full : NoRoom ≡ emitOf l w (onesOf 0 16 hits) → (l′ : List ℕ) → l′ ≡ emitted l w (count + i + 1) (onesOf 0 16 hits)
+            → WholeRight l′ q Full w i
         whole-full none l′ el =
             right-one l′ q Full w i
             (going-full 8 s table count piece l₀ (start ∷ []) l (q ∷ []) w i g less (n ∷ []) moves (below-one s n below) hits (sym vector) none l′ el)

@@ -8,7 +8,8 @@ use Rattle.serving.proofs.feed_piece.Statement.{statement}
 use Rattle.serving.proofs.feed_piece.Tie as tie
 
 abbrev Inv-loop : tie.InvT-loop
-Inv-loop serial table piece out₀ used now₀ put₀ from₀ out now put from = SoFar serial table now₀ piece (buffer out₀ used) now from (buffer out put) × (length piece < 18446744073709551616)
+Inv-loop serial table piece out₀ used now₀ put₀ from₀ out now put from =
+    SoFar serial table now₀ piece (buffer out₀ used) now from (buffer out put) × (length piece < 18446744073709551616)
 
 abbrev μ-loop : tie.MeasureT-loop
 μ-loop serial table piece out₀ used now₀ put₀ from₀ out now put from = length piece - from

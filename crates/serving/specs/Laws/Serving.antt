@@ -21,17 +21,18 @@ use Rattle.writing.specs.Laws.Waiting.{put-none, put-then}
 use Rattle.serving.specs.Serving.{FeedsPiece, FeedsRest, Served, all-taken, none-taken, restDesk, restLines, restTaken, some-taken}
 use Rattle.serving.specs.declared.Fed.{Fed}
 use Rattle.desk.specs.Layout.{Lent}
-use Rattle.desk.specs.Laws.Layout.{desk-kept}
 
 -- the parts of a feed of what is left, together
-pub rest-fed : (s : Serial) (table : Lent) (d : Desk) (rest : Word) (before after : Buffer) (f : Feeding) (t : TakingMany) (list filled : List ℕ) (used count : ℕ)
+pub rest-fed : (s : Serial) (table : Lent) (d : Desk) (rest : Word) (before after : Buffer) (f : Feeding) (t : TakingMany) (list filled : List ℕ)
+    (used count : ℕ)
     → f ≡ feedOf d s table rest → 1024 ≡ length list → t ≡ takeManyOf (f .desk) (length list)
     → filled ≡ listTaken (f .desk) list (manyOf (f .desk) (length list)) → count ≡ takenBy (f .answer)
     → Puts before (recordLines (t .count) filled) after
     → FeedsRest s table d rest before (record { desk = t .desk; used = used; taken = count }) after
 unfolding takeManyOf listTaken
 rest-fed s table d rest before after f t list filled used count fed long many taken counted put = record {
-  desk = ap (λ (x : TakingMany). x .desk) many ∙ ap (λ (k : ℕ). takeManyOf (f .desk) k .desk) (sym long) ∙ ap (λ (x : Feeding). takeManyOf (x .desk) 1024 .desk) fed;
+  desk = ap (λ (x : TakingMany). x .desk) many ∙ ap (λ (k : ℕ). takeManyOf (f .desk) k .desk) (sym long)
+      ∙ ap (λ (x : Feeding). takeManyOf (x .desk) 1024 .desk) fed;
   taken = counted ∙ ap (λ (x : Feeding). takenBy (x .answer)) fed;
   lines = subst (λ (l : List ℕ). Puts before l after) same put;
 }
@@ -66,7 +67,8 @@ module _ (s : Serial) (table : Lent) (d : Desk) (piece : Word) (before : Buffer)
     on = λ e more n h. rw (zero-add n) h;
   }
 
-  module _ {now : Desk} {from : ℕ} {between after : Buffer} {r : Fed} (far : SoFar now from between) (fed : FeedsRest s table now (drop from piece) between r after) where
+  module _ {now : Desk} {from : ℕ} {between after : Buffer} {r : Fed} (far : SoFar now from between)
+      (fed : FeedsRest s table now (drop from piece) between r after) where
     pub fed-within : from + r .taken ≤ length piece
     fed-within = omega (arith, far .within, fed .taken, fed-at-most now s table (drop from piece), length-drop from piece)
 
@@ -87,7 +89,8 @@ module _ (s : Serial) (table : Lent) (d : Desk) (piece : Word) (before : Buffer)
             rw (append-assoc (far .lines) (restLines s table now (drop from piece)) more, fed .taken, add-assoc from t n)
             (far .on e _ _ (some-taken (rw (fed .taken) at h) rest))
 
-    pub so-far-idle : from < length piece → r .taken ≡ 0 → (used : ℕ) → FeedsPiece s table d piece before (record { desk = r .desk; used = used; taken = from }) after
+    pub so-far-idle : from < length piece → r .taken ≡ 0 → (used : ℕ) → FeedsPiece s table d piece before
+        (record { desk = r .desk; used = used; taken = from }) after
     so-far-idle h z used =
         let some : 0 < length (drop from piece) = simp length-drop (omega arith) in
         record {
@@ -106,7 +109,8 @@ module _ (s : Serial) (table : Lent) (d : Desk) (piece : Word) (before : Buffer)
 
 -- a piece is served in one way
 module _ (s : Serial) (table : Lent) where
-  pub served-once : {d e f : Desk} {rest : Word} {a b : List ℕ} {m n : ℕ} → Served s table d rest e a m → Served s table d rest f b n → (e ≡ f) × (a ≡ b) × (m ≡ n)
+  pub served-once : {d e f : Desk} {rest : Word} {a b : List ℕ} {m n : ℕ} → Served s table d rest e a m → Served s table d rest f b n
+      → (e ≡ f) × (a ≡ b) × (m ≡ n)
   served-once all-taken all-taken = (refl, refl, refl)
   served-once all-taken (none-taken some none) = absurd (omega arith)
   served-once {d} all-taken (some-taken some more) = absurd (omega (arith, some, fed-at-most d s table []))

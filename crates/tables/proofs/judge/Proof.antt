@@ -12,7 +12,8 @@ use Rattle.tables.proofs.Answers.{judge-all, judge-more, judge-short}
 use Rattle.tagset.specs.Answer.{cutAt}
 
 abbrev Inv-loop : tie.InvT-loop
-Inv-loop set from to layout s machines m₀ m = (m ≤ layout .machines) × (roomFrom (layout .bits) s (cutAt set from to) 0 (layout .machines) ≡ roomFrom (layout .bits) s (cutAt set from to) m (layout .machines - m))
+Inv-loop set from to layout s machines m₀ m = (m ≤ layout .machines) ×
+    (roomFrom (layout .bits) s (cutAt set from to) 0 (layout .machines) ≡ roomFrom (layout .bits) s (cutAt set from to) m (layout .machines - m))
 
 abbrev μ-loop : tie.MeasureT-loop
 μ-loop set from to layout s machines m₀ m = layout .machines - m

@@ -214,7 +214,8 @@ pub needed-slots-iff : (bytes : List ℕ) (split whole : ℕ)
 unfolding neededOf
 needed-slots-iff bytes split whole = (λ e. go (setOf bytes) (set-case bytes) e, λ r. rw (accepted-iff bytes (r .0) .1 (r .1), r .2, r .3))
   where
-    go : (s : SetOf) → SetCase bytes s → neededBy s ≡ N.Slots split whole → (ts : List Word) × (Accepted bytes ts) × (split ≡ mostStates 1 ts 0 8) × (whole ≡ mostStates 8 ts 0 1)
+    go : (s : SetOf) → SetCase bytes s → neededBy s ≡ N.Slots split whole
+        → (ts : List Word) × (Accepted bytes ts) × (split ≡ mostStates 1 ts 0 8) × (whole ≡ mostStates 8 ts 0 1)
     go s (isBad r) e = let z : _≡_ {A = ℕ} 0 1 = cc in absurd (omega arith)
     go s (isGood {ts} a) e = (ts, a, (cc), (cc))
 

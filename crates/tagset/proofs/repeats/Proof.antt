@@ -12,7 +12,8 @@ use Rattle.tagset.proofs.Parts.{among-end, among-here, among-later}
 use Rattle.tagset.specs.Answer.{cutAt}
 
 abbrev Inv-loop : tie.InvT-loop
-Inv-loop set from to t tag i₀ i = (i ≤ t) × (among (getD (cutAt set from to) t []) (take t (cutAt set from to)) ≡ among (getD (cutAt set from to) t []) (drop i (take t (cutAt set from to))))
+Inv-loop set from to t tag i₀ i = (i ≤ t) ×
+    (among (getD (cutAt set from to) t []) (take t (cutAt set from to)) ≡ among (getD (cutAt set from to) t []) (drop i (take t (cutAt set from to))))
 
 abbrev μ-loop : tie.MeasureT-loop
 μ-loop set from to t tag i₀ i = t - i

@@ -36,7 +36,8 @@ by-tests k left false true c d e ea eb ec ed ee = fails (seventeenth (ltb-false 
 by-tests k left false false true d e ea eb ec ed ee =
     fails (otherKind (ltb-false _ _ ea) (eqb-false _ _ eb) (eqb-false _ _ (not-true (eqb (kindAt left) 1) ec)))
 by-tests k left false false false true e ea eb ec ed ee =
-    fails (wrongLength (ltb-false _ _ ea) (eqb-false _ _ eb) (eqb-true _ _ (not-false (eqb (kindAt left) 1) ec)) (go (or-cases (eqb (lengthAt left) 0) (ltb 32 (lengthAt left)) ed)))
+    fails (wrongLength (ltb-false _ _ ea) (eqb-false _ _ eb) (eqb-true _ _ (not-false (eqb (kindAt left) 1) ec))
+    (go (or-cases (eqb (lengthAt left) 0) (ltb 32 (lengthAt left)) ed)))
   where
     go : (eqb (lengthAt left) 0 ≡ true) ⊎ (ltb 32 (lengthAt left) ≡ true) → (lengthAt left ≡ 0) ⊎ (32 < lengthAt left)
     go (inl h) = inl (eqb-true _ _ h)

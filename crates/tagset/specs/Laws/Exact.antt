@@ -11,7 +11,8 @@ use Rattle.tagset.specs.Answer.{faultNumber, faultValues}
 use Rattle.tagset.specs.Grammar.{SetOf, badSet, distinct, entriesFrom, goodSet, onTags, setOf}
 use Rattle.tagset.specs.Laws.Distinct.{DistinctCase, distinct-case, distinct-first, distinct-none, noneRepeats, oneRepeats}
 use Rattle.tagset.specs.Laws.Entries.{EntriesCase, allPassed, entries-case, oneFails, passed-all, passed-fails}
-use Rattle.tagset.specs.Refusals.{Accepted, Fails, Passed, Refused, RefusedAs, atFront, cutAs, emptyAs, entryFails, fewerThanFour, kindAs, lengthAs, manyAs, noBytes, oneMore, otherKind, payload, repeatAs, seventeenth, shortPayload, tagRepeats, wrongLength}
+use Rattle.tagset.specs.Refusals.{Accepted, Fails, Passed, Refused, RefusedAs, atFront, cutAs, emptyAs, entryFails, fewerThanFour, kindAs, lengthAs}
+use Rattle.tagset.specs.Refusals.{manyAs, noBytes, oneMore, otherKind, payload, repeatAs, seventeenth, shortPayload, tagRepeats, wrongLength}
 use Rattle.tagset.specs.declared.SetFault.{SetFault}
 use Rattle.tagset.specs.declared.SetFault.the-variants.{Cut, Empty, Kind, Length, Many, Repeat}
 
@@ -128,4 +129,5 @@ refused-as-iff bytes number values = (there, as-fault bytes number values)
     there : FaultWith bytes number values → RefusedAs bytes number values
     there f =
         subst (λ (l : List ℕ). RefusedAs bytes number l) (f .values-are)
-        (subst (λ (x : ℕ). RefusedAs bytes x (faultValues (f .fault))) (f .number-is) (numbered-as bytes (f .fault) (refused-iff bytes (f .fault) .0 (f .refused))))
+        (subst (λ (x : ℕ). RefusedAs bytes x (faultValues (f .fault))) (f .number-is)
+        (numbered-as bytes (f .fault) (refused-iff bytes (f .fault) .0 (f .refused))))

@@ -48,7 +48,8 @@ ticket-set : (rooms : List Ticket) (i j : ℕ) (t : Ticket) → t .serial ≡ ti
     → (ticketIn (set rooms i t) j .serial ≡ ticketIn rooms j .serial) × (ticketIn (set rooms i t) j .edition ≡ ticketIn rooms j .edition)
 ticket-set rooms i j t p q = go (ℕ-discrete j i) (decLt i (length rooms))
   where
-    go : Dec (j ≡ i) → Dec (i < length rooms) → (ticketIn (set rooms i t) j .serial ≡ ticketIn rooms j .serial) × (ticketIn (set rooms i t) j .edition ≡ ticketIn rooms j .edition)
+    go : Dec (j ≡ i) → Dec (i < length rooms) → (ticketIn (set rooms i t) j .serial ≡ ticketIn rooms j .serial) ×
+        (ticketIn (set rooms i t) j .edition ≡ ticketIn rooms j .edition)
     go (no n) d = (ap (λ (x : Ticket). x .serial) (set-other rooms i j t n), ap (λ (x : Ticket). x .edition) (set-other rooms i j t n))
     go (yes e) (yes h) =
         let z : ticketIn (set rooms i t) j ≡ t = ap (λ (k : ℕ). ticketIn (set rooms i t) k) e ∙ set-same rooms i t h in (

@@ -42,7 +42,8 @@ module _ (w : GateWorld) (s : Serial) (numbered : (k : ℕ) → k < length (w .a
   unread-whole : (j k : ℕ) → Undecided w s j → approvalAt w j .whole ≡ false → Undecided w s k → approvalAt w k .whole ≡ true → ⊥
   unread-whole j k x p y q = not-both q (same (λ n. approvalAt w n .whole ≡ false) j k x y p)
 
-  stale-is : (k : ℕ) (e d : Edition) → Undecided w s k → e .0 ≡ approvalAt w k .accepted → (j : ℕ) → Undecided w s j → d .0 ≡ approvalAt w j .accepted → Q.Stale e ≡ Q.Stale d
+  stale-is : (k : ℕ) (e d : Edition) → Undecided w s k → e .0 ≡ approvalAt w k .accepted → (j : ℕ) → Undecided w s j → d .0 ≡ approvalAt w j .accepted
+      → Q.Stale e ≡ Q.Stale d
   stale-is k e d x p j y q =
       let h : e .0 ≡ d .0 = p ∙ sym (same (λ n. d .0 ≡ approvalAt w n .accepted) j k y x q) in
       ap Q.Stale (λ t. record { 0 = h t })
@@ -92,13 +93,15 @@ module _ (w : GateWorld) (s : Serial) (numbered : (k : ℕ) → k < length (w .a
     kept : (k : ℕ) → Readable w s k → maskIn w s ≡ maskOf (w .tags) (approvalAt w k .handed)
     kept k r = found k r .mask
 
-    clean-iff : (k : ℕ) (r : Readable w s k) → (maskIn w s ≡ 0 → Clean (w .tags) (approvalAt w k .handed)) × (Clean (w .tags) (approvalAt w k .handed) → maskIn w s ≡ 0)
+    clean-iff : (k : ℕ) (r : Readable w s k) → (maskIn w s ≡ 0 → Clean (w .tags) (approvalAt w k .handed)) ×
+        (Clean (w .tags) (approvalAt w k .handed) → maskIn w s ≡ 0)
     clean-iff k r =
         let z = mask-none (w .tags) (approvalAt w k .handed) (omega (arith, found k r .few)) in
         (λ h. z .0 (sym (kept k r) ∙ h), λ c. kept k r ∙ z .1 c)
 
     -- a case in which no approval can be read
-    unreadable : (answer : Verdict) → OverAnyTables w s answer → (IsRead w s → ⊥) → (answer ≡ Q.Pass → ⊥) → ((mask : ℕ) → answer ≡ Q.Hold mask → ⊥) → Exactly w s answer
+    unreadable : (answer : Verdict) → OverAnyTables w s answer → (IsRead w s → ⊥) → (answer ≡ Q.Pass → ⊥) → ((mask : ℕ) → answer ≡ Q.Hold mask → ⊥)
+        → Exactly w s answer
     unreadable answer a f p h = record {
       none = a .none;
       stale = a .stale;
@@ -110,7 +113,8 @@ module _ (w : GateWorld) (s : Serial) (numbered : (k : ℕ) → k < length (w .a
     pub exactly-by : (answer : Verdict) → Decides w s answer → Exactly w s answer
     exactly-by answer (decides-none f) = unreadable _ (over-any _ (decides-none f)) (λ z. f (z .0) (z .1 .waits)) (λ q. differ cc) (λ mask q. differ cc)
     exactly-by answer (decides-stale k e x p l) =
-        unreadable _ (over-any _ (decides-stale k e x p l)) (λ z. stale-current k (z .0) x l (z .1 .waits) (z .1 .current)) (λ q. differ cc) (λ mask q. differ cc)
+        unreadable _ (over-any _ (decides-stale k e x p l)) (λ z. stale-current k (z .0) x l (z .1 .waits) (z .1 .current)) (λ q. differ cc)
+        (λ mask q. differ cc)
     exactly-by answer (decides-unread k x p u) =
         unreadable _ (over-any _ (decides-unread k x p u)) (λ z. unread-whole k (z .0) x u (z .1 .waits) (z .1 .whole)) (λ q. differ cc) (λ mask q. differ cc)
     exactly-by answer (decides-pass k r m) =

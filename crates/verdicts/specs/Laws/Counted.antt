@@ -86,7 +86,8 @@ fed-counted (suc most) g s table piece from wide =
     room = rest-alike g s table (drop from piece) .same .rooms s
 
     go : (x y : Bool) → ltb from (length piece) ≡ x → eqb t 0 ≡ y → FedCounted next s piece (from + t) (fedOn most next s table piece (from + t))
-        → FedCounted g s piece from (cond x (cond y (record { gate = next; taken = from }) (fedOn most next s table piece (from + t))) (record { gate = g; taken = from }))
+        → FedCounted g s piece from
+        (cond x (cond y (record { gate = next; taken = from }) (fedOn most next s table piece (from + t))) (record { gate = g; taken = from }))
     go false y p q ih = record { more = 0; total = omega arith; most = λ h. h; counted = counted-none (g .desk) i }
     go true true p q ih = record {
       more = 0;

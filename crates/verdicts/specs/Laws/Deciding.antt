@@ -36,7 +36,8 @@ pub data Decides (g : GateWorld) (s : Serial) : Verdict → Type 0 where
 -- what is kept for an approval that has a room
 pub record Seated (g : GateWorld) (s : Serial) (k : ℕ) : Type 0 where
   pub room : roomOf (g .gate .desk .tickets) s < mostTickets
-  pub kept : Kept (ticketIn (g .gate .desk .tickets) (roomOf (g .gate .desk .tickets) s)) (seenIn (g .gate .seen) (roomOf (g .gate .desk .tickets) s)) (approvalAt g k)
+  pub kept : Kept (ticketIn (g .gate .desk .tickets) (roomOf (g .gate .desk .tickets) s)) (seenIn (g .gate .seen) (roomOf (g .gate .desk .tickets) s))
+      (approvalAt g k)
 
 module _ (g : GateWorld) (v : Standing g) where
   pub seated : (s : Serial) (k : ℕ) → Undecided g s k → Seated g s k
@@ -98,7 +99,8 @@ module _ (g : GateWorld) (v : Standing g) where
   unfolding decideOf
   decides s = go (ltb (roomOf (g .gate .desk .tickets) s) mostTickets) refl
     where
-      go : (c : Bool) → ltb (roomOf (g .gate .desk .tickets) s) mostTickets ≡ c → Decides g s (decideBy (g .gate) s (roomOf (g .gate .desk .tickets) s) c .answer)
+      go : (c : Bool) → ltb (roomOf (g .gate .desk .tickets) s) mostTickets ≡ c
+          → Decides g s (decideBy (g .gate) s (roomOf (g .gate .desk .tickets) s) c .answer)
       go true q =
           let w = waiting s (ltb-true (roomOf (g .gate .desk .tickets) s) mostTickets q) in
           by-edition s (w .0) (w .1) (eqb (ticketIn (g .gate .desk .tickets) (roomOf (g .gate .desk .tickets) s) .edition .0) (g .gate .desk .edition .0)) refl

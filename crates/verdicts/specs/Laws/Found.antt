@@ -43,7 +43,8 @@ bits-agree zero zero x y f g = refl
 bits-agree zero (suc b) x y f g = absurd (let z : suc b ≡ 1 = omega (arith, y) in omega (arith, g z))
 bits-agree (suc a) b x y f g = let z : suc a ≡ 1 = omega (arith, x) in z ∙ sym (f z)
 
-module _ (kind : Kind) (calls : List Call) (b : Proper (start kind) calls) (accepted : ℕ) (seen : List Seen) (approvals : List Approval) (j : Joined seen (run (start kind) calls))
+module _ (kind : Kind) (calls : List Call) (b : Proper (start kind) calls) (accepted : ℕ) (seen : List Seen) (approvals : List Approval)
+    (j : Joined seen (run (start kind) calls))
     (m : Each Match approvals (run (start kind) calls .accounts)) where
   abbrev w : World
   w = run (start kind) calls
@@ -120,7 +121,8 @@ module _ (kind : Kind) (calls : List Call) (b : Proper (start kind) calls) (acce
     back : (n : ℕ) → n < 64 → (e : ℕ) × EndsAt (w .tags) bytes n e → mask / 2 ^ n % 2 ≡ 1
     back n small z =
         let e : EndsAt (accountAt w k .tags) (accountAt w k .bytes) n (z .0) =
-        subst (λ (c : Word). EndsAt (accountAt w k .tags) c n (z .0)) (sym bytes-are) (subst (λ (tags : Tags). EndsAt tags bytes n (z .0)) (sym tags-are) (z .1)) in
+        subst (λ (c : Word). EndsAt (accountAt w k .tags) c n (z .0)) (sym bytes-are)
+        (subst (λ (tags : Tags). EndsAt tags bytes n (z .0)) (sym tags-are) (z .1)) in
         let y = recordOf (serialOf (accountAt w k .serial)) (editionOf (accountAt w k .edition)) (record { end = z .0; tag = n }) in
         let h : List·Memᴰ y rs =
         subst (λ (l : List Record). List·Memᴰ y (recordsFor (s .0) l)) out-only
@@ -129,7 +131,8 @@ module _ (kind : Kind) (calls : List Call) (b : Proper (start kind) calls) (acce
 
     mask-in : mask ≡ maskOf (w .tags) bytes
     mask-in =
-        same-bits 64 mask (maskOf (w .tags) bytes) (subst (λ (y : ℕ). y < 2 ^ 64) (sym mask-is) (masked-lt 0 rs (pow-pos 64))) (number-lt 64 (carried (w .tags) bytes))
+        same-bits 64 mask (maskOf (w .tags) bytes) (subst (λ (y : ℕ). y < 2 ^ 64) (sym mask-is) (masked-lt 0 rs (pow-pos 64)))
+        (number-lt 64 (carried (w .tags) bytes))
         (λ n h. bits-agree (mask / 2 ^ n % 2) (maskOf (w .tags) bytes / 2 ^ n % 2) (low-bit mask n) (low-bit (maskOf (w .tags) bytes) n)
         (λ q. mask-bit (w .tags) bytes n h .1 (there n q)) (λ q. back n h (mask-bit (w .tags) bytes n h .0 q)))
 

@@ -11,7 +11,8 @@ use lib.ListN.{getD, length, set}
 use borrow.Author.Tests.{eq-eqb, ltb-true, ne-eqb}
 use Rattle.desk.specs.Laws.Good.{good}
 use Rattle.desk.specs.Laws.Rooms.{firstRoom-holds, for-held, free-held, held-set, new-held}
-use Rattle.desk.specs.Laws.Views.{Closes, Opens, Replaces, close-done, close-no-ticket, closes, open-done, open-no-room, open-no-set, open-serial-end, opens, replace-done, replace-edition-end, replace-fault, replace-table, replaces}
+use Rattle.desk.specs.Laws.Views.{Closes, Opens, Replaces, close-done, close-no-ticket, closes, open-done, open-no-room, open-no-set, open-serial-end, opens}
+use Rattle.desk.specs.Laws.Views.{replace-done, replace-edition-end, replace-fault, replace-table, replaces}
 use Rattle.desk.specs.Rooms.{freeRoom, freeTicket, isFor, isFree, isHeld, newTicket, roomOf, serialOf, ticketIn, ticketsHeld}
 use Rattle.desk.specs.declared.Closing.{Closing}
 use Rattle.desk.specs.declared.Opening.{Opening}
@@ -27,7 +28,9 @@ use Rattle.history.specs.Laws.Numbers.{lower}
 use Rattle.history.specs.Laws.Seats.{room-for}
 use Rattle.history.specs.Laws.Snoc.{snoc-length}
 use Rattle.matching.specs.Words.{Word}
-use Rattle.verdicts.specs.GateHistory.{Approval, GateAct, GateWorld, begunWith, decidedWith, gateBegin, gateDecide, gatePiece, gateReplace, gateRun, gateStart, gateStep, handedCut, handedWhole, handedWith, newApproval, noApproval, onApproval, replacedWith, settled, undecidedOf, withApprovals}
+use Rattle.verdicts.specs.GateHistory.{Approval, GateAct, GateWorld, begunWith, decidedWith, gateBegin, gateDecide, gatePiece, gateReplace, gateRun}
+use Rattle.verdicts.specs.GateHistory.{gateStart, gateStep, handedCut, handedWhole, handedWith, newApproval, noApproval, onApproval, replacedWith}
+use Rattle.verdicts.specs.GateHistory.{settled, undecidedOf, withApprovals}
 use Rattle.verdicts.specs.Laws.Alike.{fed-alike}
 use Rattle.verdicts.specs.Laws.Approvals.{on-length, verdict-settles}
 use Rattle.verdicts.specs.Laws.Counted.{fed-counted}
@@ -54,17 +57,21 @@ undecided-new l p e =
     undecided-append l (p ∷ []) ∙ omega (arith, one)
 
 -- a change that decides none
-undecided-kept : (n : ℕ) (f : Approval → Approval) (l : List Approval) → ((p : Approval) → f p .decided ≡ p .decided) → undecidedOf (onApproval n f l) ≡ undecidedOf l
+undecided-kept : (n : ℕ) (f : Approval → Approval) (l : List Approval) → ((p : Approval) → f p .decided ≡ p .decided)
+    → undecidedOf (onApproval n f l) ≡ undecidedOf l
 unfolding undecidedOf onApproval
 undecided-kept n f [] same = refl
 undecided-kept n f (p ∷ l) same = go (eqb (p .serial) n) (undecided-kept n f l same)
   where
-    go : (x : Bool) → undecidedOf (onApproval n f l) ≡ undecidedOf l → cond (cond x (f p) p .decided) 0 1 + undecidedOf (onApproval n f l) ≡ cond (p .decided) 0 1 + undecidedOf l
-    go true ih = let one : _≡_ {A = ℕ} (cond (f p .decided) 0 1) (cond (p .decided) 0 1) = ap {B = ℕ} (λ (b : Bool). cond b 0 1) (same p) in omega (arith, one, ih)
+    go : (x : Bool) → undecidedOf (onApproval n f l) ≡ undecidedOf l → cond (cond x (f p) p .decided) 0 1 + undecidedOf (onApproval n f l) ≡ cond
+        (p .decided) 0 1 + undecidedOf l
+    go true ih = let one : _≡_ {A = ℕ} (cond (f p .decided) 0 1) (cond (p .decided) 0 1) = ap {B = ℕ} (λ (b : Bool). cond b 0 1) (same p) in
+        omega (arith, one, ih)
     go false ih = omega (arith, ih)
 
 -- where no approval has the serial, none is decided
-undecided-none : (n : ℕ) (l : List Approval) → ((m : ℕ) → m < length l → getD l m noApproval .serial ≡ n → ⊥) → undecidedOf (onApproval n settled l) ≡ undecidedOf l
+undecided-none : (n : ℕ) (l : List Approval) → ((m : ℕ) → m < length l → getD l m noApproval .serial ≡ n → ⊥)
+    → undecidedOf (onApproval n settled l) ≡ undecidedOf l
 unfolding undecidedOf onApproval
 undecided-none n [] f = refl
 undecided-none n (p ∷ l) f =
@@ -118,7 +125,8 @@ module _ (g : GateWorld) (v : Standing g) (c : Held g) where
   unfolding changeOf
   held-replace order lent = go _ (replaces (g .gate .desk) order (sizesOf lent))
     where
-      go : (r : Replacing) → Replaces (g .gate .desk) order (sizesOf lent) r → Held (replacedWith g order lent (record { desk = r .desk; seen = g .gate .seen }) (r .answer))
+      go : (r : Replacing) → Replaces (g .gate .desk) order (sizesOf lent) r
+          → Held (replacedWith g order lent (record { desk = r .desk; seen = g .gate .seen }) (r .answer))
       go r (replace-fault fault p) = c
       go r (replace-table machine needs p) = c
       go r (replace-edition-end n p f) = c
@@ -158,7 +166,8 @@ module _ (g : GateWorld) (v : Standing g) (c : Held g) where
           now : undecidedOf (g .approvals ++ new ∷ []) ≡ ticketsHeld (set rooms i t)
           now =
               let was-none : _≡_ {A = ℕ} (cond (isHeld (ticketIn rooms i)) 1 0) 0 = ap {B = ℕ} (λ (b : Bool). cond b 1 0) was in
-              let is-one : _≡_ {A = ℕ} (cond (isHeld t) 1 0) 1 = ap {B = ℕ} (λ (b : Bool). cond b 1 0) (new-held (g .gate .desk .serial .0) (g .gate .desk .edition)) in
+              let is-one : _≡_ {A = ℕ} (cond (isHeld t) 1 0) 1 = ap {B = ℕ} (λ (b : Bool). cond b 1 0)
+              (new-held (g .gate .desk .serial .0) (g .gate .desk .edition)) in
               omega (arith, held-set rooms i t (omega (arith, h, wide)), was-none, is-one, undecided-new (g .approvals) new refl, c .held)
 
   held-decide : (s : Serial) → Held (gateStep g (gateDecide s))
@@ -194,7 +203,8 @@ module _ (g : GateWorld) (v : Standing g) (c : Held g) where
           → Held (decidedWith g s (decideBy (g .gate) s i x .gate) (decideBy (g .gate) s i x .answer))
       go false e = c
       go true e =
-          subst Held (sym (verdict-settles g s _ (ticketIn rooms i .edition) (seenIn (g .gate .seen) i) (eqb (ticketIn rooms i .edition .0) (g .gate .desk .edition .0))))
+          subst Held (sym (verdict-settles g s _ (ticketIn rooms i .edition) (seenIn (g .gate .seen) i)
+          (eqb (ticketIn rooms i .edition .0) (g .gate .desk .edition .0))))
           (closed _ (closes (g .gate .desk) s) (ltb-true i mostTickets e))
 
   held-piece : (s : Serial) (table : List ℕ) (piece : Word) → Held (gateStep g (gatePiece s table piece))
@@ -211,7 +221,8 @@ module _ (g : GateWorld) (v : Standing g) (c : Held g) where
           → Held (withApprovals g (record { desk = fed .gate .desk; seen = seen }) (onApproval (s .0) f (g .approvals)))
       handed seen f same = record {
         held = undecided-kept (s .0) f (g .approvals) same ∙ c .held
-            ∙ sym (same-held (fed .gate .desk .tickets) rooms (fed-counted (length piece) (g .gate) s table piece 0 wide .counted .wide) (fed-alike (length piece) (g .gate) s table piece 0 .same .serials));
+            ∙ sym (same-held (fed .gate .desk .tickets) rooms (fed-counted (length piece) (g .gate) s table piece 0 wide .counted .wide)
+            (fed-alike (length piece) (g .gate) s table piece 0 .same .serials));
         few-serials = le-trans (le-of-eq (on-length (s .0) f (g .approvals))) (c .few-serials);
         few-editions = c .few-editions;
         few-tags = c .few-tags;
@@ -221,7 +232,9 @@ module _ (g : GateWorld) (v : Standing g) (c : Held g) where
       ended true = handed (fed .gate .seen) (handedWhole piece) (λ p. refl)
       ended false = handed (cutIn (fed .gate .seen) i) (handedCut piece) (λ p. refl)
 
-      go : (x y : Bool) → Held (handedWith g s piece (pieceBy (g .gate) s i (ticketIn rooms i) table piece x y .gate) (pieceBy (g .gate) s i (ticketIn rooms i) table piece x y .answer))
+      go : (x y : Bool) → Held
+          (handedWith g s piece (pieceBy (g .gate) s i (ticketIn rooms i) table piece x y .gate)
+          (pieceBy (g .gate) s i (ticketIn rooms i) table piece x y .answer))
       go false y = c
       go true false = c
       go true true = ended (eqb (fed .taken) (length piece))

@@ -54,7 +54,8 @@ unfolding anyUpTo
 any-at zero f h = absurd (not-both h refl)
 any-at (suc n) f h = go (or-cases (f (suc n)) (anyUpTo n f) h) (any-at n f)
   where
-    go : (f (suc n) ≡ true) ⊎ (anyUpTo n f ≡ true) → (anyUpTo n f ≡ true → (e : ℕ) × (0 < e) × (e ≤ n) × (f e ≡ true)) → (e : ℕ) × (0 < e) × (e ≤ suc n) × (f e ≡ true)
+    go : (f (suc n) ≡ true) ⊎ (anyUpTo n f ≡ true) → (anyUpTo n f ≡ true → (e : ℕ) × (0 < e) × (e ≤ n) × (f e ≡ true))
+        → (e : ℕ) × (0 < e) × (e ≤ suc n) × (f e ≡ true)
     go (inl q) ih = (suc n, omega arith, omega arith, q)
     go (inr q) ih = let z = ih q in (z .0, z .1, omega (arith, z .2), z .3)
 
@@ -105,4 +106,5 @@ mask-none tags bytes few = (none, back)
     back : ((i e : ℕ) → EndsAt tags bytes i e → ⊥) → maskOf tags bytes ≡ 0
     back f =
         same-bits 64 (maskOf tags bytes) 0 (number-lt 64 (carried tags bytes)) (pow-pos 64)
-        (λ i h. number-bit 64 (carried tags bytes) i h ∙ not-one (carried tags bytes i) (λ q. (let z = carried-iff tags bytes i .0 q in f i (z .0) (z .1))) ∙ sym (zero-bit i))
+        (λ i h. number-bit 64 (carried tags bytes) i h ∙ not-one (carried tags bytes i) (λ q. (let z = carried-iff tags bytes i .0 q in f i (z .0) (z .1)))
+        ∙ sym (zero-bit i))

@@ -23,7 +23,9 @@ use Rattle.gate.specs.declared.Verdict.{Verdict}
 use Rattle.history.specs.Laws.Snoc.{snoc-length, snoc-old}
 use Rattle.matching.specs.Laws.Bools.{not-both}
 use Rattle.matching.specs.Words.{Word}
-use Rattle.verdicts.specs.GateHistory.{Approval, GateAct, GateWorld, Undecided, approvalAt, begunWith, decidedWith, gateBegin, gateDecide, gatePiece, gateReplace, gateRun, gateStep, handedCut, handedWhole, handedWith, newApproval, noApproval, onApproval, replacedWith, settled}
+use Rattle.verdicts.specs.GateHistory.{Approval, GateAct, GateWorld, Undecided, approvalAt, begunWith, decidedWith, gateBegin, gateDecide, gatePiece}
+use Rattle.verdicts.specs.GateHistory.{gateReplace, gateRun, gateStep, handedCut, handedWhole, handedWith, newApproval, noApproval, onApproval}
+use Rattle.verdicts.specs.GateHistory.{replacedWith, settled}
 use Rattle.verdicts.specs.Laws.Approvals.{on-each, on-length, verdict-settles}
 use Rattle.verdicts.specs.Laws.Deciding.{seated}
 use Rattle.verdicts.specs.Laws.Standing.{Standing}
@@ -35,7 +37,8 @@ pub record Done (l : List Approval) (k : ℕ) : Type 0 where
   pub inside : k < length l
   pub decided : getD l k noApproval .decided ≡ true
 
-on-done : (n : ℕ) (f : Approval → Approval) (l : List Approval) (k : ℕ) → ((p : Approval) → p .decided ≡ true → f p .decided ≡ true) → Done l k → Done (onApproval n f l) k
+on-done : (n : ℕ) (f : Approval → Approval) (l : List Approval) (k : ℕ) → ((p : Approval) → p .decided ≡ true → f p .decided ≡ true) → Done l k
+    → Done (onApproval n f l) k
 on-done n f l k keeps d =
     let inside : k < length (onApproval n f l) = subst (λ (m : ℕ). k < m) (sym (on-length n f l)) (d .inside) in
     record {
@@ -89,7 +92,8 @@ done-run (act ∷ calls) w k d = done-run calls (gateStep w act) k (done-step w 
 pub decided-now : (w : GateWorld) → Standing w → (s : Serial) (k : ℕ) → Undecided w s k → Done (gateStep w (gateDecide s) .approvals) k
 unfolding decideOf
 decided-now w v s k u =
-    subst (λ (b : Bool). Done (decidedWith w s (decideBy (w .gate) s i b .gate) (decideBy (w .gate) s i b .answer) .approvals) k) (sym (lt-ltb i mostTickets (seated w v s k u .room)))
+    subst (λ (b : Bool). Done (decidedWith w s (decideBy (w .gate) s i b .gate) (decideBy (w .gate) s i b .answer) .approvals) k)
+    (sym (lt-ltb i mostTickets (seated w v s k u .room)))
     (subst (λ (x : GateWorld). Done (x .approvals) k)
     (sym (verdict-settles w s (decideBy (w .gate) s i true .gate) (ticketIn (w .gate .desk .tickets) i .edition) (seenIn (w .gate .seen) i)
     (eqb (ticketIn (w .gate .desk .tickets) i .edition .0) (w .gate .desk .edition .0)))) done)
@@ -99,7 +103,8 @@ decided-now w v s k u =
 
     done : Done (onApproval (s .0) settled (w .approvals)) k
     done =
-        let inside : k < length (onApproval (s .0) settled (w .approvals)) = subst (λ (m : ℕ). k < m) (sym (on-length (s .0) settled (w .approvals))) (u .inside) in
+        let inside : k < length (onApproval (s .0) settled (w .approvals)) =
+        subst (λ (m : ℕ). k < m) (sym (on-length (s .0) settled (w .approvals))) (u .inside) in
         record {
           inside = inside;
           decided = on-each (s .0) settled (w .approvals) (λ j p. j ≡ k → p .decided ≡ true) (λ j h e q. refl)
@@ -117,7 +122,8 @@ done-none w v s k e d j u =
     let same : j ≡ k = omega (arith, e, u .serial, v .numbered j (u .inside)) in
     not-both (d .decided) (subst (λ (n : ℕ). approvalAt w n .decided ≡ false) same (u .undecided))
 
-pub none-after : (calls more : List GateAct) (w : GateWorld) (s : Serial) (k : ℕ) → Standing (gateRun w calls) → Standing (gateRun w (calls ++ gateDecide s ∷ more))
+pub none-after : (calls more : List GateAct) (w : GateWorld) (s : Serial) (k : ℕ) → Standing (gateRun w calls)
+    → Standing (gateRun w (calls ++ gateDecide s ∷ more))
     → Undecided (gateRun w calls) s k → (j : ℕ) → Undecided (gateRun w (calls ++ gateDecide s ∷ more)) s j → ⊥
 unfolding gateRun
 none-after calls more w s k v x u =

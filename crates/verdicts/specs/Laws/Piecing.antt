@@ -68,7 +68,8 @@ editionIn (P.Cut n) = editionOf 0
 editionIn P.NoTicket = editionOf 0
 
 module _ (w : GateWorld) (s : Serial) (numbered : (k : ℕ) → k < length (w .approvals) → approvalAt w k .serial ≡ suc k) where
-  stale-is : (k : ℕ) (e d : Edition) → Undecided w s k → e .0 ≡ approvalAt w k .accepted → (j : ℕ) → Undecided w s j → d .0 ≡ approvalAt w j .accepted → P.Stale e ≡ P.Stale d
+  stale-is : (k : ℕ) (e d : Edition) → Undecided w s k → e .0 ≡ approvalAt w k .accepted → (j : ℕ) → Undecided w s j → d .0 ≡ approvalAt w j .accepted
+      → P.Stale e ≡ P.Stale d
   stale-is k e d x p j y q =
       let h : e .0 ≡ d .0 = p ∙ sym (same w s numbered (λ n. d .0 ≡ approvalAt w n .accepted) j k y x q) in
       ap P.Stale (λ t. record { 0 = h t })

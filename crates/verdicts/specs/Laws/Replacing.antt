@@ -18,7 +18,8 @@ use Rattle.verdicts.specs.Laws.Held.{Held}
 use Rattle.verdicts.specs.Laws.Standing.{Standing}
 use Rattle.matching.specs.Limits.{largest}
 
-pub replaces-exactly : (w : GateWorld) → Standing w → Held w → (order : Order) (len : Sizes) → ReplaceExactly w order len (changeOf (w .gate) order len .answer)
+pub replaces-exactly : (w : GateWorld) → Standing w → Held w → (order : Order) (len : Sizes)
+    → ReplaceExactly w order len (changeOf (w .gate) order len .answer)
 unfolding changeOf
 replaces-exactly w v c order len = go _ (replaces (w .gate .desk) order len)
   where
@@ -60,7 +61,8 @@ replaces-exactly w v c order len = go _ (replaces (w .gate .desk) order len)
             let x : w .gate .desk .edition .0 + 1 ≡ i .0 = cc in
             (desk-tags-iff order len n .0 (cc), few q, omega (arith, x, now))
 
-        so : (i : Edition) (n : ℕ) → deskBuilt order len ≡ B.Tags n → i .0 ≡ suc (w .accepted) → R.Replaced (editionOf (w .gate .desk .edition .0 + 1)) c ≡ R.Replaced i n
+        so : (i : Edition) (n : ℕ) → deskBuilt order len ≡ B.Tags n → i .0 ≡ suc (w .accepted)
+            → R.Replaced (editionOf (w .gate .desk .edition .0 + 1)) c ≡ R.Replaced i n
         so i n e x =
             let y : w .gate .desk .edition .0 + 1 ≡ i .0 = omega (arith, x, now) in
             let z : c ≡ n = cc in

@@ -13,7 +13,8 @@ use lib.Seq.{getD-set-other, getD-set-same}
 use borrow.Author.Tests.{eqb-false, eqb-true, ltb-true}
 use Rattle.desk.specs.Laws.Good.{good}
 use Rattle.desk.specs.Laws.Rooms.{firstRoom-holds, for-held, free-held, held-for, new-held}
-use Rattle.desk.specs.Laws.Views.{Closes, Opens, Replaces, close-done, close-no-ticket, closes, open-done, open-no-room, open-no-set, open-serial-end, opens, replace-done, replace-edition-end, replace-fault, replace-table, replaces}
+use Rattle.desk.specs.Laws.Views.{Closes, Opens, Replaces, close-done, close-no-ticket, closes, open-done, open-no-room, open-no-set, open-serial-end, opens}
+use Rattle.desk.specs.Laws.Views.{replace-done, replace-edition-end, replace-fault, replace-table, replaces}
 use Rattle.desk.specs.Reached.{Reached, byCall, callClose, callOpen, callReplace, fromNew}
 use Rattle.desk.specs.Rooms.{freeRoom, freeTicket, isFor, isFree, isHeld, newTicket, roomOf, serialOf, ticketIn}
 use Rattle.desk.specs.declared.Closing.{Closing}
@@ -34,7 +35,9 @@ use Rattle.history.specs.Laws.Seats.{Unique, for-other, has-room, nobody-new, r
 use Rattle.history.specs.Laws.Snoc.{snoc-each, snoc-length}
 use Rattle.matching.specs.Laws.Bools.{is-false, not-both}
 use Rattle.matching.specs.Words.{Word}
-use Rattle.verdicts.specs.GateHistory.{Approval, GateAct, GateWorld, approvalAt, begunWith, decidedWith, gateBegin, gateDecide, gatePiece, gateReplace, gateRun, gateStart, gateStep, handedCut, handedWhole, handedWith, newApproval, noApproval, onApproval, replacedWith, settled, withApprovals}
+use Rattle.verdicts.specs.GateHistory.{Approval, GateAct, GateWorld, approvalAt, begunWith, decidedWith, gateBegin, gateDecide, gatePiece, gateReplace}
+use Rattle.verdicts.specs.GateHistory.{gateRun, gateStart, gateStep, handedCut, handedWhole, handedWith, newApproval, noApproval, onApproval}
+use Rattle.verdicts.specs.GateHistory.{replacedWith, settled, withApprovals}
 use Rattle.verdicts.specs.Laws.Alike.{Alike, fed-alike, same-unique}
 use Rattle.verdicts.specs.Laws.Approvals.{on-each, on-length, verdict-settles}
 use Rattle.verdicts.specs.Laws.Counted.{FedCounted, fed-counted}
@@ -264,7 +267,8 @@ module _ (g : GateWorld) (v : Standing g) where
         counts = on-each (s .0) settled (g .approvals) (λ j p. Counts (set rooms k freeTicket) p)
             (λ j z e d. differ cc)
             (λ j z e. other-counts (approvalAt g j) e (v .seats j z) (v .counts j z));
-        strangers = λ n z. (let q = v .strangers n (subst (λ (c : ℕ). Stranger c (n .0)) (on-length (s .0) settled (g .approvals)) z) in le-trans q (le-of-eq (sym (stays n (λ e. apart n e q)))));
+        strangers = λ n z. (let q = v .strangers n (subst (λ (c : ℕ). Stranger c (n .0)) (on-length (s .0) settled (g .approvals)) z) in
+            le-trans q (le-of-eq (sym (stays n (λ e. apart n e q)))));
         unique = unique-set rooms rooms-wide k freeTicket hk (v .unique) (λ n j ne a b. not-both b refl);
       }
         where
@@ -302,7 +306,8 @@ module _ (g : GateWorld) (v : Standing g) where
           → Standing (decidedWith g s (decideBy (g .gate) s i x .gate) (decideBy (g .gate) s i x .answer))
       go false e = v
       go true e =
-          subst Standing (sym (verdict-settles g s _ (ticketIn rooms i .edition) (seenIn (g .gate .seen) i) (eqb (ticketIn rooms i .edition .0) (g .gate .desk .edition .0))))
+          subst Standing (sym (verdict-settles g s _ (ticketIn rooms i .edition) (seenIn (g .gate .seen) i)
+          (eqb (ticketIn rooms i .edition .0) (g .gate .desk .edition .0))))
           (closed _ (closes (g .gate .desk) s) (ltb-true i mostTickets e) (byCall (v .reached) (callClose s)))
 
   -- a piece
@@ -321,8 +326,10 @@ module _ (g : GateWorld) (v : Standing g) where
     fed-sits p (sits c h k) =
         let r = a .same .rooms (serialOf (p .serial)) in
         sits c (rw r h) (record {
-          edition = ap (λ (j : ℕ). ticketIn (fed .gate .desk .tickets) j .edition .0) r ∙ ap (λ (e : Edition). e .0) (a .same .editions (roomOf rooms (serialOf (p .serial)))) ∙ k .edition;
-          read = ap (λ (j : ℕ). eqb (seenIn (fed .gate .seen) j .unread) 0) r ∙ ap (λ (j : ℕ). eqb j 0) (a .unreads (roomOf rooms (serialOf (p .serial)))) ∙ k .read;
+          edition = ap (λ (j : ℕ). ticketIn (fed .gate .desk .tickets) j .edition .0) r
+              ∙ ap (λ (e : Edition). e .0) (a .same .editions (roomOf rooms (serialOf (p .serial)))) ∙ k .edition;
+          read = ap (λ (j : ℕ). eqb (seenIn (fed .gate .seen) j .unread) 0) r ∙ ap (λ (j : ℕ). eqb j 0) (a .unreads (roomOf rooms (serialOf (p .serial))))
+              ∙ k .read;
         })
 
     c : FedCounted (g .gate) s piece 0 fed
@@ -333,11 +340,13 @@ module _ (g : GateWorld) (v : Standing g) where
     fed-counts p ne x y d =
         let n = serialOf (p .serial) in
         let same : ticketIn (fed .gate .desk .tickets) (roomOf (fed .gate .desk .tickets) n) .taken ≡ ticketIn rooms (roomOf rooms n) .taken =
-        ap (λ (j : ℕ). ticketIn (fed .gate .desk .tickets) j .taken) (a .same .rooms n) ∙ c .counted .others (roomOf rooms n) (rooms-apart rooms rooms-wide n s ne (room-in x d)) in
+        ap (λ (j : ℕ). ticketIn (fed .gate .desk .tickets) j .taken) (a .same .rooms n)
+        ∙ c .counted .others (roomOf rooms n) (rooms-apart rooms rooms-wide n s ne (room-in x d)) in
         subst (λ (m : ℕ). Tally m p) (sym same) (y d)
 
     own-count : (p : Approval) → p .serial ≡ s .0
-        → ticketIn (fed .gate .desk .tickets) (roomOf (fed .gate .desk .tickets) (serialOf (p .serial))) .taken ≡ ticketIn rooms (roomOf rooms (serialOf (p .serial))) .taken + fed .taken
+        → ticketIn (fed .gate .desk .tickets) (roomOf (fed .gate .desk .tickets) (serialOf (p .serial))) .taken
+        ≡ ticketIn rooms (roomOf rooms (serialOf (p .serial))) .taken + fed .taken
     own-count p e =
         let n = serialOf (p .serial) in
         let at : roomOf rooms n ≡ i = ap (λ (m : ℕ). roomOf rooms (serialOf m)) e in
@@ -363,7 +372,8 @@ module _ (g : GateWorld) (v : Standing g) where
     whole-sits seen p (sits c h k) = sits c h (record { edition = k .edition; read = k .read })
 
     -- the history after it
-    handed : (seen : List Seen) (f : Approval → Approval) → length seen ≡ mostTickets → ((p : Approval) → f p .serial ≡ p .serial) → ((p : Approval) → f p .accepted ≡ p .accepted)
+    handed : (seen : List Seen) (f : Approval → Approval) → length seen ≡ mostTickets → ((p : Approval) → f p .serial ≡ p .serial)
+        → ((p : Approval) → f p .accepted ≡ p .accepted)
         → ((p : Approval) → p .serial ≡ s .0 → Sits rooms (g .gate .seen) p → Sits (fed .gate .desk .tickets) seen (f p))
         → ((p : Approval) → (p .serial ≡ s .0 → ⊥) → Sits rooms (g .gate .seen) p → Sits (fed .gate .desk .tickets) seen p)
         → ((p : Approval) → p .serial ≡ s .0 → Counts rooms p → Counts (fed .gate .desk .tickets) (f p))
@@ -375,7 +385,8 @@ module _ (g : GateWorld) (v : Standing g) where
       serials = on-length (s .0) f (g .approvals) ∙ v .serials ∙ ap (λ (n : Serial). n .0) (sym (a .same .serial));
       numbered = on-each (s .0) f (g .approvals) (λ j p. p .serial ≡ suc j) (λ j z e. serial (approvalAt g j) ∙ v .numbered j z) (λ j z e. v .numbered j z);
       upto = on-each (s .0) f (g .approvals) (λ j p. p .accepted ≤ g .accepted) (λ j z e. rw (accepted (approvalAt g j)) (v .upto j z)) (λ j z e. v .upto j z);
-      seats = on-each (s .0) f (g .approvals) (λ j p. Sits (fed .gate .desk .tickets) seen p) (λ j z e. hit (approvalAt g j) e (v .seats j z)) (λ j z e. miss (approvalAt g j) e (v .seats j z));
+      seats = on-each (s .0) f (g .approvals) (λ j p. Sits (fed .gate .desk .tickets) seen p) (λ j z e. hit (approvalAt g j) e (v .seats j z))
+          (λ j z e. miss (approvalAt g j) e (v .seats j z));
       counts = on-each (s .0) f (g .approvals) (λ j p. Counts (fed .gate .desk .tickets) p) (λ j z e. count (approvalAt g j) e (v .counts j z))
           (λ j z e. fed-counts (approvalAt g j) e (v .seats j z) (v .counts j z));
       strangers = λ n z. rw (a .same .rooms n) (v .strangers n (subst (λ (c : ℕ). Stranger c (n .0)) (on-length (s .0) f (g .approvals)) z));
@@ -386,15 +397,19 @@ module _ (g : GateWorld) (v : Standing g) where
     fed-wide = a .wide ∙ v .wide
 
     read : fed .taken ≡ length piece → Standing (withApprovals g (fed .gate) (onApproval (s .0) (handedWhole piece) (g .approvals)))
-    read z = handed (fed .gate .seen) (handedWhole piece) fed-wide (λ p. refl) (λ p. refl) (λ p e x. whole-sits (fed .gate .seen) p (fed-sits p x)) (λ p e x. fed-sits p x) (whole-counts z)
+    read z = handed (fed .gate .seen) (handedWhole piece) fed-wide (λ p. refl) (λ p. refl) (λ p e x. whole-sits (fed .gate .seen) p (fed-sits p x))
+        (λ p e x. fed-sits p x) (whole-counts z)
 
-    cut : i < mostTickets → (fed .taken ≡ length piece → ⊥) → Standing (withApprovals g (record { desk = fed .gate .desk; seen = cutIn (fed .gate .seen) i }) (onApproval (s .0) (handedCut piece) (g .approvals)))
-    cut h z = handed (cutIn (fed .gate .seen) i) (handedCut piece) (length-set (fed .gate .seen) i _ ∙ fed-wide) (λ p. refl) (λ p. refl) (λ p e x. hit p e (fed-sits p x)) (λ p e x. miss p e (fed-sits p x)) (cut-counts z)
+    cut : i < mostTickets → (fed .taken ≡ length piece → ⊥) → Standing
+        (withApprovals g (record { desk = fed .gate .desk; seen = cutIn (fed .gate .seen) i }) (onApproval (s .0) (handedCut piece) (g .approvals)))
+    cut h z = handed (cutIn (fed .gate .seen) i) (handedCut piece) (length-set (fed .gate .seen) i _ ∙ fed-wide) (λ p. refl) (λ p. refl)
+        (λ p e x. hit p e (fed-sits p x)) (λ p e x. miss p e (fed-sits p x)) (cut-counts z)
       where
         room : roomOf (fed .gate .desk .tickets) s ≡ i
         room = a .same .rooms s
 
-        hit : (p : Approval) → p .serial ≡ s .0 → Sits (fed .gate .desk .tickets) (fed .gate .seen) p → Sits (fed .gate .desk .tickets) (cutIn (fed .gate .seen) i) (handedCut piece p)
+        hit : (p : Approval) → p .serial ≡ s .0 → Sits (fed .gate .desk .tickets) (fed .gate .seen) p
+            → Sits (fed .gate .desk .tickets) (cutIn (fed .gate .seen) i) (handedCut piece p)
         hit p e (stood c x) = stood c x
         hit p e (sits c x k) =
             let own : roomOf (fed .gate .desk .tickets) (serialOf (p .serial)) ≡ i = ap (λ (n : ℕ). roomOf (fed .gate .desk .tickets) (serialOf n)) e ∙ room in
@@ -405,14 +420,16 @@ module _ (g : GateWorld) (v : Standing g) where
                   ∙ ap (λ (u : Seen). eqb (u .unread) 0) (getD-set-same (fed .gate .seen) i _ nothingSeen (omega (arith, h, fed-wide)));
             })
 
-        miss : (p : Approval) → (p .serial ≡ s .0 → ⊥) → Sits (fed .gate .desk .tickets) (fed .gate .seen) p → Sits (fed .gate .desk .tickets) (cutIn (fed .gate .seen) i) p
+        miss : (p : Approval) → (p .serial ≡ s .0 → ⊥) → Sits (fed .gate .desk .tickets) (fed .gate .seen) p
+            → Sits (fed .gate .desk .tickets) (cutIn (fed .gate .seen) i) p
         miss p e (stood c x) = stood c x
         miss p e (sits c x k) =
             let apart : roomOf (fed .gate .desk .tickets) (serialOf (p .serial)) ≡ i → ⊥ =
             λ q. rooms-apart (fed .gate .desk .tickets) (good (a .reached (v .reached)) .rooms) (serialOf (p .serial)) s e x (q ∙ sym room) in
             sits c x (record {
               edition = k .edition;
-              read = ap (λ (u : Seen). eqb (u .unread) 0) (getD-set-other (fed .gate .seen) i (roomOf (fed .gate .desk .tickets) (serialOf (p .serial))) _ nothingSeen apart) ∙ k .read;
+              read = ap (λ (u : Seen). eqb (u .unread) 0)
+                  (getD-set-other (fed .gate .seen) i (roomOf (fed .gate .desk .tickets) (serialOf (p .serial))) _ nothingSeen apart) ∙ k .read;
             })
 
     standing-piece : Standing (gateStep g (gatePiece s table piece))
@@ -425,7 +442,8 @@ module _ (g : GateWorld) (v : Standing g) where
         ended false h e = cut h (eqb-false (fed .taken) (length piece) e)
 
         go : (x : Bool) → ltb i mostTickets ≡ x → (y : Bool)
-            → Standing (handedWith g s piece (pieceBy (g .gate) s i (ticketIn rooms i) table piece x y .gate) (pieceBy (g .gate) s i (ticketIn rooms i) table piece x y .answer))
+            → Standing (handedWith g s piece (pieceBy (g .gate) s i (ticketIn rooms i) table piece x y .gate)
+            (pieceBy (g .gate) s i (ticketIn rooms i) table piece x y .answer))
         go false e y = v
         go true e false = v
         go true e true = ended (eqb (fed .taken) (length piece)) (ltb-true i mostTickets e) refl
@@ -442,7 +460,8 @@ standing [] g v = v
 standing (act ∷ calls) g v = standing calls (gateStep g act) (standing-step g v act)
 
 -- an accepted replacement answers the next count
-pub accepts-next : (g : GateWorld) → Standing g → (order : Order) (run : Lent) (e : Edition) (tags : ℕ) → changeOf (g .gate) order (sizesOf run) .answer ≡ R.Replaced e tags
+pub accepts-next : (g : GateWorld) → Standing g → (order : Order) (run : Lent) (e : Edition) (tags : ℕ)
+    → changeOf (g .gate) order (sizesOf run) .answer ≡ R.Replaced e tags
     → e .0 ≡ suc (g .accepted)
 unfolding changeOf
 accepts-next g v order run e tags q = go _ (replaces (g .gate .desk) order (sizesOf run)) q

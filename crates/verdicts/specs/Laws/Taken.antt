@@ -35,7 +35,8 @@ cutAfter (P.Stale e) = 0
 
 pub answers-taken : (g : Gate) (s : Serial) → OpenIn g s → (table : List ℕ) (piece : Word) → AnswersTaken g s piece (pieceOf g s table piece)
 answers-taken g s o table piece =
-    subst (λ (r : Piecing). AnswersTaken g s piece r) (piece-fed g s i refl table piece fed (endedOf (fed .gate) i (fed .taken) (length piece)) (o .room) (o .current) refl refl)
+    subst (λ (r : Piecing). AnswersTaken g s piece r)
+    (piece-fed g s i refl table piece fed (endedOf (fed .gate) i (fed .taken) (length piece)) (o .room) (o .current) refl refl)
     (go (eqb (fed .taken) (length piece)) refl)
   where
     i : ℕ

@@ -48,10 +48,12 @@ pub record OpenFor (w : World) (s : Serial) (more : ℕ) : Type 0 where
   pub few : length (accountAt w k .bytes) + more ≤ largest
 
 -- a feed of some bytes takes one
-some-taken : (kind : Kind) (calls : List Call) → Proper (start kind) calls → (s : Serial) (rest : Word) → run (start kind) calls .desk .records .count ≡ 0 → Below 256 rest → OpenFor (run (start kind) calls) s (length rest)
+some-taken : (kind : Kind) (calls : List Call) → Proper (start kind) calls → (s : Serial) (rest : Word) → run (start kind) calls .desk .records .count ≡ 0
+    → Below 256 rest → OpenFor (run (start kind) calls) s (length rest)
     → 0 < length rest → 0 < takenBy (feedOf (run (start kind) calls .desk) s (run (start kind) calls .table) rest .answer)
 some-taken kind calls b s [] empty below o h = absurd (omega (arith, h))
-some-taken kind calls b s (c ∷ rest) empty below o h = takes-a-byte kind calls (b .0) s (o .room) (o .current) empty c rest (λ q. not-long _ (feeds (w .desk) s (w .table) (c ∷ rest)) q)
+some-taken kind calls b s (c ∷ rest) empty below o h = takes-a-byte kind calls (b .0) s (o .room) (o .current) empty c rest
+    (λ q. not-long _ (feeds (w .desk) s (w .table) (c ∷ rest)) q)
   where
     w : World
     w = run (start kind) calls
@@ -65,7 +67,8 @@ some-taken kind calls b s (c ∷ rest) empty below o h = takes-a-byte kind calls
     not-long r (feed-long a e l m) q = omega (arith, m, o .few, agrees w (sound-left kind calls (b .0) (b .1) .inv) s (o .k) (o .inside) (o .serial) a .taken)
 
 -- the ticket after it took some
-open-on : (kind : Kind) (calls : List Call) (b : Proper (start kind) calls) (seen : List Seen) (s : Serial) (taken : Word) (g : Gate) (more : ℕ) → SameRooms (run (start kind) calls .desk) (g .desk)
+open-on : (kind : Kind) (calls : List Call) (b : Proper (start kind) calls) (seen : List Seen) (s : Serial) (taken : Word) (g : Gate) (more : ℕ)
+    → SameRooms (run (start kind) calls .desk) (g .desk)
     → (o : Onward kind calls seen s taken g) → OpenFor (run (start kind) calls) s (length taken + more) → OpenFor (run (start kind) (o .all)) s more
 open-on kind calls b seen s taken g more same o f =
     let w = run (start kind) calls in
@@ -85,7 +88,8 @@ open-on kind calls b seen s taken g more same o f =
     }
 
 -- where the bytes are too many, none is taken
-pub long-none : (kind : Kind) (calls : List Call) → Proper (start kind) calls → (seen : List Seen) (s : Serial) (piece : Word) (k : ℕ) → k < length (run (start kind) calls .accounts) → s .0 ≡ suc k
+pub long-none : (kind : Kind) (calls : List Call) → Proper (start kind) calls → (seen : List Seen) (s : Serial) (piece : Word) (k : ℕ)
+    → k < length (run (start kind) calls .accounts) → s .0 ≡ suc k
     → largest < length (accountAt (run (start kind) calls) k .bytes) + length piece
     → fedOn (length piece) (record { desk = run (start kind) calls .desk; seen = seen }) s (run (start kind) calls .table) piece 0 .taken ≡ 0
 unfolding fedOn
@@ -107,7 +111,8 @@ long-none kind calls b seen s (c ∷ rest) k h e long =
     none r (feed-long a q l m) = refl
     none r (feed-read a q l m) = absurd (omega (arith, m, long, agrees w (sound-left kind calls (b .0) (b .1) .inv) s k h e a .taken))
 
-pub fed-all : (most : ℕ) (kind : Kind) (calls : List Call) → Proper (start kind) calls → (seen : List Seen) → Joined seen (run (start kind) calls) → (s : Serial) (d : Desk) (table : List ℕ) (piece : Word) (from : ℕ)
+pub fed-all : (most : ℕ) (kind : Kind) (calls : List Call) → Proper (start kind) calls → (seen : List Seen) → Joined seen (run (start kind) calls)
+    → (s : Serial) (d : Desk) (table : List ℕ) (piece : Word) (from : ℕ)
     → run (start kind) calls .desk ≡ d → run (start kind) calls .table ≡ table → Below 256 piece → from ≤ length piece → length piece ≤ from + most
     → OpenFor (run (start kind) calls) s (length piece - from)
     → fedOn most (record { desk = d; seen = seen }) s table piece from .taken ≡ length piece
@@ -115,7 +120,8 @@ unfolding fedOn
 fed-all zero kind calls b seen j s d table piece from at lent below h few f = omega (arith, h, few)
 fed-all (suc most) kind calls b seen j s d table piece from at lent below h few f =
     go (ltb from (length piece)) (eqb t 0) refl refl
-    (λ z. fed-all most kind (o .all) (o .bytes) (next .seen) (o .joined) s (next .desk) table piece (from + t) (o .desk-is) (o .table-is ∙ lent) below within (omega (arith, few, z)) open-next)
+    (λ z. fed-all most kind (o .all) (o .bytes) (next .seen) (o .joined) s (next .desk) table piece (from + t) (o .desk-is) (o .table-is ∙ lent) below within
+    (omega (arith, few, z)) open-next)
   where
     g : Gate
     g = record { desk = d; seen = seen }
@@ -137,19 +143,24 @@ fed-all (suc most) kind calls b seen j s d table piece from at lent below h few 
 
     open-next : OpenFor (run (start kind) (o .all)) s (length piece - (from + t))
     open-next =
-        let same : SameRooms (run (start kind) calls .desk) (next .desk) = subst (λ (x : Desk). SameRooms x (next .desk)) (sym at) (rest-alike g s table (drop from piece) .same) in
-        let size : length piece - from ≡ length (take t (drop from piece)) + (length piece - (from + t)) = omega (arith, length-take-le t (drop from piece) part, within) in
-        open-on kind calls b seen s (take t (drop from piece)) next (length piece - (from + t)) same o (subst (λ (n : ℕ). OpenFor (run (start kind) calls) s n) size f)
+        let same : SameRooms (run (start kind) calls .desk) (next .desk) =
+        subst (λ (x : Desk). SameRooms x (next .desk)) (sym at) (rest-alike g s table (drop from piece) .same) in
+        let size : length piece - from ≡ length (take t (drop from piece)) + (length piece - (from + t)) =
+        omega (arith, length-take-le t (drop from piece) part, within) in
+        open-on kind calls b seen s (take t (drop from piece)) next (length piece - (from + t)) same o
+        (subst (λ (n : ℕ). OpenFor (run (start kind) calls) s n) size f)
 
     some : from < length piece → 0 < t
     some p =
         let q : 0 < takenBy (feedOf (run (start kind) calls .desk) s (run (start kind) calls .table) (drop from piece) .answer) =
         some-taken kind calls b s (drop from piece) (j .empty) (below-rest from piece below)
         (subst (λ (n : ℕ). OpenFor (run (start kind) calls) s n) (sym (length-drop from piece)) f) (omega (arith, p, length-drop from piece)) in
-        subst (λ (l : List ℕ). 0 < takenBy (feedOf d s l (drop from piece) .answer)) lent (subst (λ (x : Desk). 0 < takenBy (feedOf x s (run (start kind) calls .table) (drop from piece) .answer)) at q)
+        subst (λ (l : List ℕ). 0 < takenBy (feedOf d s l (drop from piece) .answer)) lent
+        (subst (λ (x : Desk). 0 < takenBy (feedOf x s (run (start kind) calls .table) (drop from piece) .answer)) at q)
 
     go : (x y : Bool) → ltb from (length piece) ≡ x → eqb t 0 ≡ y → (0 < t → fedOn most next s table piece (from + t) .taken ≡ length piece)
-        → cond x (cond y (record { gate = next; taken = from }) (fedOn most next s table piece (from + t))) (record { gate = g; taken = from }) .taken ≡ length piece
+        → cond x (cond y (record { gate = next; taken = from }) (fedOn most next s table piece (from + t))) (record { gate = g; taken = from }) .taken
+        ≡ length piece
     go false y p q ih = omega (arith, h, ltb-false from (length piece) p)
     go true true p q ih = absurd (omega (arith, some (ltb-true from (length piece) p), eqb-true t 0 q))
     go true false p q ih = ih (some (ltb-true from (length piece) p))

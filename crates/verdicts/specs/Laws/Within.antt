@@ -38,8 +38,10 @@ record FedWithin (g : GateWorld) (s : Serial) (piece : Word) : Type 0 where
   pub all : takenIn (g .gate) s + length piece ≤ largest → fedOn (length piece) (g .gate) s (g .table) piece 0 .taken ≡ length piece
   pub none : largest < takenIn (g .gate) s + length piece → fedOn (length piece) (g .gate) s (g .table) piece 0 .taken ≡ 0
 
-within-by : (kind : Kind) (calls : List Call) → Proper (start kind) calls → (accepted : ℕ) (seen : List Seen) (approvals : List Approval) → Joined seen (run (start kind) calls) → (s : Serial)
-    → OpenIn (gateOf (run (start kind) calls) accepted seen approvals .gate) s → (piece : Word) → Below 256 piece → FedWithin (gateOf (run (start kind) calls) accepted seen approvals) s piece
+within-by : (kind : Kind) (calls : List Call) → Proper (start kind) calls → (accepted : ℕ) (seen : List Seen) (approvals : List Approval)
+    → Joined seen (run (start kind) calls) → (s : Serial)
+    → OpenIn (gateOf (run (start kind) calls) accepted seen approvals .gate) s → (piece : Word) → Below 256 piece
+    → FedWithin (gateOf (run (start kind) calls) accepted seen approvals) s piece
 within-by kind calls b accepted seen approvals j s o piece below = record {
   small = omega (arith, count, v .kept k inside .small);
   all = λ h. fed-all (length piece) kind calls b seen j s (w .desk) (w .table) piece 0 refl refl below (omega arith) (omega arith)
@@ -89,7 +91,9 @@ answers-within g c s o piece below =
     go : (x : Bool) → eqb (fed .taken) (length piece) ≡ x → Dec (takenIn (g .gate) s + length piece ≤ largest)
         → AnswersWithin (g .gate) s piece (endedBy (fed .gate) i (fed .taken) x .answer)
     go true e (yes h) = record { read = (λ q. h, λ q. refl); cut = λ n. (λ q. differ cc, λ z. absurd (omega (arith, h, z .1))) }
-    go true e (no h) = absurd (let long : largest < takenIn (g .gate) s + length piece = omega (arith, h) in omega (arith, f .none long, eqb-true (fed .taken) (length piece) e, long, f .small))
+    go true e (no h) = absurd
+        (let long : largest < takenIn (g .gate) s + length piece = omega (arith, h) in
+        omega (arith, f .none long, eqb-true (fed .taken) (length piece) e, long, f .small))
     go false e (yes h) = absurd (eqb-false (fed .taken) (length piece) e (f .all h))
     go false e (no h) =
         let long : largest < takenIn (g .gate) s + length piece = omega (arith, h) in

@@ -1,6 +1,4 @@
 use borrow.Author.Needs.{needs}
-use mathlib.Core.Path.{_∙_, ap}
-use Rattle.writing.specs.Buffer.{buffer, putBytes}
 use Rattle.writing.specs.Laws.Decimal.{decimal-digits}
 use Rattle.writing.proofs.put_number.Statement.{statement}
 use Rattle.writing.proofs.put_number.Tie as tie

@@ -82,7 +82,8 @@ pub rest-comes-by : (w : World) (s : Serial) (table : Lent) (d : Desk) (rest : W
 rest-comes-by w s table d rest at lent below = rw (← at, ← lent) (rest-comes w s rest below)
 
 -- one after the other
-pub comes-then : (w : World) (s : Serial) (x y : Word) {d e : Desk} {a b : List ℕ} (c : Comes w s x d a) → Comes (run w (c .calls)) s y e b → Comes w s (x ++ y) e (a ++ b)
+pub comes-then : (w : World) (s : Serial) (x y : Word) {d e : Desk} {a b : List ℕ} (c : Comes w s x d a) → Comes (run w (c .calls)) s y e b
+    → Comes w s (x ++ y) e (a ++ b)
 comes-then w s x y c next = record {
   calls = c .calls ++ next .calls;
   proper = proper-append w (c .calls) (next .calls) (c .proper) (next .proper);
@@ -122,7 +123,8 @@ comes-none w s at = record {
   empty = λ r none. ap (λ (x : Desk). x .records .count) (sym at) ∙ none;
 }
 
-pub served-comes : (w : World) (s : Serial) {table : Lent} {d e : Desk} {piece : Word} {lines : List ℕ} {n : ℕ} → w .desk ≡ d → w .table ≡ table → Below 256 piece
+pub served-comes : (w : World) (s : Serial) {table : Lent} {d e : Desk} {piece : Word} {lines : List ℕ} {n : ℕ} → w .desk ≡ d → w .table ≡ table
+    → Below 256 piece
     → Served s table d piece e lines n → Comes w s (take n piece) e lines
 served-comes w s at lent below all-taken = comes-none w s at
 served-comes w s {table} {d} {piece = piece} at lent below (none-taken some none) =
@@ -131,7 +133,8 @@ served-comes w s {table} {d} {piece = piece} at lent below (some-taken {e = e} {
     let t = restTaken s table d piece in
     let c = rest-comes-by w s table d piece at lent below in
     subst (λ (x : Word). Comes w s x e (restLines s table d piece ++ lines)) (sym (take-add t n piece))
-    (comes-then w s (take t piece) (take n (drop t piece)) c (served-comes (run w (c .calls)) s (c .desk-is) (c .table-is ∙ lent) (below-rest t piece below) more))
+    (comes-then w s (take t piece) (take n (drop t piece)) c
+    (served-comes (run w (c .calls)) s (c .desk-is) (c .table-is ∙ lent) (below-rest t piece below) more))
 
 pub all-comes : (w : World) (s : Serial) {table : Lent} {d e : Desk} {pieces : List Word} {lines : List ℕ} {bytes : Word} → w .desk ≡ d → w .table ≡ table
     → AllBelow 256 pieces → ServedAll s table d pieces e lines bytes → Comes w s bytes e lines

@@ -13,7 +13,9 @@ use Rattle.matching.specs.Laws.States.{most}
 use Rattle.tagset.specs.Answer.{cutAt}
 
 abbrev Inv-loop : tie.InvT-loop
-Inv-loop letters from to t tag most₀ i₀ most i = (i ≤ t) × (known (take t (cutAt letters from to)) (getD (cutAt letters from to) t []) ≡ max most (known (drop i (take t (cutAt letters from to))) (getD (cutAt letters from to) t [])))
+Inv-loop letters from to t tag most₀ i₀ most i = (i ≤ t) ×
+    (known (take t (cutAt letters from to)) (getD (cutAt letters from to) t [])
+    ≡ max most (known (drop i (take t (cutAt letters from to))) (getD (cutAt letters from to) t [])))
 
 abbrev μ-loop : tie.MeasureT-loop
 μ-loop letters from to t tag most₀ i₀ most i = t - i

@@ -11,7 +11,8 @@ use Rattle.machines.specs.Fronts.{known}
 use Rattle.tagset.specs.Answer.{cutAt}
 
 abbrev Inv-loop : tie.InvT-loop
-Inv-loop letters from to fronts₀ t₀ fronts t = (t ≤ length from) × (length fronts ≡ 16) × ((u : ℕ) → u < t → getD fronts u 0 ≡ known (take u (cutAt letters from to)) (getD (cutAt letters from to) u []))
+Inv-loop letters from to fronts₀ t₀ fronts t = (t ≤ length from) × (length fronts ≡ 16) ×
+    ((u : ℕ) → u < t → getD fronts u 0 ≡ known (take u (cutAt letters from to)) (getD (cutAt letters from to) u []))
 
 abbrev μ-loop : tie.MeasureT-loop
 μ-loop letters from to fronts₀ t₀ fronts t = length from - t

@@ -11,7 +11,8 @@ use Rattle.machines.specs.Rows.{Level}
 use Rattle.tagset.specs.Answer.{cutAt}
 
 abbrev Inv-loop : tie.InvT-loop
-Inv-loop letters from to d m fronts at₀ fail₀ part₀ t₀ at fail part t = (t ≤ length from) × (length part ≡ length part₀) × Level (cutAt letters from to) m d t at fail part
+Inv-loop letters from to d m fronts at₀ fail₀ part₀ t₀ at fail part t =
+    (t ≤ length from) × (length part ≡ length part₀) × Level (cutAt letters from to) m d t at fail part
 
 abbrev μ-loop : tie.MeasureT-loop
 μ-loop letters from to d m fronts at₀ fail₀ part₀ t₀ at fail part t = length from - t

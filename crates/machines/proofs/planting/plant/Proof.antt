@@ -10,7 +10,8 @@ use Rattle.machines.specs.Rows.{Planted}
 use Rattle.tagset.specs.Answer.{cutAt}
 
 abbrev Inv-loop : tie.InvT-loop
-Inv-loop letters from to m part₀ count₀ t₀ part count t = (t ≤ length from) × (length part ≡ length part₀) × Planted (take t (cutAt letters from to)) m count part
+Inv-loop letters from to m part₀ count₀ t₀ part count t = (t ≤ length from) × (length part ≡ length part₀) × Planted
+    (take t (cutAt letters from to)) m count part
 
 abbrev μ-loop : tie.MeasureT-loop
 μ-loop letters from to m part₀ count₀ t₀ part count t = length from - t

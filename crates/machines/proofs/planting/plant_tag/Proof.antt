@@ -10,7 +10,8 @@ use Rattle.machines.proofs.Tree.{Path, path-start, plant-done, plant-he
 use Rattle.tagset.specs.Answer.{cutAt}
 
 abbrev Inv-loop : tie.InvT-loop
-Inv-loop letters from to t m count part₀ tag width i₀ q₀ k₀ part i q k = (i ≤ length tag) × (length part ≡ length part₀) × Path (take t (cutAt letters from to)) tag m i k q part
+Inv-loop letters from to t m count part₀ tag width i₀ q₀ k₀ part i q k =
+    (i ≤ length tag) × (length part ≡ length part₀) × Path (take t (cutAt letters from to)) tag m i k q part
 
 abbrev μ-loop : tie.MeasureT-loop
 μ-loop letters from to t m count part₀ tag width i₀ q₀ k₀ part i q k = length tag - i

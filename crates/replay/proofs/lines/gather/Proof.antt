@@ -9,7 +9,8 @@ use lib.ListN.{length}
 use Rattle.script.specs.Laws.Words.{lent-short}
 
 abbrev Inv-loop : tie.InvT-loop
-Inv-loop fd input₀ line₀ left₀ kept₀ begun₀ turns₀ input line left kept begun turns = (length input ≡ length input₀) × ((length line ≡ length line₀) × (kept ≤ length line₀))
+Inv-loop fd input₀ line₀ left₀ kept₀ begun₀ turns₀ input line left kept begun turns =
+    (length input ≡ length input₀) × ((length line ≡ length line₀) × (kept ≤ length line₀))
 
 abbrev μ-loop : tie.MeasureT-loop
 μ-loop fd input₀ line₀ left₀ kept₀ begun₀ turns₀ input line left kept begun turns = turns
