@@ -158,7 +158,8 @@ pub fn numbers_line(out: &mut [u8; 65536], used: usize, numbers: &[u16]) -> usiz
 }
 
 fn put_list(out: &mut [u8; 65536], used: usize, list: &[u32]) -> usize
-    ensures { λ r. ⌜ Puts (buffer (now (out .entry)) used) (ended ((108 ∷ 105 ∷ 115 ∷ 116 ∷ []) ++ listed [] (now (list .entry)))) (buffer (now (out .exit)) r) ⌝ }
+    ensures { λ r. ⌜ Puts (buffer (now (out .entry)) used)
+        (ended ((108 ∷ 105 ∷ 115 ∷ 116 ∷ []) ++ listed [] (now (list .entry)))) (buffer (now (out .exit)) r) ⌝ }
 {
     let n = put_words(out, used, b"list");
     let n = texts::put_wide_numbers(out, n, list);
@@ -185,7 +186,8 @@ pub fn read_lines(
     place: &[u16],
     list: &[u32],
 ) -> usize
-    ensures { λ r. ⌜ Puts (buffer (now (out .entry)) used) (readLines taken ending records (now (place .entry)) (now (list .entry))) (buffer (now (out .exit)) r) ⌝ }
+    ensures { λ r. ⌜ Puts (buffer (now (out .entry)) used)
+        (readLines taken ending records (now (place .entry)) (now (list .entry))) (buffer (now (out .exit)) r) ⌝ }
 {
     let said = numbers::of_read(taken, records, ending);
     let given = said.answer;

@@ -30,7 +30,8 @@ fn read_set(bytes: &mut [u8; 4096]) -> usize {
 
 // A new desk under the set of the first n bytes.
 fn replaced(set: &[u8; 4096], n: usize, table: &mut [u16; 11496]) -> Replacing
-    ensures { λ r. ⌜ (r ≡ replaceOf (newDesk oneBit) (bySet (take n (now (set .entry)))) (length (now (table .entry)))) × (now (table .exit) ≡ replacedRun (newDesk oneBit) (bySet (take n (now (set .entry)))) (now (table .entry))) ⌝ }
+    ensures { λ r. ⌜ r ≡ replaceOf (newDesk oneBit) (bySet (take n (now (set .entry)))) (length (now (table .entry))) ⌝ }
+    ensures { λ _. ⌜ now (table .exit) ≡ replacedRun (newDesk oneBit) (bySet (take n (now (set .entry)))) (now (table .entry)) ⌝ }
 {
     let bytes: &[u8] = set;
     if n < bytes.len() {

@@ -16,10 +16,10 @@ ghost use Rattle.desk.specs.TakeMany.{manyOf, takeManyOf, listTaken};
 ghost use Rattle.desk.specs.State.{stateOf};
 ghost use Rattle.gate.specs.Gate.{newGate, changeOf, beginOf, pieceOf, decideOf};
 ghost use Rattle.tables.specs.Building.{builtOf, tableOf, neededOf};
-ghost use Rattle.reading.specs.Outside.{readOf, splitBy, wholeBy, listBy};
-ghost use Rattle.gate_numbers.specs.Answers.{pieceAnswer, verdictAnswer};
-ghost use Rattle.numbers.specs.Answers.{replaceAnswer, openAnswer, feedAnswer, closeAnswer, takeAnswer, stateAnswer};
-ghost use Rattle.numbers.specs.Answers.{builtAnswer, neededAnswer, splitSaid, wholeSaid};
+ghost use Rattle.reading.specs.Outside.{readOf};
+ghost use Rattle.gateway.specs.Replies.{ReplaceTold, OpenTold, FeedTold, CloseTold, TakeTold, ManyTold, SplitTold, WholeTold};
+ghost use Rattle.gateway.specs.Replies.{ChangeTold, BeginTold, PieceTold, DecideTold};
+ghost use Rattle.numbers.specs.Answers.{stateAnswer, builtAnswer, neededAnswer};
 
 // A desk after a call, and the call's answer.
 #[repr(C)]
@@ -72,7 +72,8 @@ pub extern "C" fn sleet_desk_new() -> Desk
 
 #[no_mangle]
 pub extern "C" fn sleet_desk_replace(desk: Desk, set: &[u8], table: &mut [u16]) -> Reply
-    ensures { λ r. ⌜ (r .desk ≡ replaceOf desk (bySet (now (set .entry))) (length (now (table .entry))) .desk) × (r .answer ≡ replaceAnswer (replaceOf desk (bySet (now (set .entry))) (length (now (table .entry))) .answer)) × (now (table .exit) ≡ replacedRun desk (bySet (now (set .entry))) (now (table .entry))) ⌝ }
+    ensures { λ r. ⌜ ReplaceTold r (replaceOf desk (bySet (now (set .entry))) (length (now (table .entry)))) ⌝ }
+    ensures { λ _. ⌜ now (table .exit) ≡ replacedRun desk (bySet (now (set .entry))) (now (table .entry)) ⌝ }
 {
     let r = desk.replace(set, table);
     let after = r.desk;
@@ -86,7 +87,7 @@ pub extern "C" fn sleet_desk_replace(desk: Desk, set: &[u8], table: &mut [u16]) 
 
 #[no_mangle]
 pub extern "C" fn sleet_desk_open(desk: Desk) -> Reply
-    ensures { λ r. ⌜ (r .desk ≡ openOf desk .desk) × (r .answer ≡ openAnswer (openOf desk .answer)) ⌝ }
+    ensures { λ r. ⌜ OpenTold r (openOf desk) ⌝ }
 {
     let r = desk.open();
     let after = r.desk;
@@ -100,7 +101,7 @@ pub extern "C" fn sleet_desk_open(desk: Desk) -> Reply
 
 #[no_mangle]
 pub extern "C" fn sleet_desk_feed(desk: Desk, serial: u32, table: &[u16], piece: &[u8]) -> Reply
-    ensures { λ r. ⌜ (r .desk ≡ feedOf desk (serialOf serial) (now (table .entry)) (now (piece .entry)) .desk) × (r .answer ≡ feedAnswer (feedOf desk (serialOf serial) (now (table .entry)) (now (piece .entry)) .answer)) ⌝ }
+    ensures { λ r. ⌜ FeedTold r (feedOf desk (serialOf serial) (now (table .entry)) (now (piece .entry))) ⌝ }
 {
     let r = desk.feed(Serial(serial), table, piece);
     let after = r.desk;
@@ -114,7 +115,7 @@ pub extern "C" fn sleet_desk_feed(desk: Desk, serial: u32, table: &[u16], piece:
 
 #[no_mangle]
 pub extern "C" fn sleet_desk_close(desk: Desk, serial: u32) -> Reply
-    ensures { λ r. ⌜ (r .desk ≡ closeOf desk (serialOf serial) .desk) × (r .answer ≡ closeAnswer (closeOf desk (serialOf serial) .answer)) ⌝ }
+    ensures { λ r. ⌜ CloseTold r (closeOf desk (serialOf serial)) ⌝ }
 {
     let r = desk.close(Serial(serial));
     let after = r.desk;
@@ -128,7 +129,7 @@ pub extern "C" fn sleet_desk_close(desk: Desk, serial: u32) -> Reply
 
 #[no_mangle]
 pub extern "C" fn sleet_desk_take(desk: Desk) -> Reply
-    ensures { λ r. ⌜ (r .desk ≡ takeOf desk .desk) × (r .answer ≡ takeAnswer (takeOf desk .answer)) ⌝ }
+    ensures { λ r. ⌜ TakeTold r (takeOf desk) ⌝ }
 {
     let r = desk.take();
     let after = r.desk;
@@ -142,7 +143,8 @@ pub extern "C" fn sleet_desk_take(desk: Desk) -> Reply
 
 #[no_mangle]
 pub extern "C" fn sleet_desk_take_many(desk: Desk, list: &mut [u32]) -> TakenMany
-    ensures { λ r. ⌜ (r .desk ≡ takeManyOf desk (length (now (list .entry))) .desk) × (r .count ≡ takeManyOf desk (length (now (list .entry))) .count) × (now (list .exit) ≡ listTaken desk (now (list .entry)) (manyOf desk (length (now (list .entry))))) ⌝ }
+    ensures { λ r. ⌜ ManyTold r (takeManyOf desk (length (now (list .entry)))) ⌝ }
+    ensures { λ _. ⌜ now (list .exit) ≡ listTaken desk (now (list .entry)) (manyOf desk (length (now (list .entry)))) ⌝ }
 {
     let r = desk.take_many(list);
     let after = r.desk;
@@ -168,7 +170,8 @@ pub extern "C" fn sleet_gate_new() -> Gate
 
 #[no_mangle]
 pub extern "C" fn sleet_gate_replace(gate: Gate, set: &[u8], table: &mut [u16]) -> GateReply
-    ensures { λ r. ⌜ (r .gate ≡ changeOf gate (bySet (now (set .entry))) (length (now (table .entry))) .gate) × (r .answer ≡ replaceAnswer (changeOf gate (bySet (now (set .entry))) (length (now (table .entry))) .answer)) × (now (table .exit) ≡ replacedRun (gate .desk) (bySet (now (set .entry))) (now (table .entry))) ⌝ }
+    ensures { λ r. ⌜ ChangeTold r (changeOf gate (bySet (now (set .entry))) (length (now (table .entry)))) ⌝ }
+    ensures { λ _. ⌜ now (table .exit) ≡ replacedRun (gate .desk) (bySet (now (set .entry))) (now (table .entry)) ⌝ }
 {
     let r = gate.replace(set, table);
     let after = r.gate;
@@ -182,7 +185,7 @@ pub extern "C" fn sleet_gate_replace(gate: Gate, set: &[u8], table: &mut [u16]) 
 
 #[no_mangle]
 pub extern "C" fn sleet_gate_begin(gate: Gate) -> GateReply
-    ensures { λ r. ⌜ (r .gate ≡ beginOf gate .gate) × (r .answer ≡ openAnswer (beginOf gate .answer)) ⌝ }
+    ensures { λ r. ⌜ BeginTold r (beginOf gate) ⌝ }
 {
     let r = gate.begin();
     let after = r.gate;
@@ -201,7 +204,7 @@ pub extern "C" fn sleet_gate_piece(
     table: &[u16],
     piece: &[u8],
 ) -> GateReply
-    ensures { λ r. ⌜ (r .gate ≡ pieceOf gate (serialOf serial) (now (table .entry)) (now (piece .entry)) .gate) × (r .answer ≡ pieceAnswer (pieceOf gate (serialOf serial) (now (table .entry)) (now (piece .entry)) .answer)) ⌝ }
+    ensures { λ r. ⌜ PieceTold r (pieceOf gate (serialOf serial) (now (table .entry)) (now (piece .entry))) ⌝ }
 {
     let r = gate.piece(Serial(serial), table, piece);
     let after = r.gate;
@@ -215,7 +218,7 @@ pub extern "C" fn sleet_gate_piece(
 
 #[no_mangle]
 pub extern "C" fn sleet_gate_decide(gate: Gate, serial: u32) -> GateReply
-    ensures { λ r. ⌜ (r .gate ≡ decideOf gate (serialOf serial) .gate) × (r .answer ≡ verdictAnswer (decideOf gate (serialOf serial) .answer)) ⌝ }
+    ensures { λ r. ⌜ DecideTold r (decideOf gate (serialOf serial)) ⌝ }
 {
     let r = gate.decide(Serial(serial));
     let after = r.gate;
@@ -236,14 +239,16 @@ pub extern "C" fn sleet_slots_needed(set: &[u8]) -> Answer
 
 #[no_mangle]
 pub extern "C" fn sleet_build_split(set: &[u8], table: &mut [u16]) -> Answer
-    ensures { λ r. ⌜ (r ≡ builtAnswer (builtOf 1 8 (now (set .entry)) (length (now (table .entry))))) × (now (table .exit) ≡ tableOf 1 8 (now (set .entry)) (now (table .entry))) ⌝ }
+    ensures { λ r. ⌜ r ≡ builtAnswer (builtOf 1 8 (now (set .entry)) (length (now (table .entry)))) ⌝ }
+    ensures { λ _. ⌜ now (table .exit) ≡ tableOf 1 8 (now (set .entry)) (now (table .entry)) ⌝ }
 {
     numbers::of_built(tables::build_split(set, table)).answer
 }
 
 #[no_mangle]
 pub extern "C" fn sleet_build_whole(set: &[u8], table: &mut [u16]) -> Answer
-    ensures { λ r. ⌜ (r ≡ builtAnswer (builtOf 8 1 (now (set .entry)) (length (now (table .entry))))) × (now (table .exit) ≡ tableOf 8 1 (now (set .entry)) (now (table .entry))) ⌝ }
+    ensures { λ r. ⌜ r ≡ builtAnswer (builtOf 8 1 (now (set .entry)) (length (now (table .entry)))) ⌝ }
+    ensures { λ _. ⌜ now (table .exit) ≡ tableOf 8 1 (now (set .entry)) (now (table .entry)) ⌝ }
 {
     numbers::of_built(tables::build_whole(set, table)).answer
 }
@@ -256,7 +261,8 @@ pub extern "C" fn sleet_read_split(
     piece: &[u8],
     list: &mut [u32],
 ) -> SplitReply
-    ensures { λ r. ⌜ (r .answer ≡ splitSaid (splitBy (now (place .entry)) (readOf 1 8 (now (table .entry)) (now (place .entry)) count (now (piece .entry)) (length (now (list .entry)))))) × (r .place ≡ splitBy (now (place .entry)) (readOf 1 8 (now (table .entry)) (now (place .entry)) count (now (piece .entry)) (length (now (list .entry)))) .place) × (now (list .exit) ≡ listBy (now (list .entry)) (readOf 1 8 (now (table .entry)) (now (place .entry)) count (now (piece .entry)) (length (now (list .entry))))) ⌝ }
+    ensures { λ r. ⌜ SplitTold r (now (place .entry)) (now (list .entry)) (now (list .exit))
+        (readOf 1 8 (now (table .entry)) (now (place .entry)) count (now (piece .entry)) (length (now (list .entry)))) ⌝ }
 {
     let start = *place;
     let r = reading::read_split(table, start, count, piece, list);
@@ -277,7 +283,8 @@ pub extern "C" fn sleet_read_whole(
     piece: &[u8],
     list: &mut [u32],
 ) -> WholeReply
-    ensures { λ r. ⌜ (r .answer ≡ wholeSaid (wholeBy place (readOf 8 1 (now (table .entry)) (place ∷ []) count (now (piece .entry)) (length (now (list .entry)))))) × (r .place ≡ wholeBy place (readOf 8 1 (now (table .entry)) (place ∷ []) count (now (piece .entry)) (length (now (list .entry)))) .place) × (now (list .exit) ≡ listBy (now (list .entry)) (readOf 8 1 (now (table .entry)) (place ∷ []) count (now (piece .entry)) (length (now (list .entry))))) ⌝ }
+    ensures { λ r. ⌜ WholeTold r place (now (list .entry)) (now (list .exit))
+        (readOf 8 1 (now (table .entry)) (place ∷ []) count (now (piece .entry)) (length (now (list .entry)))) ⌝ }
 {
     let r = reading::read_whole(table, place, count, piece, list);
     let ending = r.ending;

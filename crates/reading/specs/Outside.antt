@@ -14,6 +14,7 @@ use Rattle.reading.specs.declared.ReadRefusal.the-variants.{Place, Long}
 use Rattle.reading.specs.declared.Ending.the-variants.{Stopped, Refused}
 use Rattle.reading.specs.declared.SplitAnswer.{SplitAnswer}
 use Rattle.reading.specs.declared.WholeAnswer.{WholeAnswer}
+use mathlib.Core.Path.{_≡_}
 
 -- a read is refused, or it comes to an outcome
 pub data ReadOf : Type 0 where
@@ -54,3 +55,10 @@ readNumber Long = 14
 
 abbrev pub readValues : ReadRefusal → List ℕ
 readValues why = []
+
+-- a call's answer, and the list after it, by what the reading comes to
+abbrev pub SplitTells : SplitAnswer → (place before after : List ℕ) → ReadOf → Type 0
+SplitTells r place before after x = (r ≡ splitBy place x) × (after ≡ listBy before x)
+
+abbrev pub WholeTells : WholeAnswer → (place : ℕ) (before after : List ℕ) → ReadOf → Type 0
+WholeTells r place before after x = (r ≡ wholeBy place x) × (after ≡ listBy before x)

@@ -31,3 +31,10 @@ pub record Going (n s : ℕ) (table : List ℕ) (count : ℕ) (piece l₀ start 
   pub fits : 2 * w ≤ length l₀
   pub list : l ≡ flat done ++ drop (length (flat done)) l₀
   pub is : read n s table start count (length l₀ / 2) piece ≡ ahead i done (read n s table place (count + i) (length l₀ / 2 - w) (drop i piece))
+
+-- what a walk answers, and the list after it, by the outcome of the reading
+abbrev pub Walked : Went → (before after : List ℕ) → Outcome → Type 0
+Walked r before after x = (r ≡ wentOf x) × (after ≡ listOf before x)
+
+abbrev pub WalkedOne : WentOne → (before after : List ℕ) → Outcome → Type 0
+WalkedOne r before after x = (r ≡ wentOneOf x) × (after ≡ listOf before x)

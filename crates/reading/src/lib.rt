@@ -17,7 +17,7 @@ use passing::places::widened;
 ghost use mathlib.Core.Path.{_≡_};
 ghost use mathlib.Core.List.{[], _∷_};
 ghost use lib.ListN.{length};
-ghost use Rattle.reading.specs.Outside.{readOf, splitBy, wholeBy, listBy};
+ghost use Rattle.reading.specs.Outside.{SplitTells, WholeTells, readOf};
 
 // Why a read outside the desk is refused.
 pub enum ReadRefusal {
@@ -56,7 +56,8 @@ pub fn read_split(
     piece: &[u8],
     list: &mut [u32],
 ) -> SplitAnswer
-    ensures { λ r. ⌜ (r ≡ splitBy place (readOf 1 8 (now (table .entry)) place count (now (piece .entry)) (length (now (list .entry))))) × (now (list .exit) ≡ listBy (now (list .entry)) (readOf 1 8 (now (table .entry)) place count (now (piece .entry)) (length (now (list .entry))))) ⌝ }
+    ensures { λ r. ⌜ SplitTells r place (now (list .entry)) (now (list .exit))
+        (readOf 1 8 (now (table .entry)) place count (now (piece .entry)) (length (now (list .entry)))) ⌝ }
 {
     let s = slots(table.len(), 1, 8);
     let start = widened(place);
@@ -90,7 +91,8 @@ pub fn read_whole(
     piece: &[u8],
     list: &mut [u32],
 ) -> WholeAnswer
-    ensures { λ r. ⌜ (r ≡ wholeBy place (readOf 8 1 (now (table .entry)) (place ∷ []) count (now (piece .entry)) (length (now (list .entry))))) × (now (list .exit) ≡ listBy (now (list .entry)) (readOf 8 1 (now (table .entry)) (place ∷ []) count (now (piece .entry)) (length (now (list .entry))))) ⌝ }
+    ensures { λ r. ⌜ WholeTells r place (now (list .entry)) (now (list .exit))
+        (readOf 8 1 (now (table .entry)) (place ∷ []) count (now (piece .entry)) (length (now (list .entry)))) ⌝ }
 {
     let s = slots(table.len(), 8, 1);
     let start = wide(place);

@@ -30,7 +30,8 @@ fn put_bit(list: &mut [u32], w: usize, end: u32, tag: u32, bit: u16) -> usize
 // Writes a record for each bit of hits, the lowest first, from record w on. Gives the number of records then.
 fn put(list: &mut [u32], from: usize, end: u32, hits: u16) -> usize
     requires { ⌜ 2 * (from + length (onesOf 0 16 hits)) ≤ length (now list) ⌝ }
-    ensures { λ r. ⌜ (r ≡ from + length (onesOf 0 16 hits)) × (now (list .exit) ≡ sets (now (list .entry)) (2 * from) (flat (occurAt end (onesOf 0 16 hits)))) ⌝ }
+    ensures { λ r. ⌜ (r ≡ from + length (onesOf 0 16 hits))
+        × (now (list .exit) ≡ sets (now (list .entry)) (2 * from) (flat (occurAt end (onesOf 0 16 hits)))) ⌝ }
 {
     let mut w = from;
     let mut rest = hits;

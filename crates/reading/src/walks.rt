@@ -17,7 +17,7 @@ ghost use Prim.Native.Nat.{_+_, _*_, _/_, _<_, _≤_, _^_};
 ghost use lib.ListN.{length};
 ghost use Rattle.matching.specs.Reading.{read};
 ghost use Rattle.passing.specs.Steps.{Ready};
-ghost use Rattle.reading.specs.Walks.{wentOf, wentOneOf, listOf};
+ghost use Rattle.reading.specs.Walks.{Walked, WalkedOne};
 
 // What reading comes to: the bytes taken, the place then, the records written, and why it stopped.
 pub struct Went {
@@ -48,7 +48,8 @@ pub fn on_split(
     list: &mut [u32],
 ) -> Went
     requires { ⌜ (Ready 1 8 s (now table) start) × ((s ≤ 513) × (count + length (now piece) < 2 ^ 32)) ⌝ }
-    ensures { λ r. ⌜ (r ≡ wentOf (read 1 s (now (table .entry)) start count (length (now (list .entry)) / 2) (now (piece .entry)))) × (now (list .exit) ≡ listOf (now (list .entry)) (read 1 s (now (table .entry)) start count (length (now (list .entry)) / 2) (now (piece .entry)))) ⌝ }
+    ensures { λ r. ⌜ Walked r (now (list .entry)) (now (list .exit))
+        (read 1 s (now (table .entry)) start count (length (now (list .entry)) / 2) (now (piece .entry))) ⌝ }
 {
     let starts = starts_of(1, s);
     let mut place = start;
@@ -108,7 +109,8 @@ pub fn on_whole(
     list: &mut [u32],
 ) -> WentOne
     requires { ⌜ (s * 257 ≤ length (now table)) × ((start < s) × (count + length (now piece) < 2 ^ 32)) ⌝ }
-    ensures { λ r. ⌜ (r ≡ wentOneOf (read 8 s (now (table .entry)) (start ∷ []) count (length (now (list .entry)) / 2) (now (piece .entry)))) × (now (list .exit) ≡ listOf (now (list .entry)) (read 8 s (now (table .entry)) (start ∷ []) count (length (now (list .entry)) / 2) (now (piece .entry)))) ⌝ }
+    ensures { λ r. ⌜ WalkedOne r (now (list .entry)) (now (list .exit))
+        (read 8 s (now (table .entry)) (start ∷ []) count (length (now (list .entry)) / 2) (now (piece .entry))) ⌝ }
 {
     let mut q = start;
     let mut w: usize = 0;

@@ -49,7 +49,8 @@ pub fn feed_piece(
     out: &mut [u8; 65536],
     used: usize,
 ) -> Fed
-    ensures { λ r. ⌜ FeedsPiece serial (now (table .entry)) desk (now (piece .entry)) (buffer (now (out .entry)) used) r (buffer (now (out .exit)) (r .used)) ⌝ }
+    ensures { λ r. ⌜ FeedsPiece serial (now (table .entry)) desk (now (piece .entry))
+        (buffer (now (out .entry)) used) r (buffer (now (out .exit)) (r .used)) ⌝ }
 {
     let mut now = desk;
     let mut put = used;

@@ -79,7 +79,8 @@ fn fill_machine(
 )
     ghost { List Word }
     requires { λ ts. ⌜ cutAt (now set) (now from) (now to) ≡ ts ⌝ }
-    requires { λ ts. ⌜ (Shaped layout) × (m < layout .machines) × (Tagged (now set) (length (now from)) ts) × (states (tagsFor (layout .bits) ts m) * (layout .letters + 1) ≤ length (now part)) ⌝ }
+    requires { λ ts. ⌜ (Shaped layout) × (m < layout .machines) × (Tagged (now set) (length (now from)) ts)
+        × (states (tagsFor (layout .bits) ts m) * (layout .letters + 1) ≤ length (now part)) ⌝ }
     ensures { λ ts _. ⌜ Filled (tagsFor (layout .bits) ts m) (layout .letters) (now (part .exit)) ⌝ }
 {
     let mut letters = [0u8; 576];
@@ -99,8 +100,10 @@ fn fill_machines(
 )
     ghost { List Word }
     requires { λ ts. ⌜ cutAt (now set) (now from) (now to) ≡ ts ⌝ }
-    requires { λ ts. ⌜ (Shaped layout) × (Tagged (now set) (length (now from)) ts) × (layout .machines * (s * (layout .letters + 1)) ≤ length (now table)) × ((m : ℕ) → m < layout .machines → states (tagsFor (layout .bits) ts m) ≤ s) ⌝ }
-    ensures { λ ts _. ⌜ now (table .exit) ≡ built (layout .bits) (layout .machines) s ts ++ drop (layout .machines * (s * slotSize (layout .bits))) (now (table .entry)) ⌝ }
+    requires { λ ts. ⌜ (Shaped layout) × (Tagged (now set) (length (now from)) ts) × (layout .machines * (s * (layout .letters + 1)) ≤ length (now table))
+        × ((m : ℕ) → m < layout .machines → states (tagsFor (layout .bits) ts m) ≤ s) ⌝ }
+    ensures { λ ts _. ⌜ now (table .exit) ≡ built (layout .bits) (layout .machines) s ts
+        ++ drop (layout .machines * (s * slotSize (layout .bits))) (now (table .entry)) ⌝ }
 {
     let machines = layout.machines;
     let size = s * (layout.letters + 1);
@@ -197,7 +200,8 @@ fn build_tags(
 fn build(set: &[u8], layout: Layout, table: &mut [u16], write: bool) -> Built
     requires { ⌜ Shaped layout ⌝ }
     ensures answer { λ r. ⌜ r ≡ builtOf (layout .bits) (layout .machines) (now (set .entry)) (length (now (table .entry))) ⌝ }
-    ensures left { λ _. ⌜ now (table .exit) ≡ cond write (tableOf (layout .bits) (layout .machines) (now (set .entry)) (now (table .entry))) (now (table .entry)) ⌝ }
+    ensures left { λ _. ⌜ now (table .exit)
+        ≡ cond write (tableOf (layout .bits) (layout .machines) (now (set .entry)) (now (table .entry))) (now (table .entry)) ⌝ }
 {
     let read = read_set(set);
     let verdict = read.verdict;

@@ -16,7 +16,7 @@ same-length c = search needs
 returns : tie.Need-returns
 returns c =
     let called = c .before .before .before .before .before .replace .ensures in
-    rw (← called .0) (refl, answer-is (c .before .of-replace .ensures), called .1)
+    rw (← called .0) ((refl, answer-is (c .before .of-replace .ensures)), called .1)
 
 pub sleet-desk-replace-spec : {M : Type 1} → statement M
 sleet-desk-replace-spec =

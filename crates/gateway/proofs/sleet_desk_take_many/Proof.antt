@@ -9,7 +9,7 @@ same-length : tie.Need-same-length
 same-length c = search needs
 
 returns : tie.Need-returns
-returns c = ((cc), (cc), (cc))
+returns c = (((cc), (cc)), (cc))
 
 pub sleet-desk-take-many-spec : {M : Type 1} → statement M
 sleet-desk-take-many-spec = tie.close (tie.spec take-many-requires same-length returns)
