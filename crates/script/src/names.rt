@@ -69,7 +69,8 @@ fn desk_name(word: &[u8]) -> Name
     named(word, b"replace", Name::Replace, n)
 }
 
-// And a row for each other call. Two functions, since a proof finds the rows of one only while they are few.
+// And a row for each other call. Two functions, since the search for their proof finds 8 rows of one and not 9: a ninth
+// begins a third function.
 pub fn name_of(word: &[u8]) -> Name
     ensures { λ r. ⌜ r ≡ nameOf (now (word .entry)) ⌝ }
 {
