@@ -62,7 +62,7 @@ open-few O.SerialEnd h = refl
 open-few O.NoRoom h = refl
 
 pub feed-few : (r : FeedAnswer) → Few (feedNumber r) (feedValues r)
-feed-few (F.Fed taken records stop) h = absurd (omega (arith, h))
+feed-few (F.Fed a) h = absurd (omega (arith, h))
 feed-few F.NoTicket h = refl
 feed-few (F.Stale edition) h = refl
 feed-few F.Long h = refl

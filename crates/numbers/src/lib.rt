@@ -1,4 +1,5 @@
 // Answers as numbers: 0 and what the call gives, or the refusal's number and what is returned with it.
+use desk::Advance;
 use desk::CloseAnswer;
 use desk::FeedAnswer;
 use desk::OpenAnswer;
@@ -98,6 +99,13 @@ fn of_stopped(taken: usize, records: usize, stop: Stop) -> Said
     three(taken as u64, why, records as u64)
 }
 
+fn of_advance(advance: Advance) -> Said
+    ensures { λ r. ⌜ r ≡ saidOf 0 (advance .taken ∷ stopNumber (advance .stop) ∷ advance .records ∷ []) ⌝ }
+{
+    let stop = advance.stop;
+    of_stopped(advance.taken, advance.records, stop)
+}
+
 fn of_fault(fault: SetFault) -> Said
     ensures { λ r. ⌜ r ≡ saidOf (faultNumber fault) (faultValues fault) ⌝ }
 {
@@ -156,7 +164,7 @@ pub fn of_feed(said: FeedAnswer) -> Said
     ensures { λ r. ⌜ r ≡ saidOf (feedNumber said) (feedValues said) ⌝ }
 {
     match said {
-        FeedAnswer::Fed(advance) => of_stopped(advance.taken, advance.records, advance.stop),
+        FeedAnswer::Fed(advance) => of_advance(advance),
         FeedAnswer::NoTicket => bare(12),
         FeedAnswer::Stale(edition) => one(13, edition.0 as u64),
         FeedAnswer::Long => bare(14),

@@ -5,8 +5,8 @@ use Rattle.numbers.proofs.of_feed.Tie as tie
 enum-known-said : tie.Need-enum-known-said
 enum-known-said c = search needs
 
-of-stopped-requires : tie.Need-of-stopped-requires
-of-stopped-requires c κs = search needs
+of-advance-requires : tie.Need-of-advance-requires
+of-advance-requires c κs = search needs
 
 enum-told : tie.Need-enum-told
 enum-told c = search needs
@@ -30,7 +30,7 @@ bare-requires-2 : tie.Need-bare-requires-2
 bare-requires-2 c κs = search needs
 
 returns : tie.Need-returns
-returns c = rw (c .before .before .said .given .1) (c .of-stopped .ensures)
+returns c = rw (c .before .before .said .given .1) (c .of-advance .ensures)
 
 returns-2 : tie.Need-returns-2
 returns-2 c = rw (c .before .enum-told .given .1) (c .bare .ensures)
@@ -46,7 +46,7 @@ of-feed-spec =
     tie.close
     (tie.spec
     enum-known-said
-    of-stopped-requires
+    of-advance-requires
     enum-told
     bare-requires
     enum-known-said-2
