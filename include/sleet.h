@@ -15,7 +15,8 @@
      only of an approval that was read whole under the set in force and carries none of its tags.
    - To be told where each tag ends use a desk: sleet_replace, sleet_open, sleet_feed, sleet_take,
      sleet_close. A desk decides nothing: a ticket whose last piece was taken may be stale a moment
-     later, and its records may still be held.
+     later, and its records may still be held. It is a desk of its own, beside the gate: that inside
+     a gate is the gate's alone.
    - To read without tickets use a table: sleet_make_split and sleet_scan_split.
    - To write a set down use sleet_tags, which can't lose a tag.
    Each call gives a struct of its own with named members. `refusal` is SLEET_ACCEPTED or a number
@@ -26,17 +27,21 @@
      so many elements can be read there (written too, where it isn't const). Null counts as a run of
      no elements, whatever its count says (but see sleet_piece). Other pointers (to a gate, a desk, a
      place) aren't null.
-   - A gateway or a desk is in one call at a time: threads that share one need a lock around each
-     call.
+   - A gateway or a desk is in one call at a time: threads that share one need one lock around each
+     call, which shuts out every other call. A piece writes too, and so does a decision.
+   - Each call comes to its end. One that is left before (by a jump out of a signal handler, or with
+     the thread or process that made it) leaves the gateway worth nothing: let nothing through until a
+     replacement is accepted.
    - Nobody else writes a lent run during the call. A run that the call writes overlaps no other run
      lent to it, and nobody else reads it meanwhile. Runs that are only read may overlap.
    - A call wants less than 80 KiB of stack, its copies of the gate or desk included (measured, not
      proved; a desk's calls want less than 56 KiB).
    - Histories: what is promised of a whole history of calls holds for a gateway that came from
-     sleet_gateway_start and whose members only the calls below write; and for a desk that came from
-     sleet_desk_new and the calls, and whose feeds are lent the table as the last accepted
-     replacement left it. On any other image, and over any other table, each call still gives a
-     defined answer: an image is numbers alone, and a table is walked as its numbers say.
+     sleet_gateway_start and that only sleet_change, sleet_begin, sleet_piece and sleet_decide write;
+     and for a desk that came from sleet_desk_new, that only the desk's calls write, and whose feeds
+     are lent the table as the last accepted replacement left it. On any other image, and over any
+     other table, each call still gives a defined answer: an image is numbers alone, and a table is
+     walked as its numbers say.
 
    TWO FORMS OF EACH CALL
    The archive's own functions (sleet_gate_*, sleet_desk_*, sleet_build_*, sleet_read_*,
@@ -137,7 +142,7 @@ enum {
     SLEET_PASS = 1,       /* read whole under the set in force, and none of its tags is in it */
     SLEET_HOLD = 2,       /* read whole under the set in force; mask: the tags that are in it */
     SLEET_TOO_OLD = 3,    /* the set was replaced since it began: begin anew, from its first byte */
-    SLEET_UNREAD = 4      /* bytes handed in were not taken: begin anew, from its first byte */
+    SLEET_UNREAD = 4      /* bytes handed in were not taken, so nobody knows what it carries: hold it */
 };
 
 /* Names as docs/RULES.md writes them: CUT to NOTHING, ALL to DAMAGED, PASS to UNREAD. */
@@ -188,7 +193,8 @@ typedef struct sleet_held {
     uint8_t tag;
 } sleet_held;
 
-/* A desk: copy it, keep it anywhere, read its members; let only the calls change them. */
+/* A desk: read its members, and let only the desk's calls change them. A copy knows nothing of a set
+   that is replaced on the other. */
 typedef struct sleet_desk {
     sleet_ticket tickets[16];
     sleet_held ring[256]; /* count records from first on, round the ring */
@@ -205,8 +211,15 @@ typedef struct sleet_seen {
     uint64_t unread; /* 0 as long as every byte handed in was taken */
 } sleet_seen;
 
+/* The desk inside a gate. The gate must see each record, so no call of the desk is made on it: what
+   such a call reads or takes, no decision knows of. It has a type of its own, which those calls don't
+   take. */
+typedef struct sleet_gate_desk {
+    sleet_desk of_the_gate_alone;
+} sleet_gate_desk;
+
 typedef struct sleet_gate {
-    sleet_desk desk;
+    sleet_gate_desk desk;
     sleet_seen seen[16];
 } sleet_gate;
 
@@ -407,10 +420,17 @@ static inline uint32_t sleet_stale_edition(sleet_answer said)
 
 /* ---- The gate ---- */
 
-/* A gate and its table. They stay together, so that no piece is read over another table. */
+/* The table of a gate, which nothing else may write. */
+typedef struct sleet_gate_table {
+    uint16_t of_the_gate_alone[SLEET_SPLIT_TABLE];
+} sleet_gate_table;
+
+/* A gate and its table. They stay together, so that no piece is read over another table. The calls
+   below up to sleet_decide are all that may be made on it. Don't copy it, and define it in one file: a
+   static one in a header is another gate in each file that includes it. */
 typedef struct sleet_gateway {
     sleet_gate gate;
-    uint16_t table[SLEET_SPLIT_TABLE];
+    sleet_gate_table table;
 } sleet_gateway;
 
 typedef struct sleet_begun {
@@ -439,7 +459,13 @@ typedef struct sleet_decided {
 static inline void sleet_gateway_start(sleet_gateway *gateway)
 {
     gateway->gate = sleet_gate_new();
-    memset(gateway->table, 0, sizeof gateway->table);
+    memset(&gateway->table, 0, sizeof gateway->table);
+}
+
+/* The edition of the set in force; 0 where there is none yet. */
+static inline uint32_t sleet_edition(const sleet_gateway *gateway)
+{
+    return gateway->gate.desk.of_the_gate_alone.edition;
 }
 
 /* Puts a set in force. Every approval begun before is TOO_OLD from now on. Refused: CUT to REPEAT,
@@ -447,7 +473,7 @@ static inline void sleet_gateway_start(sleet_gateway *gateway)
 SLEET_LOOK static inline sleet_replaced sleet_change(sleet_gateway *gateway, const uint8_t *set, size_t set_length)
 {
     sleet_gate_reply r = sleet_gate_replace(gateway->gate, SLEET_AT(const uint8_t, set), SLEET_COUNT(set, set_length),
-                                            gateway->table, SLEET_SPLIT_TABLE);
+                                            gateway->table.of_the_gate_alone, SLEET_SPLIT_TABLE);
     gateway->gate = r.gate;
     return sleet_as_replaced(r.answer);
 }
@@ -473,7 +499,7 @@ SLEET_LOOK static inline sleet_pieced sleet_piece(sleet_gateway *gateway, uint32
     /* over a table of no numbers, which is never that of the replacement, no byte is taken */
     size_t lent = piece || piece_length == 0 ? SLEET_SPLIT_TABLE : 0;
     size_t length = piece || piece_length == 0 ? piece_length : 1;
-    sleet_gate_reply r = sleet_gate_piece(gateway->gate, serial, gateway->table, lent,
+    sleet_gate_reply r = sleet_gate_piece(gateway->gate, serial, gateway->table.of_the_gate_alone, lent,
                                           SLEET_AT(const uint8_t, piece), length);
     sleet_pieced said = {r.answer.refusal, 0, 0, sleet_stale_edition(r.answer)};
     gateway->gate = r.gate;
@@ -488,7 +514,7 @@ SLEET_LOOK static inline sleet_pieced sleet_piece(sleet_gateway *gateway, uint32
    NO_TICKET for ever. Refused: NO_TICKET. */
 SLEET_LOOK static inline sleet_decided sleet_decide(sleet_gateway *gateway, uint32_t serial)
 {
-    sleet_answer before = sleet_desk_state(gateway->gate.desk, serial);
+    sleet_answer before = sleet_desk_state(gateway->gate.desk.of_the_gate_alone, serial);
     sleet_gate_reply r = sleet_gate_decide(gateway->gate, serial);
     sleet_decided said = {r.answer.refusal, SLEET_NO_VERDICT, 0, 0, 0};
     gateway->gate = r.gate;
@@ -630,6 +656,20 @@ static inline sleet_stated sleet_state(const sleet_desk *desk, uint32_t serial)
     return r;
 }
 
+/* A desk is all that the desk's calls take. C++ sees to it by itself; in C some compilers only warn of
+   another pointer, such as that to the desk inside a gate. */
+#ifndef __cplusplus
+#define SLEET_DESK(desk) _Generic((desk), sleet_desk *: (desk))
+#define sleet_replace(desk, ...) sleet_replace(SLEET_DESK(desk), __VA_ARGS__)
+#define sleet_open(desk) sleet_open(SLEET_DESK(desk))
+#define sleet_feed(desk, ...) sleet_feed(SLEET_DESK(desk), __VA_ARGS__)
+#define sleet_close(desk, serial) sleet_close(SLEET_DESK(desk), serial)
+#define sleet_take(desk) sleet_take(SLEET_DESK(desk))
+#define sleet_take_many(desk, ...) sleet_take_many(SLEET_DESK(desk), __VA_ARGS__)
+#define sleet_state(desk, serial) \
+    sleet_state(_Generic((desk), sleet_desk *: (desk), const sleet_desk *: (desk)), serial)
+#endif
+
 /* ---- Tables outside a desk ---- */
 
 typedef struct sleet_needed {
@@ -754,6 +794,7 @@ SLEET_LAYOUT(offsetof(sleet_desk, edition) == 4560 && offsetof(sleet_desk, seria
 SLEET_LAYOUT(offsetof(sleet_desk, slots) == 4568 && sizeof(sleet_desk) == 4576);
 SLEET_LAYOUT(sizeof(sleet_seen) == 16 && offsetof(sleet_seen, unread) == 8);
 SLEET_LAYOUT(sizeof(sleet_gate) == 4832 && offsetof(sleet_gate, seen) == 4576);
+SLEET_LAYOUT(sizeof(sleet_gateway) == 27824 && offsetof(sleet_gateway, table) == 4832);
 SLEET_LAYOUT(sizeof(sleet_reply) == 4640 && offsetof(sleet_reply, answer) == 4576);
 SLEET_LAYOUT(sizeof(sleet_gate_reply) == 4896 && offsetof(sleet_gate_reply, answer) == 4832);
 SLEET_LAYOUT(sizeof(sleet_taken_many) == 4584 && offsetof(sleet_taken_many, count) == 4576);

@@ -54,6 +54,31 @@ void ignore(void); sleet_gateway g; sleet_tags t; void ignore(void) { $ignored; 
   grep -q 'warn_unused_result\|unused-result' "$out/ignored.txt"
 done
 
+note "the desk's calls, and those of tables, compile on a desk and a table of one's own, and not on a gate's"
+compiles() { # COMPILER LANGUAGE DESK TABLE CALL
+  "$1" -x "${2%%[0-9]*}" -std="$2" "-DDESK=$3" "-DTABLE=$4" -I "$out/include" -fsyntax-only - 2>"$out/refused.txt" <<END
+#include <sleet.h>
+sleet_gateway g; sleet_desk d; uint16_t t[9], p[8];
+uint64_t call(void); uint64_t call(void) { return $5; }
+END
+}
+for call in 'sleet_replace(DESK, 0, 0, TABLE, 9).refusal' 'sleet_feed(DESK, 1, TABLE, 9, 0, 0).refusal' 'sleet_open(DESK).refusal' \
+  'sleet_close(DESK, 1).refusal' 'sleet_take(DESK).refusal' 'sleet_take_many(DESK, 0, 0)' 'sleet_state(DESK, 1).state' \
+  'sleet_make_split(0, 0, TABLE, 9).refusal' 'sleet_scan_split(TABLE, 9, p, 0, 0, 0, 0, 0).refusal'; do
+  for with in "$CC c11" "$CXX c++11"; do
+    compiles $with '&d' t "$call" || { cat "$out/refused.txt" >&2; exit 1; }
+    for of_the_gate in '&g.gate.desk t' '&d g.table'; do
+      # a call that has no such argument has nothing to refuse
+      [[ $of_the_gate == *desk* && $call != *DESK* || $of_the_gate == *table && $call != *TABLE* ]] && continue
+      if compiles $with $of_the_gate "$call"; then
+        echo "library.sh: $call compiles on $of_the_gate with $with" >&2
+        exit 1
+      fi
+      grep -q 'sleet_gate_desk\|sleet_gate_table' "$out/refused.txt"
+    done
+  done
+done
+
 note 'one version in the pkg-config file, the header and the crate'
 version=$(PKG_CONFIG_PATH=$out/lib/pkgconfig pkg-config --modversion sleet)
 grep -qx "version = \"$version\"" rust/Cargo.toml

@@ -43,6 +43,7 @@ static void install(office *o, const char *const *cases, size_t count)
         printf("list refused with %" PRIu64 " at entry %zu; the old one stays\n", said.refusal, said.entry);
         return;
     }
+    need(said.tags == count, "another number of cases is in force");
     o->cases = cases;
     o->count = count;
     printf("edition %" PRIu32 ": %zu withdrawn cases\n", said.edition, said.tags);
@@ -89,6 +90,7 @@ static void decide(office *o, approval *one)
         said = sleet_decide(&o->gateway, one->serial);
     }
     if (said.verdict == SLEET_PASS) {
+        need(said.taken == one->length, "another number of bytes was read");
         printf("%s: passed\n", one->name);
         return;
     }

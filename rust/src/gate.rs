@@ -20,9 +20,29 @@ const MOST_SLOTS: usize = 513;
 /// the set in force ends anywhere in those bytes. That is proved (`exactly` in
 /// `crates/verdicts/specs/Exactly.antt`).
 ///
-/// The gate owns its table, notes each record for its own approval, and frees the approval's ticket
-/// when it decides, so there is no list to empty and no ticket to close. It can't be cloned: a copy
-/// would decide by a set that was replaced on the other.
+/// The gate owns its desk and its table, notes each record for its own approval, and frees the
+/// approval's ticket when it decides, so there is no list to empty and no ticket to close. It can't be
+/// cloned: a copy would decide by a set that was replaced on the other. Who wants to know where tags
+/// end has a [`Desk`](crate::Desk) beside it, and hands each piece to both.
+///
+/// # Before you approve
+///
+/// The gate answers for the bytes that it was handed and for the set that is in force. The rest is the
+/// caller's; `docs/EMBEDDING.md` has all of it, and this is what is forgotten most easily:
+///
+/// - **One lock.** Threads share a gate as a `Mutex<Gate>`. Decide and let through under one guard,
+///   bound by `let`: a [`Verdict::Pass`] speaks of the set in force when it was given.
+/// - **Queues.** What waits in a queue, for a retry or in a cache isn't let through yet: decide when
+///   it leaves.
+/// - **As many bytes as were read.** [`Gate::state`] before the decision has their number: hold it
+///   against the number that goes out.
+/// - **A refused set withdraws nothing.** Let nothing through until the list that was refused is in
+///   force, put right; the last good list again is not enough.
+/// - **An empty list is no set.** When no tag is withdrawn any more, put one in force that no approval
+///   carries: 32 random bytes.
+/// - **More than 16 tags** need several gates that all read every approval, under one lock, and it
+///   passes if all say so. Replace all their sets each time, and when a gate is added: an approval
+///   that began before, and that the new gate hasn't read, is then stale.
 ///
 /// ```
 /// use sleetbarley::{Edition, Gate, Piece, Refusal, TagSet, Verdict};
@@ -85,7 +105,7 @@ impl Gate {
 
     /// Puts a set in force. Every approval that isn't decided yet is stale from now on.
     ///
-    /// A refused set changes nothing: the old one stays in force.
+    /// A refused set changes nothing: the old one stays in force, and what was to be withdrawn isn't.
     ///
     /// A string is no set, so this doesn't compile:
     ///
@@ -137,11 +157,12 @@ impl Gate {
         Ok(Serial(said.a as u32))
     }
 
-    /// Hands in a piece of an approval. Whatever it answers, [`Gate::decide`] knows of it: who
-    /// overlooks a cut, or that the approval is stale, can't pass it.
+    /// Hands in a piece of an approval. What it answers under the approval's own serial,
+    /// [`Gate::decide`] knows too: who overlooks a cut, or that the approval is stale, can't pass it.
     ///
     /// Refused as [`Refusal::Stale`] where the set was replaced since the approval began: decide it,
-    /// begin it anew and hand in all of it, from its first byte.
+    /// begin it anew and hand in all of it, from its first byte. Refused as [`Refusal::NoTicket`]
+    /// where no approval has this serial: nobody read the piece, and no decision knows of it.
     pub fn piece(&mut self, serial: Serial, piece: &[u8]) -> Result<Piece, Refusal> {
         let said = Refusal::or(self.image.piece(serial.0, &self.table, piece))?;
         let taken = said.b as usize;
@@ -259,7 +280,7 @@ pub enum Verdict {
         /// The edition under which it was begun.
         edition: Edition,
     },
-    /// Not every byte handed in was taken, so nobody knows what it carries.
+    /// Not every byte handed in was taken, so nobody knows what it carries. Hold it.
     Unread,
 }
 

@@ -49,7 +49,7 @@
 //! ```
 //!
 //! A gate or a desk can be moved to another thread. The archive has no state of its own, so they
-//! have nothing in common.
+//! have nothing in common. [`Gate`] says what to see to before an approval is let through.
 #![deny(unsafe_code)]
 #![deny(missing_docs)]
 #![warn(missing_debug_implementations)]

@@ -7,7 +7,11 @@ use crate::refusal::Refusal;
 /// Kind 1 is a tag matched byte for byte.
 const KIND: [u8; 2] = [1, 0];
 
-/// A lawful set: 1 to 16 tags of 1 to 32 bytes, no two equal.
+/// A lawful set: 1 to 16 tags of 1 to 32 bytes, no two equal. It is the whole list: a tag that isn't in
+/// it is no longer withdrawn once it is in force.
+///
+/// A list without a tag is none, and is refused as [`Refusal::Empty`]: in its place put one tag in force
+/// that no approval carries, such as 32 random bytes.
 ///
 /// It is the archive's proved reading of sets that accepts it, the one that a replacement uses. The
 /// program `sleet-set` makes the bytes of a set from a text, and lists them; [`text`](crate::text)
@@ -22,6 +26,9 @@ const KIND: [u8; 2] = [1, 0];
 ///
 /// let twice = TagSet::builder().tag("he").tag("she").tag("he").build();
 /// assert_eq!(twice, Err(Refusal::Repeat { entry: 2 }));
+///
+/// let none: [&str; 0] = [];
+/// assert_eq!(TagSet::new(none), Err(Refusal::Empty { entry: 0 }));
 /// # Ok::<(), Refusal>(())
 /// ```
 #[derive(Clone, Debug, PartialEq, Eq, Hash)]

@@ -194,7 +194,8 @@ static void guarded_gate(int side)
     replaced("change", sleet_change(g, set, length), 0, 1, 4);
     uint32_t one = sleet_begin(g).serial, other = sleet_begin(g).serial;
     sleet_pieced said = sleet_piece(g, one, piece, 5000);
-    need("the list is emptied as often as it fills", said.whole && said.taken == 5000 && g->gate.desk.count == 0);
+    need("the list is emptied as often as it fills",
+         said.whole && said.taken == 5000 && g->gate.desk.of_the_gate_alone.count == 0);
     sleet_decided held = sleet_decide(g, one);
     need("he, she, hers", held.verdict == SLEET_HOLD && held.mask == 11);
     need("a mask's tags", sleet_mask_has(held.mask, 0) && !sleet_mask_has(held.mask, 2) && sleet_mask_has(held.mask, 3) &&

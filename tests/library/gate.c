@@ -27,6 +27,7 @@ static uint32_t in_force(const char *words)
     }
     sleet_replaced said = sleet_change(&g, tags.bytes, tags.length);
     need("the set is accepted", said.refusal == SLEET_ACCEPTED && said.tags == count);
+    need("its edition is in force", said.edition == sleet_edition(&g));
     return said.edition;
 }
 
@@ -47,7 +48,7 @@ static void hand(uint32_t serial, const char *text)
 
 static void verdict(const char *what, uint32_t serial, uint64_t wanted, uint64_t mask, uint32_t edition)
 {
-    size_t taken = sleet_state(&g.gate.desk, serial).taken;
+    size_t taken = sleet_state(&g.gate.desk.of_the_gate_alone, serial).taken;
     sleet_decided said = sleet_decide(&g, serial);
     need(what, said.refusal == SLEET_ACCEPTED && said.verdict == wanted && said.mask == mask &&
                    said.edition == edition && said.taken == taken);
@@ -65,7 +66,7 @@ static void no_ticket(const char *what, uint32_t serial)
 static void new_gate(void)
 {
     sleet_gateway_start(&g);
-    need("edition 0", g.gate.desk.edition == 0 && g.gate.desk.serial == 0);
+    need("edition 0", sleet_edition(&g) == 0 && g.gate.desk.of_the_gate_alone.serial == 0);
     sleet_begun said = sleet_begin(&g);
     need("nothing begins without a set", said.refusal == SLEET_REFUSED_NO_SET && said.serial == 0);
     no_ticket("serial 0 is nobody's", 0);
@@ -124,6 +125,7 @@ static void refused_set(void)
     need("two tags", sleet_tags_add(&repeated, "he", 2) && sleet_tags_add(&repeated, "he", 2));
     sleet_replaced said = sleet_change(&g, repeated.bytes, repeated.length);
     need("refused", said.refusal == SLEET_REFUSED_REPEAT && said.entry == 1 && said.edition == 0 && said.tags == 0);
+    need("the edition stays", sleet_edition(&g) == 1);
     said = sleet_change(&g, NULL, 12);
     need("null is no set", said.refusal == SLEET_REFUSED_EMPTY);
     hand(one, "hers");
@@ -144,7 +146,7 @@ static void full_of_another(void)
     hand(tagged, "b");
     hand(flood, many);
     hand(clean, "frost");
-    need("no record is left over", g.gate.desk.count == 0);
+    need("no record is left over", g.gate.desk.of_the_gate_alone.count == 0);
     verdict("the clean one", clean, SLEET_PASS, 0, 0);
     verdict("the tagged one", tagged, SLEET_HOLD, 0x8000, 0);
     verdict("the flood", flood, SLEET_HOLD, 0x7fff, 0);
@@ -219,18 +221,18 @@ static void cut_pieces(void)
     hand(lost, "us");
     verdict("what nobody could read can't pass", lost, SLEET_UNREAD, 0, 0);
     hand(tagged, "he");
-    memcpy(kept, g.table, sizeof kept);
-    memset(g.table, 255, sizeof g.table);
+    memcpy(kept, &g.table, sizeof kept);
+    memset(&g.table, 255, sizeof g.table);
     sleet_pieced said = sleet_piece(&g, one, (const uint8_t *)"us", 2);
     need("cut", said.refusal == SLEET_ACCEPTED && !said.whole && said.taken < 2);
     need("cut too", !sleet_piece(&g, tagged, (const uint8_t *)"us", 2).whole);
-    memcpy(g.table, kept, sizeof kept);
+    memcpy(&g.table, kept, sizeof kept);
     hand(one, "us");
     hand(other, "us");
     verdict("what was cut can't pass, though the table is mended", one, SLEET_UNREAD, 0, 0);
     verdict("what wasn't, can", other, SLEET_PASS, 0, 0);
     verdict("nor is it held for tags that aren't all known", tagged, SLEET_UNREAD, 0, 0);
-    g.gate.desk.tickets[3].taken = UINT32_MAX - 1;
+    g.gate.desk.of_the_gate_alone.tickets[3].taken = UINT32_MAX - 1;
     said = sleet_piece(&g, longest, (const uint8_t *)"us", 2);
     need("too long", said.refusal == SLEET_ACCEPTED && !said.whole && said.taken == 0);
     verdict("unread", longest, SLEET_UNREAD, 0, 0);
