@@ -19,10 +19,10 @@ use texts::put_numbered;
 use texts::put_numbers;
 use texts::refused;
 pub use texts::word_line;
-use writing::put_line_end;
-use writing::put_words;
+use output::put_line_end;
+use output::put_words;
 ghost use mathlib.Core.List.{_∷_, [], _++_};
-ghost use Rattle.writing.specs.Buffer.{buffer, Puts};
+ghost use Rattle.output.specs.Buffer.{buffer, Puts};
 ghost use Rattle.answers.specs.Answers.{listed, ended, stopWord, fedPart, heldPart, statePart, recordLine, stoppedLines};
 ghost use Rattle.answers.specs.Answers.{replaceLine, openLine, feedLine, closeLine, stateLine, takeLine, builtLine, numbersLine, readLines};
 
