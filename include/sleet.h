@@ -5,7 +5,7 @@
        cc -std=c11 -I target/library/include program.c target/library/lib/libsleet.a -o program
 
    Every function of the archive is proved to return, and to give the answer that its contract
-   says, for every value of its arguments (crates/gateway/src/lib.rt). The archive has no state of
+   says, for every value of its arguments (crates/exports/src/lib.rt). The archive has no state of
    its own, takes no memory and calls nothing but memcpy, memmove and memset, so gates and desks in
    different threads have nothing in common. docs/EMBEDDING.md leads through a first program.
 

@@ -16,7 +16,7 @@ use Rattle.numbers.specs.declared.Said.{Said}
 use Rattle.reading.specs.declared.Ending.{Ending}
 use Rattle.tables.specs.Building.{builtNumber, builtValues}
 use Rattle.tables.specs.declared.Built.{Built}
-use Rattle.writing.specs.Decimal.{decimalOf}
+use Rattle.output.specs.Decimal.{decimalOf}
 
 -- words, and a number behind them
 abbrev pub numbered : List ℕ → ℕ → List ℕ

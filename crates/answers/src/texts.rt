@@ -1,12 +1,12 @@
 // Words and numbers of an answer.
 use numbers::Said;
-use writing::put_byte;
-use writing::put_line_end;
-use writing::put_number;
-use writing::put_words;
+use output::put_byte;
+use output::put_line_end;
+use output::put_number;
+use output::put_words;
 ghost use mathlib.Core.Path.{_≡_};
 ghost use mathlib.Core.List.{_∷_, []};
-ghost use Rattle.writing.specs.Buffer.{buffer, Puts};
+ghost use Rattle.output.specs.Buffer.{buffer, Puts};
 ghost use Rattle.answers.specs.Answers.{numbered, listed, wordLine, notACallLine, firstTwo, saidLine};
 
 pub fn put_numbered(out: &mut [u8; 65536], used: usize, words: &[u8], n: u64) -> usize

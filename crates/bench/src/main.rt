@@ -17,7 +17,7 @@ fn new_table() -> [u16; 11496]
     [0u16; 11496]
 }
 
-// The first bytes of the file of the set; none where it is missing. A longer set is judged by its first 580 bytes (written, FirstBytes).
+// The first bytes of the file of the set; none where it is missing. A longer set is judged by its first 580 bytes (benchlines, FirstBytes).
 fn read_set(bytes: &mut [u8; 4096]) -> usize {
     let fd = os::open_read(b"set.bin");
     if fd < 0 {
@@ -141,9 +141,9 @@ fn main() {
     let answer = replacing.answer;
     let used = serving::lines::put_answer(&mut out, 0, answer);
     if !is_replaced(answer) {
-        writing::flush(&out, used);
+        output::flush(&out, used);
         return;
     }
     let end = serve(desk, &table, &mut out, used);
-    writing::flush(&out, end);
+    output::flush(&out, end);
 }

@@ -21,7 +21,7 @@ use Rattle.script.specs.declared.Layout.the-variants.{Split, Whole}
 use Rattle.calling.specs.declared.State.{State}
 use Rattle.tables.specs.Building.{builtOf, tableOf}
 use Rattle.tables.specs.declared.Built.{Built}
-use Rattle.writing.specs.Buffer.{Buffer, Puts}
+use Rattle.output.specs.Buffer.{Buffer, Puts}
 use Rattle.desk.specs.Layout.{bySet, oneBit}
 
 -- one desk, one set, one table buffer, and how many of its first numbers are lent

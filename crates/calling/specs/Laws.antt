@@ -24,7 +24,7 @@ use Rattle.calling.specs.Calls.{Held, answered, withDesk, heldBy, Did, r
 use Rattle.calling.specs.Calls.{splitText, wholeText, readText}
 use Rattle.calling.specs.declared.State.{State}
 use Rattle.tables.specs.declared.Built.{Built}
-use Rattle.writing.specs.Buffer.{Buffer, Puts}
+use Rattle.output.specs.Buffer.{Buffer, Puts}
 use Rattle.desk.specs.Layout.{bySet}
 
 -- a text that is known under another name

@@ -3,7 +3,7 @@ use crate::State;
 ghost use mathlib.Core.List.{List, []};
 ghost use Prim.Native.Nat.{ℕ, _≤_, _<_};
 ghost use lib.ListN.{length};
-ghost use Rattle.writing.specs.Buffer.{buffer};
+ghost use Rattle.output.specs.Buffer.{buffer};
 ghost use Rattle.answers.specs.Answers.{notACallLine, numbersLine};
 ghost use Rattle.calling.specs.Calls.{answered, heldBy, Within, Did, setOn, lendOn, pokeOn};
 

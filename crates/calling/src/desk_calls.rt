@@ -4,7 +4,7 @@ use desk::Serial;
 ghost use mathlib.Core.List.{List};
 ghost use Prim.Native.Nat.{ℕ, _≤_};
 ghost use lib.ListN.{length};
-ghost use Rattle.writing.specs.Buffer.{buffer};
+ghost use Rattle.output.specs.Buffer.{buffer};
 ghost use Rattle.answers.specs.Show.{showLines};
 ghost use Rattle.calling.specs.Calls.{answered, heldBy, Within, Did, replaceOn, openOn, feedOn, closeOn, stateOn, takeOn};
 

@@ -22,7 +22,7 @@ use script::Call;
 ghost use mathlib.Core.Path.{_≡_};
 ghost use Prim.Native.Nat.{_≤_};
 ghost use lib.ListN.{length};
-ghost use Rattle.writing.specs.Buffer.{buffer};
+ghost use Rattle.output.specs.Buffer.{buffer};
 ghost use Rattle.desk.specs.Layout.{oneBit};
 ghost use Rattle.desk.specs.Calls.{newDesk};
 ghost use Rattle.script.specs.Calls.{Bounded, meant, callOf};

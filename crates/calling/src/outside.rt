@@ -8,7 +8,7 @@ ghost use mathlib.Core.List.{List, [], _∷_};
 ghost use Prim.Native.Nat.{ℕ, _≤_};
 ghost use lib.ListN.{length};
 ghost use lib.ListN.{take as take·of};
-ghost use Rattle.writing.specs.Buffer.{buffer, Puts};
+ghost use Rattle.output.specs.Buffer.{buffer, Puts};
 ghost use Rattle.script.specs.Calls.{machinesOf};
 ghost use Rattle.calling.specs.Calls.{answered, heldBy, Within, Did, buildOn, builtBy, tableBy, sevens, readText};
 

@@ -54,7 +54,7 @@ fn one_line(
     let gathered = lines::gather(fd, input, rest, line);
     let after = gathered.rest;
     if !gathered.begun {
-        writing::flush(out, s.used);
+        output::flush(out, s.used);
         return Turn {
             state: s,
             rest: after,

@@ -7,7 +7,7 @@ use Rattle.desk.specs.Numbers.{replaceNumber}
 use Rattle.desk.specs.declared.Record.{Record}
 use Rattle.desk.specs.declared.ReplaceAnswer.{ReplaceAnswer}
 use Rattle.desk.specs.declared.ReplaceAnswer.the-variants as R
-use Rattle.writing.specs.Decimal.{decimalOf}
+use Rattle.output.specs.Decimal.{decimalOf}
 
 -- the line for the set, as `replay` writes it; of TABLE the number alone
 abbrev pub answerLine : ReplaceAnswer → List ℕ

@@ -8,7 +8,7 @@ use Rattle.desk.specs.declared.Serial.{Serial}
 use Rattle.desk.specs.Feed.{feedOf, takenBy}
 use Rattle.desk.specs.TakeMany.{manyOf, oldest, takeManyOf}
 use Rattle.matching.specs.Words.{Word}
-use Rattle.writing.specs.Buffer.{Buffer, Puts}
+use Rattle.output.specs.Buffer.{Buffer, Puts}
 use Rattle.serving.specs.Lines.{linesOf}
 use Rattle.serving.specs.declared.Fed.{Fed}
 use Rattle.desk.specs.Layout.{Lent}

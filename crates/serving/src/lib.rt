@@ -5,7 +5,7 @@ use desk::Desk;
 use desk::Serial;
 use desk::pieces::new_list;
 use desk::pieces::taken_by;
-ghost use Rattle.writing.specs.Buffer.{buffer};
+ghost use Rattle.output.specs.Buffer.{buffer};
 ghost use Rattle.serving.specs.Serving.{FeedsRest, FeedsPiece};
 
 // The desk and the bytes that wait after a step, and what it took.

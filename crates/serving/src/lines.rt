@@ -1,10 +1,10 @@
 // The lines that the bench program writes.
 use desk::ReplaceAnswer;
-use writing::put_byte;
-use writing::put_line_end;
-use writing::put_number;
+use output::put_byte;
+use output::put_line_end;
+use output::put_number;
 ghost use Prim.Native.Nat.{_≤_};
-ghost use Rattle.writing.specs.Buffer.{buffer, Puts};
+ghost use Rattle.output.specs.Buffer.{buffer, Puts};
 ghost use Rattle.serving.specs.Lines.{answerLine, recordLine, recordLines, takenLine};
 
 // The line for the set, as `replay` writes it; of TABLE the number alone.

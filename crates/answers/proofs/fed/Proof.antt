@@ -1,5 +1,5 @@
 use Rattle.numbers.specs.Laws.{feed-few}
-use Rattle.writing.specs.Laws.Waiting.{put-then}
+use Rattle.output.specs.Laws.Waiting.{put-then}
 use Rattle.answers.specs.Laws.Said.{say-given, say-refused}
 use borrow.Author.Needs.{needs}
 use Rattle.answers.proofs.fed.Statement.{statement}

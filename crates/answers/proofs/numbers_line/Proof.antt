@@ -2,7 +2,7 @@
 use Rattle.answers.proofs.numbers_line.Statement.{statement}
 use Rattle.answers.proofs.numbers_line.Tie as tie
 use borrow.Author.Needs.{needs}
-use Rattle.writing.specs.Laws.Waiting.{put-then}
+use Rattle.output.specs.Laws.Waiting.{put-then}
 
 slice-aggregate-put-words : tie.Need-slice-aggregate-put-words
 slice-aggregate-put-words c = search needs

@@ -1,5 +1,5 @@
 -- `answers::put_held` meets its contract: part by part.
-use Rattle.writing.specs.Laws.Waiting.{put-then}
+use Rattle.output.specs.Laws.Waiting.{put-then}
 use borrow.Author.Needs.{needs}
 use Rattle.answers.proofs.put_held.Statement.{statement}
 use Rattle.answers.proofs.put_held.Tie as tie

@@ -1,4 +1,4 @@
-use Rattle.writing.specs.Laws.Waiting.{put-then}
+use Rattle.output.specs.Laws.Waiting.{put-then}
 use borrow.Author.Needs.{needs}
 use Rattle.answers.proofs.record_line.Statement.{statement}
 use Rattle.answers.proofs.record_line.Tie as tie

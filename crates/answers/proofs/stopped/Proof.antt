@@ -1,4 +1,4 @@
-use Rattle.writing.specs.Laws.Waiting.{put-then}
+use Rattle.output.specs.Laws.Waiting.{put-then}
 use borrow.Author.Needs.{needs}
 use Rattle.answers.proofs.stopped.Statement.{statement}
 use Rattle.answers.proofs.stopped.Tie as tie

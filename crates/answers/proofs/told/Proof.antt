@@ -1,5 +1,5 @@
 -- `answers::told` meets its contract: the serial, then its state.
-use Rattle.writing.specs.Laws.Waiting.{put-then}
+use Rattle.output.specs.Laws.Waiting.{put-then}
 use borrow.Author.Needs.{needs}
 use Rattle.answers.proofs.told.Statement.{statement}
 use Rattle.answers.proofs.told.Tie as tie

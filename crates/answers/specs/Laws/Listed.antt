@@ -5,8 +5,8 @@ use mathlib.Core.List.{List, [], _∷_, _++_}
 use mathlib.Core.Path.{_≡_, refl}
 use lib.ListN.{length, getD, take}
 use lib.Seq.{take-suc, take-all}
-use Rattle.writing.specs.Buffer.{Buffer, Puts}
-use Rattle.writing.specs.Laws.Waiting.{put-then}
+use Rattle.output.specs.Buffer.{Buffer, Puts}
+use Rattle.output.specs.Laws.Waiting.{put-then}
 use Rattle.answers.specs.Answers.{numbered, listed}
 
 listed-one : (text ns : List ℕ) (n : ℕ) → listed text (ns ++ (n ∷ [])) ≡ listed text ns ++ numbered (32 ∷ []) n

@@ -8,7 +8,7 @@ use Rattle.numbers.specs.Answers.{answerOf, saidOf}
 use Rattle.numbers.specs.Laws.{Few, refusal-is}
 use Rattle.numbers.specs.declared.Answer.{Answer}
 use Rattle.numbers.specs.declared.Said.{Said}
-use Rattle.writing.specs.Buffer.{Buffer, Puts}
+use Rattle.output.specs.Buffer.{Buffer, Puts}
 use Rattle.answers.specs.Answers.{answerLine, firstTwo, refusedLine, saidLine, stopWord}
 
 first-two : (values : List ℕ) → firstTwo (length values) (getD values 0 0) (getD values 1 0) ≡ take 2 values

@@ -4,7 +4,7 @@ use Rattle.calling.proofs.make.Tie as tie
 use borrow.Author.Needs.{needs}
 use native.Mathlib.Omega.{arith}
 use mathlib.Core.Path.{refl}
-use Rattle.writing.specs.Laws.Waiting.{put-none}
+use Rattle.output.specs.Laws.Waiting.{put-none}
 use Rattle.calling.specs.Laws.{off, span, bound}
 
 returns-3 : tie.Need-returns-3

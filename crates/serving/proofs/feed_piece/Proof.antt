@@ -2,7 +2,7 @@ use borrow.Author.Needs.{needs}
 use native.Mathlib.Omega.{arith}
 use Prim.Native.Nat.{_-_, _<_}
 use lib.ListN.{length}
-use Rattle.writing.specs.Buffer.{buffer}
+use Rattle.output.specs.Buffer.{buffer}
 use Rattle.serving.specs.Laws.Serving.{SoFar, fed-within, left-fed, so-far-all, so-far-idle, so-far-more, so-far-none}
 use Rattle.serving.proofs.feed_piece.Statement.{statement}
 use Rattle.serving.proofs.feed_piece.Tie as tie

@@ -16,8 +16,8 @@ use Rattle.desk.specs.TakeMany.{listTaken, manyOf, oldest, takeManyOf}
 use Rattle.desk.specs.declared.TakingMany.{TakingMany}
 use Rattle.serving.specs.Laws.Lines.{numbered-lines}
 use Rattle.serving.specs.Lines.{linesOf, recordLines}
-use Rattle.writing.specs.Buffer.{Buffer, Puts}
-use Rattle.writing.specs.Laws.Waiting.{put-none, put-then}
+use Rattle.output.specs.Buffer.{Buffer, Puts}
+use Rattle.output.specs.Laws.Waiting.{put-none, put-then}
 use Rattle.serving.specs.Serving.{FeedsPiece, FeedsRest, Served, all-taken, none-taken, restDesk, restLines, restTaken, some-taken}
 use Rattle.serving.specs.declared.Fed.{Fed}
 use Rattle.desk.specs.Layout.{Lent}

@@ -2,7 +2,7 @@
 use Rattle.answers.proofs.texts.put_blank_number.Statement.{statement}
 use Rattle.answers.proofs.texts.put_blank_number.Tie as tie
 use borrow.Author.Needs.{needs}
-use Rattle.writing.specs.Laws.Waiting.{put-then}
+use Rattle.output.specs.Laws.Waiting.{put-then}
 
 put-byte-requires : tie.Need-put-byte-requires
 put-byte-requires c κs = search needs

@@ -2,7 +2,7 @@
 use Rattle.answers.proofs.texts.put_numbered.Statement.{statement}
 use Rattle.answers.proofs.texts.put_numbered.Tie as tie
 use borrow.Author.Needs.{needs}
-use Rattle.writing.specs.Laws.Waiting.{put-then}
+use Rattle.output.specs.Laws.Waiting.{put-then}
 
 put-words-requires : tie.Need-put-words-requires
 put-words-requires c κs = search needs

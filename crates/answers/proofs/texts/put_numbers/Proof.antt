@@ -6,8 +6,8 @@ use Prim.Native.Nat.{_-_}
 use mathlib.Core.List.{[]}
 use mathlib.Core.Path.{sym}
 use lib.ListN.{length, take}
-use Rattle.writing.specs.Buffer.{Puts, buffer}
-use Rattle.writing.specs.Laws.Waiting.{put-none}
+use Rattle.output.specs.Buffer.{Puts, buffer}
+use Rattle.output.specs.Laws.Waiting.{put-none}
 use Rattle.answers.specs.Answers.{listed}
 use Rattle.answers.specs.Laws.Listed.{listed-next, listed-all}
 

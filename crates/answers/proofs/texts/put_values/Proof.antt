@@ -1,6 +1,6 @@
 use Rattle.answers.specs.Laws.Said.{two-values}
 use Rattle.answers.specs.Answers.{listed}
-use Rattle.writing.specs.Laws.Waiting.{put-none, put-then}
+use Rattle.output.specs.Laws.Waiting.{put-none, put-then}
 use borrow.Author.Needs.{needs}
 use Rattle.answers.proofs.texts.put_values.Statement.{statement}
 use Rattle.answers.proofs.texts.put_values.Tie as tie

@@ -1,5 +1,5 @@
 use Rattle.answers.specs.Answers.{refusedLine}
-use Rattle.writing.specs.Laws.Waiting.{put-then}
+use Rattle.output.specs.Laws.Waiting.{put-then}
 use borrow.Author.Needs.{needs}
 use Rattle.answers.proofs.texts.refused.Statement.{statement}
 use Rattle.answers.proofs.texts.refused.Tie as tie

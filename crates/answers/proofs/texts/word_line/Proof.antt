@@ -2,7 +2,7 @@
 use Rattle.answers.proofs.texts.word_line.Statement.{statement}
 use Rattle.answers.proofs.texts.word_line.Tie as tie
 use borrow.Author.Needs.{needs}
-use Rattle.writing.specs.Laws.Waiting.{put-then}
+use Rattle.output.specs.Laws.Waiting.{put-then}
 
 put-numbered-requires : tie.Need-put-numbered-requires
 put-numbered-requires c κs = search needs

@@ -1,4 +1,4 @@
-use Rattle.writing.specs.Laws.Waiting.{put-then}
+use Rattle.output.specs.Laws.Waiting.{put-then}
 use borrow.Author.Needs.{needs}
 use Rattle.serving.proofs.lines.put_record.Statement.{statement}
 use Rattle.serving.proofs.lines.put_record.Tie as tie

@@ -1,9 +1,9 @@
 use native.Mathlib.Numerals.{add-one}
-use Rattle.writing.specs.Laws.Waiting.{put-none, put-then}
+use Rattle.output.specs.Laws.Waiting.{put-none, put-then}
 use borrow.Author.Needs.{needs}
 use Prim.Native.Nat.{_-_, _≤_}
 use mathlib.Core.Path.{_≡_}
-use Rattle.writing.specs.Buffer.{buffer, Puts}
+use Rattle.output.specs.Buffer.{buffer, Puts}
 use Rattle.serving.specs.Lines.{recordLines}
 use Rattle.serving.proofs.lines.put_records.Statement.{statement}
 use Rattle.serving.proofs.lines.put_records.Tie as tie
