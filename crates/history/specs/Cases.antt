@@ -61,25 +61,30 @@ pub record FeedAnswers (Left : Type 0) (w : World) (s : Serial) (table : Lent) (
 
 -- ---- an opening
 
--- NO SET exactly if no replacement was accepted; then SERIAL exactly if the largest serial was given; then NO ROOM exactly if as many tickets as
--- there are rooms are not closed, so that a closed ticket's room is used again; else the serial one above the number opened
-pub record OpenAnswers (w : World) (answer : OpenAnswer) : Type 0 where
-  pub no-set : (answer ≡ O.NoSet) ↔ (length (w .orders) ≡ 0)
-  pub serial-end : (answer ≡ O.SerialEnd) ↔ ((0 < length (w .orders)) × (length (w .accounts) ≡ largest))
-  pub no-room : (answer ≡ O.NoRoom) ↔ ((0 < length (w .orders)) × (length (w .accounts) < largest) × (lives (w .accounts) ≡ mostTickets))
-  pub opened : (s : Serial) → (answer ≡ O.Opened s)
-      ↔ ((0 < length (w .orders)) × (length (w .accounts) < largest) × (lives (w .accounts) < mostTickets) × (s .0 ≡ suc (length (w .accounts))))
+-- by how many replacements were accepted, how many tickets were opened, and how many of these are not closed: NO SET exactly if no replacement
+-- was accepted; then SERIAL exactly if the largest serial was given; then NO ROOM exactly if as many as there are rooms are not closed, so that a
+-- closed ticket's room is used again; else the serial one above the number opened
+pub record OpensAs (accepted given waiting : ℕ) (answer : OpenAnswer) : Type 0 where
+  pub no-set : (answer ≡ O.NoSet) ↔ (accepted ≡ 0)
+  pub serial-end : (answer ≡ O.SerialEnd) ↔ ((0 < accepted) × (given ≡ largest))
+  pub no-room : (answer ≡ O.NoRoom) ↔ ((0 < accepted) × (given < largest) × (waiting ≡ mostTickets))
+  pub opened : (s : Serial) → (answer ≡ O.Opened s) ↔ ((0 < accepted) × (given < largest) × (waiting < mostTickets) × (s .0 ≡ suc given))
+
+abbrev pub OpenAnswers : World → OpenAnswer → Type 0
+OpenAnswers w answer = OpensAs (length (w .orders)) (length (w .accounts)) (lives (w .accounts)) answer
 
 -- ---- a replacement
 
--- a set fault or TABLE exactly if building does; then EDITION exactly if the largest edition is in force; else the edition one above the number of
--- replacements accepted, and the number of tags
-pub record ReplaceAnswers (w : World) (order : Order) (len : Sizes) (answer : ReplaceAnswer) : Type 0 where
+-- by how many were accepted: a set fault or TABLE exactly if building does; then EDITION exactly if the largest edition is in force; else the edition
+-- one above the number accepted, and the number of tags
+pub record ReplacesAs (accepted : ℕ) (order : Order) (len : Sizes) (answer : ReplaceAnswer) : Type 0 where
   pub fault : (x : SetFault) → (answer ≡ R.Fault x) ↔ DeskRefused order x
   pub table : (machine states : ℕ) → (answer ≡ R.Table machine states) ↔ DeskShort order len machine states
-  pub edition-end : (answer ≡ R.EditionEnd) ↔ ((count : ℕ) × DeskBuilds order len count × (length (w .orders) ≡ largest))
-  pub replaced : (e : Edition) (count : ℕ) → (answer ≡ R.Replaced e count)
-      ↔ (DeskBuilds order len count × (length (w .orders) < largest) × (e .0 ≡ suc (length (w .orders))))
+  pub edition-end : (answer ≡ R.EditionEnd) ↔ ((count : ℕ) × DeskBuilds order len count × (accepted ≡ largest))
+  pub replaced : (e : Edition) (count : ℕ) → (answer ≡ R.Replaced e count) ↔ (DeskBuilds order len count × (accepted < largest) × (e .0 ≡ suc accepted))
+
+abbrev pub ReplaceAnswers : World → Order → Sizes → ReplaceAnswer → Type 0
+ReplaceAnswers w order len answer = ReplacesAs (length (w .orders)) order len answer
 
 -- what is in force is what a replacement left: its tags, the run that it was lent as building leaves it, and the slots of that as the desk
 -- remembers them

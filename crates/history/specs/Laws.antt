@@ -24,6 +24,7 @@ pub mod Later
 pub mod Rows
 pub mod Held
 pub mod Streams
+pub mod Counts
 pub mod Answering
 pub mod Answered
 pub mod ByRoom

@@ -14,12 +14,11 @@ use Rattle.matching.specs.Words.{Below, Word}
 use Rattle.verdicts.specs.Cases.{BeginExactly, PieceExactly, ReplaceExactly}
 use Rattle.verdicts.specs.Exactly.{over-any-tables}
 use Rattle.verdicts.specs.GateHistory.{AsLeft, GateAct, NotReplaced, Undecided, approvalAt, gateRun, gateStart}
-use Rattle.verdicts.specs.Laws.Beginning.{begins-exactly}
+use Rattle.verdicts.specs.Laws.Beginning.{begins-exactly, replaces-exactly}
 use Rattle.verdicts.specs.Laws.Came.{came-start}
 use Rattle.verdicts.specs.Laws.CamePiece.{came}
 use Rattle.verdicts.specs.Laws.Held.{held-all}
 use Rattle.verdicts.specs.Laws.Piecing.{pieces, pieces-exactly}
-use Rattle.verdicts.specs.Laws.Replacing.{replaces-exactly}
 use Rattle.verdicts.specs.Laws.Standing.{standing, standing-start}
 use Rattle.verdicts.specs.Laws.Taken.{answers-taken, open-in, part-short, short-part, taken-of-handed}
 use Rattle.verdicts.specs.Laws.Within.{answers-within}

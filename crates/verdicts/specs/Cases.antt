@@ -1,9 +1,7 @@
 -- When each answer of `decide`, of `piece`, of `begin` and of `replace` is given.
-use Rattle.desk.specs.declared.OpenAnswer.the-variants as O
-use Rattle.desk.specs.declared.ReplaceAnswer.the-variants as R
 use Rattle.gate.specs.declared.PieceAnswer.the-variants as P
 use Rattle.gate.specs.declared.Verdict.the-variants as Q
-use Prim.Native.Nat.{ℕ, suc, _<_}
+use Prim.Native.Nat.{ℕ}
 use mathlib.Core.Bool.{false}
 use mathlib.Core.Logic.{_↔_, _⊎_}
 use mathlib.Core.Path.{_≡_}
@@ -17,12 +15,10 @@ use Rattle.gate.specs.declared.Verdict.{Verdict}
 use Rattle.history.specs.Verdict.{EndsAt}
 use Rattle.matching.specs.Tags.{Tags}
 use Rattle.matching.specs.Words.{Word}
-use Rattle.desk.specs.Layout.{DeskBuilds, DeskRefused, DeskShort, Order, Sizes}
-use Rattle.tagset.specs.declared.SetFault.{SetFault}
+use Rattle.desk.specs.Layout.{Order, Sizes}
 use Rattle.verdicts.specs.GateHistory.{GateWorld, NotReplaced, Readable, Replaced, Undecided, approvalAt, undecidedOf}
 use Rattle.verdicts.specs.Mask.{maskOf}
-use Rattle.matching.specs.Limits.{largest}
-use Rattle.desk.specs.Limits.{mostTickets}
+use Rattle.history.specs.Cases.{OpensAs, ReplacesAs}
 
 -- no tag ends anywhere in the bytes
 abbrev pub Clean : Tags → Word → Type 0
@@ -80,20 +76,12 @@ module _ (w : GateWorld) (s : Serial) where
     pub stale : (e : Edition) → (answer ≡ P.Stale e) ↔ IsStale e
     pub fed : IsCurrent ↔ ((answer ≡ P.Read) ⊎ ((n : ℕ) × (answer ≡ P.Cut n)))
 
--- a beginning: refused exactly where no replacement was accepted; then where the serials are used up; then where 16 approvals are undecided,
--- so that the room of a decided one serves again; else the serial one above the number begun
-pub record BeginExactly (w : GateWorld) (answer : OpenAnswer) : Type 0 where
-  pub no-set : (answer ≡ O.NoSet) ↔ (w .accepted ≡ 0)
-  pub serial-end : (answer ≡ O.SerialEnd) ↔ ((0 < w .accepted) × (length (w .approvals) ≡ largest))
-  pub no-room : (answer ≡ O.NoRoom) ↔ ((0 < w .accepted) × (length (w .approvals) < largest) × (undecidedOf (w .approvals) ≡ mostTickets))
-  pub opened : (s : Serial) → (answer ≡ O.Opened s)
-      ↔ ((0 < w .accepted) × (length (w .approvals) < largest) × (undecidedOf (w .approvals) < mostTickets) × (s .0 ≡ suc (length (w .approvals))))
+-- a beginning: refused exactly where no replacement was accepted; then where the serials are used up; then where as many approvals are undecided
+-- as there are rooms, so that the room of a decided one serves again; else the serial one above the number begun
+abbrev pub BeginExactly : GateWorld → OpenAnswer → Type 0
+BeginExactly w answer = OpensAs (w .accepted) (length (w .approvals)) (undecidedOf (w .approvals)) answer
 
 -- a replacement: a set fault or TABLE exactly where building answers it; then EDITION where the editions are used up; else the edition one
 -- above the number accepted, and the number of tags
-pub record ReplaceExactly (w : GateWorld) (order : Order) (len : Sizes) (answer : ReplaceAnswer) : Type 0 where
-  pub fault : (x : SetFault) → (answer ≡ R.Fault x) ↔ DeskRefused order x
-  pub table : (machine states : ℕ) → (answer ≡ R.Table machine states) ↔ DeskShort order len machine states
-  pub edition-end : (answer ≡ R.EditionEnd) ↔ ((count : ℕ) × DeskBuilds order len count × (w .accepted ≡ largest))
-  pub replaced : (e : Edition) (count : ℕ) → (answer ≡ R.Replaced e count) ↔
-      (DeskBuilds order len count × (w .accepted < largest) × (e .0 ≡ suc (w .accepted)))
+abbrev pub ReplaceExactly : GateWorld → Order → Sizes → ReplaceAnswer → Type 0
+ReplaceExactly w order len answer = ReplacesAs (w .accepted) order len answer

@@ -1,9 +1,6 @@
 -- What each call answers after any history, shown case by case.
 use Rattle.desk.specs.declared.FeedAnswer.the-variants as F
-use Rattle.desk.specs.declared.OpenAnswer.the-variants as O
-use Rattle.desk.specs.declared.ReplaceAnswer.the-variants as R
-use Rattle.tables.specs.declared.Built.the-variants as B
-use Prim.Native.Nat.{_+_, _-_, _<_, suc, ℕ}
+use Prim.Native.Nat.{_+_, _-_, _<_, ℕ}
 use mathlib.Core.List.{[]}
 use mathlib.Core.Path.{_∙_, _≡_, ap, refl, subst, sym}
 use native.Mathlib.Omega.{arith}
@@ -12,34 +9,30 @@ use Rattle.desk.specs.Calls.{closeOf, openOf, takeOf}
 use Rattle.desk.specs.Feed.{advance, feedOf}
 use Rattle.desk.specs.Laws.Shared.{held-popped}
 use Rattle.desk.specs.Laws.Views.{Closes, close-done, close-no-ticket, closes}
-use Rattle.desk.specs.Laws.Views.{Replaces, replace-done, replace-edition-end, replace-fault, replace-table, replaces}
 use Rattle.desk.specs.Laws.Views.{Takes, take-nothing, take-oldest, takes}
 use Rattle.desk.specs.Replace.{replaceOf}
-use Rattle.desk.specs.Rooms.{editionOf, roomOf}
+use Rattle.desk.specs.Rooms.{roomOf}
 use Rattle.desk.specs.Shared.{held, popped, round}
 use Rattle.desk.specs.declared.Closing.{Closing}
-use Rattle.desk.specs.declared.Edition.{Edition}
 use Rattle.desk.specs.declared.Feeding.{Feeding}
-use Rattle.desk.specs.declared.OpenAnswer.{OpenAnswer}
 use Rattle.desk.specs.declared.Records.{Records}
-use Rattle.desk.specs.declared.Replacing.{Replacing}
 use Rattle.desk.specs.declared.Serial.{Serial}
 use Rattle.desk.specs.declared.Taking.{Taking}
 use Rattle.history.specs.History.{Gone, OpenOrStale, OpenTicket, World, accountAt, feeding, stream}
 use Rattle.history.specs.Laws.Answering.{feeds-for, FeedsFor, fits-left, for-gone, for-long, for-slots, for-read, for-stale, gone-iff}
-use Rattle.history.specs.Laws.Answering.{OpensFor, opens-for, opens-next, opens-no-room, opens-no-set, opens-serial-end}
 use Rattle.history.specs.Laws.Feeding.{live}
-use Rattle.history.specs.Laws.Invariant.{Inv, given}
-use Rattle.history.specs.Laws.Numbers.{differ, lower}
+use Rattle.history.specs.Laws.Invariant.{given, Inv, wide}
+use Rattle.history.specs.Laws.Numbers.{differ}
 use Rattle.matching.specs.Laws.Bools.{not-both}
 use Rattle.matching.specs.Words.{Below, Word}
-use Rattle.desk.specs.Layout.{DeskBuilds, deskBuilt, Lent, Order, Sizes}
-use Rattle.desk.specs.Laws.Layout.{desk-fault-iff, desk-table-iff, desk-tags-iff}
+use Rattle.desk.specs.Layout.{Lent, Order, Sizes}
 use Rattle.history.specs.Laws.LedgerSteps.{Sound}
 use Rattle.history.specs.Cases.{CloseAnswers, FedAsDemanded, FeedAnswers, OpenAnswers, ReplaceAnswers, TakeAnswers}
 use Rattle.matching.specs.Limits.{largest}
 use Rattle.desk.specs.Limits.{mostTickets}
 use Rattle.desk.specs.Conditions.{ticketOf}
+use Rattle.history.specs.Laws.Counts.{opens-as, replaces-as}
+use native.Mathlib.Nat.{le-of-eq, le-trans}
 
 -- an account that is not closed is no account of a serial that is gone
 not-gone : (w : World) (s : Serial) (k : ℕ) → Gone w s → OpenOrStale w s k → ⊥
@@ -115,82 +108,13 @@ feed-answered {Left} w v s table piece c = go _ (feeds-for w v s table piece c) 
     }
 
 pub open-answered : {Left : Type 0} (w : World) → Sound Left w → OpenAnswers w (openOf (w .desk) .answer)
-open-answered w g = go _ (opens-for w g)
-  where
-    go : (a : OpenAnswer) → OpensFor w a → OpenAnswers w a
-    go a (opens-no-set h) = record {
-      no-set = (λ e. h, λ e. refl);
-      serial-end = (λ e. differ cc, λ z. absurd (omega (arith, h, z .0)));
-      no-room = (λ e. differ cc, λ z. absurd (omega (arith, h, z .0)));
-      opened = λ s. (λ e. differ cc, λ z. absurd (omega (arith, h, z .0)));
-    }
-    go a (opens-serial-end h l) = record {
-      no-set = (λ e. differ cc, λ z. absurd (omega (arith, h, z)));
-      serial-end = (λ e. (h, l), λ z. refl);
-      no-room = (λ e. differ cc, λ z. absurd (omega (arith, l, z .1)));
-      opened = λ s. (λ e. differ cc, λ z. absurd (omega (arith, l, z .1)));
-    }
-    go a (opens-no-room h l f) = record {
-      no-set = (λ e. differ cc, λ z. absurd (omega (arith, h, z)));
-      serial-end = (λ e. differ cc, λ z. absurd (omega (arith, l, z .1)));
-      no-room = (λ e. (h, l, f), λ z. refl);
-      opened = λ s. (λ e. differ cc, λ z. absurd (omega (arith, f, z .2)));
-    }
-    go a (opens-next h l f) = record {
-      no-set = (λ e. differ cc, λ z. absurd (omega (arith, h, z)));
-      serial-end = (λ e. differ cc, λ z. absurd (omega (arith, l, z .1)));
-      no-room = (λ e. differ cc, λ z. absurd (omega (arith, f, z .2)));
-      opened = λ s. (λ e. (h, l, f, cc), λ z d. O.Opened (record { 0 = sym (z .3) d }));
-    }
+open-answered w g =
+    opens-as (w .desk) _ _ _ (wide w (g .inv)) (g .ledger .editions ∙ g .inv .edition) (g .inv .serials) (g .ledger .rooms) (g .ledger .few-serials)
 
 pub replace-answered : {Left : Type 0} (w : World) → Sound Left w → (order : Order) (len : Sizes)
     → ReplaceAnswers w order len (replaceOf (w .desk) order len .answer)
-replace-answered w g order len = go _ (replaces (w .desk) order len)
-  where
-    now : length (w .orders) ≡ w .desk .edition .0
-    now = g .ledger .editions ∙ g .inv .edition
-
-    few : (w .desk .edition .0 ≡ largest → ⊥) → length (w .orders) < largest
-    few n = lower _ _ (omega (arith, g .ledger .editions, g .ledger .few-editions)) (λ e. n (sym now ∙ e))
-
-    go : (r : Replacing) → Replaces (w .desk) order len r → ReplaceAnswers w order len (r .answer)
-    go r (replace-fault f p) = record {
-      fault = λ x. (λ e. desk-fault-iff order len x .0 (cc), λ h. let y = desk-fault-iff order len x .1 h in cc);
-      table = λ m n. (λ e. differ cc, λ h. (let y = desk-table-iff order len m n .1 h in differ cc));
-      edition-end = (λ e. differ cc, λ h. (let y = desk-tags-iff order len (h .0) .1 (h .1) in differ cc));
-      replaced = λ i n. (λ e. differ cc, λ h. (let y = desk-tags-iff order len n .1 (h .0) in differ cc));
-    }
-    go r (replace-table j k p) = record {
-      fault = λ x. (λ e. differ cc, λ h. (let y = desk-fault-iff order len x .1 h in differ cc));
-      table = λ m n. (λ e. desk-table-iff order len m n .0 (cc), λ h. let y = desk-table-iff order len m n .1 h in cc);
-      edition-end = (λ e. differ cc, λ h. (let y = desk-tags-iff order len (h .0) .1 (h .1) in differ cc));
-      replaced = λ i n. (λ e. differ cc, λ h. (let y = desk-tags-iff order len n .1 (h .0) in differ cc));
-    }
-    go r (replace-edition-end c p q) = record {
-      fault = λ x. (λ e. differ cc, λ h. (let y = desk-fault-iff order len x .1 h in differ cc));
-      table = λ m n. (λ e. differ cc, λ h. (let y = desk-table-iff order len m n .1 h in differ cc));
-      edition-end = (λ e. (c, desk-tags-iff order len c .0 p, now ∙ q), λ h. refl);
-      replaced = λ i n. (λ e. differ cc, λ h. absurd (omega (arith, now, q, h .1)));
-    }
-    go r (replace-done c p q) = record {
-      fault = λ x. (λ e. differ cc, λ h. (let y = desk-fault-iff order len x .1 h in differ cc));
-      table = λ m n. (λ e. differ cc, λ h. (let y = desk-table-iff order len m n .1 h in differ cc));
-      edition-end = (λ e. differ cc, λ h. absurd (omega (arith, few q, h .2)));
-      replaced = λ i n. (λ e. done i n e, λ h. so i n (desk-tags-iff order len n .1 (h .0)) (h .2));
-    }
-      where
-        done : (i : Edition) (n : ℕ) → R.Replaced (editionOf (w .desk .edition .0 + 1)) c ≡ R.Replaced i n
-            → DeskBuilds order len n × (length (w .orders) < largest) × (i .0 ≡ suc (length (w .orders)))
-        done i n e =
-            let x : w .desk .edition .0 + 1 ≡ i .0 = cc in
-            (desk-tags-iff order len n .0 (cc), few q, omega (arith, x, now))
-
-        so : (i : Edition) (n : ℕ) → deskBuilt order len ≡ B.Tags n → i .0 ≡ suc (length (w .orders))
-            → R.Replaced (editionOf (w .desk .edition .0 + 1)) c ≡ R.Replaced i n
-        so i n e x =
-            let y : w .desk .edition .0 + 1 ≡ i .0 = omega (arith, x, now) in
-            let z : c ≡ n = cc in
-            λ d. R.Replaced (record { 0 = y d }) (z d)
+replace-answered w g =
+    replaces-as (w .desk) (length (w .orders)) (g .ledger .editions ∙ g .inv .edition) (le-trans (le-of-eq (g .ledger .editions)) (g .ledger .few-editions))
 
 pub close-answered : {Left : Type 0} (w : World) → Inv Left w → (s : Serial) → CloseAnswers w s (closeOf (w .desk) s .answer)
 close-answered w v s = go _ (closes (w .desk) s)
