@@ -15,13 +15,13 @@ use Rattle.desk.specs.Laws.Views.{Replaces, replace-done, replace-edition-end, 
 use Rattle.desk.specs.Reached.{Call, callOpen, callReplace, Reached}
 use Rattle.desk.specs.Replace.{replaceOf, replacedRun}
 use Rattle.desk.specs.Rooms.{editionOf, firstRoom, serialOf}
-use Rattle.desk.specs.Shared.{held, recordsOf}
+use Rattle.desk.specs.Shared.{held, recordsFor, recordsOf}
 use Rattle.desk.specs.declared.Desk.{Desk}
 use Rattle.desk.specs.declared.Edition.{Edition}
 use Rattle.desk.specs.declared.Record.{Record}
 use Rattle.desk.specs.declared.Replacing.{Replacing}
 use Rattle.history.specs.Demand3.{first-part, no-others, numbered}
-use Rattle.history.specs.History.{Account, accountAt, grown, noAccount, onSerial, Proper, recordsDue, recordsFor, replacing, run, start, step, stream, World}
+use Rattle.history.specs.History.{Account, accountAt, grown, noAccount, onSerial, Proper, recordsDue, replacing, run, start, step, stream, World}
 use Rattle.matching.specs.Words.{AllBelow, Below, Word}
 use Rattle.tagset.specs.Grammar.{goodSet, setOf}
 use Rattle.benchlines.specs.Laws.Acts.{Comes, all-comes}

@@ -8,3 +8,4 @@ pub mod Good
 pub mod TakeMany
 pub mod Pieces
 pub mod Exact
+pub mod Apart

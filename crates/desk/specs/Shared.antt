@@ -9,6 +9,8 @@ use Rattle.desk.specs.declared.Edition.{Edition}
 use Rattle.desk.specs.declared.Record.{Record}
 use Rattle.desk.specs.declared.Records.{Records}
 use Rattle.desk.specs.Limits.{mostRecords}
+use mathlib.Core.Bool.{cond}
+use lib.Dec.{eqb}
 
 abbrev pub noRecord : Record
 noRecord = record { serial = serialOf 0; edition = editionOf 0; end = 0; tag = tagOf 0 }
@@ -48,3 +50,8 @@ recordsOf s e os = map (recordOf s e) os
 unfoldable pub paired : ℕ → List ℕ → List Occurrence
 paired zero run = []
 paired (suc n) run = record { end = getD run 0 0; tag = getD run 1 0 % 256 } ∷ paired n (drop 2 run)
+
+-- the records of a serial among some, in order
+unfoldable pub recordsFor : ℕ → List Record → List Record
+recordsFor n [] = []
+recordsFor n (r ∷ rs) = cond (eqb (r .serial .0) n) (r ∷ recordsFor n rs) (recordsFor n rs)

@@ -2,19 +2,19 @@
 -- notes each record that is held with its own, those of earlier feeds of other tickets too.
 use Prim.Native.Nat.{ℕ, zero, suc, _+_, _-_, _<_}
 use mathlib.Core.Bool.{Bool, cond, false, not, true}
-use mathlib.Core.List.{List, [], _∷_, _++_, append-nil}
+use mathlib.Core.List.{List, [], _++_, append-nil}
 use mathlib.Core.Path.{_≡_, _∙_, ap, refl, subst, sym}
 use native.Mathlib.Decide.{ℕ-discrete}
 use native.Mathlib.Omega.{arith}
 use lib.Dec.{eqb, ltb}
 use lib.ListN.{drop, length, length-set}
 use lib.Seq.{getD-set-other}
-use borrow.Author.Tests.{ltb-true, ne-eqb}
+use borrow.Author.Tests.{ltb-true}
 use Rattle.desk.specs.Calls.{openOf}
 use Rattle.desk.specs.Feed.{feedOf, readFor}
 use Rattle.desk.specs.Laws.Good.{good, room-held}
 use Rattle.desk.specs.Laws.Rooms.{for-held, set-other, set-same}
-use Rattle.desk.specs.Laws.Shared.{held-pushAll, recordsOf-length}
+use Rattle.desk.specs.Laws.Shared.{held-pushAll, recordsFor-append, recordsFor-other, recordsOf-length}
 use Rattle.desk.specs.Laws.TakeMany.{take-many-reached}
 use Rattle.desk.specs.Laws.Views.{Closes, close-done, close-no-ticket, closes}
 use Rattle.desk.specs.Laws.Views.{Opens, open-done, open-no-room, open-no-set, open-serial-end, opens}
@@ -22,10 +22,9 @@ use Rattle.desk.specs.Laws.Views.{Replaces, replace-done, replace-edition-end, 
 use Rattle.desk.specs.Laws.Views.{Feeds, feed-long, feed-no-place, feed-no-ticket, feed-other-slots, feed-read, feed-stale, feeds}
 use Rattle.desk.specs.Reached.{Reached, byCall, callClose, callFeed, callOpen, callReplace, fromNew}
 use Rattle.desk.specs.Rooms.{isHeld, roomOf, ticketIn}
-use Rattle.desk.specs.Shared.{held, recordsOf, round}
+use Rattle.desk.specs.Shared.{held, recordsFor, recordsOf, round}
 use Rattle.desk.specs.declared.Closing.{Closing}
 use Rattle.desk.specs.declared.Desk.{Desk}
-use Rattle.desk.specs.declared.Edition.{Edition}
 use Rattle.desk.specs.declared.Feeding.{Feeding}
 use Rattle.desk.specs.declared.OpenAnswer.{OpenAnswer}
 use Rattle.desk.specs.declared.OpenAnswer.the-variants as O
@@ -34,7 +33,7 @@ use Rattle.desk.specs.declared.Record.{Record}
 use Rattle.desk.specs.declared.Replacing.{Replacing}
 use Rattle.desk.specs.declared.Serial.{Serial}
 use Rattle.desk.specs.declared.Ticket.{Ticket}
-use Rattle.gate.specs.Bits.{ofSerial, withBits}
+use Rattle.gate.specs.Bits.{withBits}
 use Rattle.gate.specs.Feeding.{fedOn, restOf}
 use Rattle.gate.specs.Gate.{beginOf, changeOf, decideBy, decideOf, endedBy, newGate, pieceBy, pieceOf}
 use Rattle.gate.specs.Noting.{begunSeen, seenIn, unseen}
@@ -42,7 +41,6 @@ use Rattle.gate.specs.Own.{ToTheirOwn, emptied-none, emptied-own, reache
 use Rattle.gate.specs.declared.Gate.{Gate}
 use Rattle.gate.specs.declared.feeding.Fed.{Fed}
 use Rattle.desk.specs.Laws.Layout.{desk-kept}
-use Rattle.matching.specs.Occurrence.{Occurrence}
 use Rattle.matching.specs.Words.{Word}
 use Rattle.desk.specs.Layout.{Kind, Lent, Order, sizesOf}
 use Rattle.desk.specs.Limits.{mostTickets}
@@ -54,21 +52,6 @@ pub record Settled (g : Gate) : Type 0 where
   pub none : held (g .desk .records) ≡ []
 
 -- ---- one feed
-
-ofSerial-append : (n : ℕ) (a b : List Record) → ofSerial n (a ++ b) ≡ ofSerial n a ++ ofSerial n b
-unfolding ofSerial
-ofSerial-append n [] b = refl
-ofSerial-append n (r ∷ a) b = go (eqb (r .serial .0) n) (ofSerial-append n a b)
-  where
-    go : (t : Bool) → ofSerial n (a ++ b) ≡ ofSerial n a ++ ofSerial n b
-        → cond t (r ∷ ofSerial n (a ++ b)) (ofSerial n (a ++ b)) ≡ cond t (r ∷ ofSerial n a) (ofSerial n a) ++ ofSerial n b
-    go true ih = ap {B = List Record} (λ (l : List Record). r ∷ l) ih
-    go false ih = ih
-
-ofSerial-none : (n : ℕ) (s : Serial) (e : Edition) (os : List Occurrence) → (s .0 ≡ n → ⊥) → ofSerial n (recordsOf s e os) ≡ []
-unfolding ofSerial
-ofSerial-none n s e [] h = refl
-ofSerial-none n s e (o ∷ os) h = rw (ne-eqb (s .0) n h) (ofSerial-none n s e os h)
 
 module _ (d : Desk) (s : Serial) (table : List ℕ) (piece : Word) (r : Reached d) where
   abbrev i : ℕ
@@ -97,10 +80,10 @@ module _ (d : Desk) (s : Serial) (table : List ℕ) (piece : Word) (r : Reached 
           here (no n) = ap (λ (t : Ticket). t .serial) (set-other (d .tickets) i j _ n)
 
   -- of another serial there are the records that there were
-  fed-others : (n : ℕ) → (n ≡ s .0 → ⊥) → ofSerial n (held (after .records)) ≡ ofSerial n (held (d .records))
+  fed-others : (n : ℕ) → (n ≡ s .0 → ⊥) → recordsFor n (held (after .records)) ≡ recordsFor n (held (d .records))
   fed-others n other = go _ (feeds d s table piece)
     where
-      go : (f : Feeding) → Feeds d i table piece f → ofSerial n (held (f .desk .records)) ≡ ofSerial n (held (d .records))
+      go : (f : Feeding) → Feeds d i table piece f → recordsFor n (held (f .desk .records)) ≡ recordsFor n (held (d .records))
       go f (feed-no-ticket a) = refl
       go f (feed-stale a b) = refl
       go f (feed-other-slots a b c) = refl
@@ -111,11 +94,11 @@ module _ (d : Desk) (s : Serial) (table : List ℕ) (piece : Word) (r : Reached 
           let found = readFor d t table piece .found in
           let k = desk-kept (d .slots) table (t .place) (t .taken) (256 - d .records .count) piece in
           let its : t .serial .0 ≡ s .0 = for-held s t (room-held d s (good r) a) .1 in
-          ap (ofSerial n) (held-pushAll (d .records) (recordsOf (t .serial) (t .edition) found) (good r .ring)
+          ap (recordsFor n) (held-pushAll (d .records) (recordsOf (t .serial) (t .edition) found) (good r .ring)
           (omega (arith, recordsOf-length (t .serial) (t .edition) found, k .fits, good r .count)))
-          ∙ ofSerial-append n (held (d .records)) (recordsOf (t .serial) (t .edition) found)
-          ∙ ap (λ (l : List Record). ofSerial n (held (d .records)) ++ l) (ofSerial-none n (t .serial) (t .edition) found (λ q. other (sym q ∙ its)))
-          ∙ append-nil (ofSerial n (held (d .records)))
+          ∙ recordsFor-append n (held (d .records)) (recordsOf (t .serial) (t .edition) found)
+          ∙ ap (λ (l : List Record). recordsFor n (held (d .records)) ++ l) (recordsFor-other n (t .serial) (t .edition) found (λ q. other (sym q ∙ its)))
+          ∙ append-nil (recordsFor n (held (d .records)))
 
 module _ (g : Gate) (s : Serial) (table : List ℕ) (rest : Word) (masks : length (g .seen) ≡ mostTickets) (r : Reached (g .desk)) where
   -- one feed of what is left: the records then held are those held before and those of this feed, and each goes to its own
@@ -127,7 +110,7 @@ module _ (g : Gate) (s : Serial) (table : List ℕ) (rest : Word) (masks : lengt
       record {
         own = λ i h.
             o .own i (subst (λ (n : Serial). not (eqb (n .0) 0) ≡ true) (sym (same i)) h)
-            ∙ ap (λ (n : Serial). withBits (seenIn (g .seen) i .mask) (ofSerial (n .0) (held (d .records)))) (same i);
+            ∙ ap (λ (n : Serial). withBits (seenIn (g .seen) i .mask) (recordsFor (n .0) (held (d .records)))) (same i);
         free = λ i h. o .free i (subst (λ (n : Serial). not (eqb (n .0) 0) ≡ false) (sym (same i)) h);
         unread = o .unread;
         kept = o .kept;
@@ -136,7 +119,7 @@ module _ (g : Gate) (s : Serial) (table : List ℕ) (rest : Word) (masks : lengt
   -- for a room of another serial: only the bits of its records that were held before this feed
   pub rest-others : (i : ℕ) → isHeld (ticketIn (g .desk .tickets) i) ≡ true → (ticketIn (g .desk .tickets) i .serial .0 ≡ s .0 → ⊥)
       → seenIn (restOf g s table rest .gate .seen) i .mask ≡ withBits (seenIn (g .seen) i .mask)
-      (ofSerial (ticketIn (g .desk .tickets) i .serial .0) (held (g .desk .records)))
+      (recordsFor (ticketIn (g .desk .tickets) i .serial .0) (held (g .desk .records)))
   rest-others i h n =
       rest-own .own i h
       ∙ ap (λ (l : List Record). withBits (seenIn (g .seen) i .mask) l) (fed-others (g .desk) s table rest r (ticketIn (g .desk .tickets) i .serial .0) n)
@@ -179,7 +162,7 @@ record Untouched (g : Gate) (s : Serial) (x : Gate) : Type 0 where
   same : (i : ℕ) → (ticketIn (g .desk .tickets) i .serial .0 ≡ s .0 → ⊥) → seenIn (x .seen) i ≡ seenIn (g .seen) i
 
 untouched-rest : (g : Gate) (s : Serial) (table : List ℕ) (x : Gate) (rest : Word) → Untouched g s x → Untouched g s (restOf x s table rest .gate)
-unfolding withBits ofSerial
+unfolding withBits recordsFor
 untouched-rest g s table x rest u = record {
   settled = settled-rest x s table rest (u .settled);
   serials = λ i. ap (λ (l : List Ticket). ticketIn l i .serial) (emptied-none x d (good r .count) .1)
@@ -200,7 +183,7 @@ untouched-rest g s table x rest u = record {
         go true h =
             let m : seenIn (restOf x s table rest .gate .seen) i .mask ≡ seenIn (x .seen) i .mask =
             rest-others x s table rest (u .settled .masks) (u .settled .reached) i h n
-            ∙ ap (λ (l : List Record). withBits (seenIn (x .seen) i .mask) (ofSerial (ticketIn (x .desk .tickets) i .serial .0) l)) (u .settled .none) in
+            ∙ ap (λ (l : List Record). withBits (seenIn (x .seen) i .mask) (recordsFor (ticketIn (x .desk .tickets) i .serial .0) l)) (u .settled .none) in
             let v = rest-own x s table rest (u .settled .masks) (u .settled .reached) .unread i in
             λ z. record { mask = m z; unread = v z }
         go false h = rest-own x s table rest (u .settled .masks) (u .settled .reached) .free i h

@@ -8,18 +8,18 @@ use lib.ListN.{length}
 use Rattle.desk.specs.Laws.Good.{good}
 use Rattle.desk.specs.Reached.{Reached}
 use Rattle.desk.specs.Rooms.{isHeld, roomOf, serialOf, ticketIn}
-use Rattle.desk.specs.Shared.{held}
+use Rattle.desk.specs.Shared.{held, recordsFor}
 use Rattle.desk.specs.declared.Desk.{Desk}
 use Rattle.desk.specs.declared.Record.{Record}
 use Rattle.desk.specs.declared.Ticket.{Ticket}
-use Rattle.gate.specs.Bits.{Apart, ofSerial, withBits}
+use Rattle.gate.specs.Bits.{withBits}
 use Rattle.gate.specs.Feeding.{emptiedOf}
-use Rattle.gate.specs.Laws.Apart.{reached-apart}
 use Rattle.gate.specs.Laws.Own.{all-oldest, noted-free, noted-length, noted-nowhere, noted-own, noted-unread, none-held}
 use Rattle.gate.specs.Noting.{noted, seenIn}
 use Rattle.gate.specs.declared.Gate.{Gate}
 use Rattle.gate.specs.declared.Seen.{Seen}
 use Rattle.desk.specs.Limits.{mostTickets}
+use Rattle.desk.specs.Laws.Apart.{Apart, reached-apart}
 
 -- a gate's masks and a desk: 16 of each, no two rooms held under one serial, and at most 256 records held
 pub record Roomed (g : Gate) (d : Desk) : Type 0 where
@@ -36,7 +36,7 @@ reached-roomed g d w r = record { masks = w; rooms = good r .rooms; apart = reac
 pub record ToTheirOwn (rooms : List Ticket) (before after : List Seen) (records : List Record) : Type 0 where
   -- for a room that is held: the mask from before, with the bits of the records of its serial set, and of no others
   pub own : (i : ℕ) → isHeld (ticketIn rooms i) ≡ true → seenIn after i .mask ≡ withBits (seenIn before i .mask)
-      (ofSerial (ticketIn rooms i .serial .0) records)
+      (recordsFor (ticketIn rooms i .serial .0) records)
   -- for a free room: all as before
   pub free : (i : ℕ) → isHeld (ticketIn rooms i) ≡ false → seenIn after i ≡ seenIn before i
   -- for any room: unread or not, as before

@@ -10,7 +10,7 @@ use Rattle.desk.specs.Rooms.{roomOf, serialOf, ticketIn}
 use Rattle.desk.specs.State.{stateOf}
 use Rattle.desk.specs.declared.Desk.{Desk}
 use Rattle.desk.specs.declared.Serial.{Serial}
-use Rattle.history.specs.History.{accountAt, AllBytes, AsLeft, OpenOrStale, recordsDue, recordsFor, run, start, stream, World}
+use Rattle.history.specs.History.{accountAt, AllBytes, AsLeft, OpenOrStale, recordsDue, run, start, stream, World}
 use Rattle.history.specs.Laws.Answering.{open-room}
 use Rattle.history.specs.Laws.Becomes.{Becomes, becomes-sound}
 use Rattle.history.specs.Laws.Invariant.{Inv, Stranger, inv-start}
@@ -22,6 +22,7 @@ use Rattle.history.specs.Served.{NoneRefused, joined, serving}
 use Rattle.matching.specs.Words.{Word}
 use Rattle.desk.specs.Layout.{Kind}
 use Rattle.history.specs.Cases.{LeftBy}
+use Rattle.desk.specs.Shared.{recordsFor}
 
 -- the serials that openings answered are 1, 2, .. in order, so none was given twice; the edition in force is the number of replacements
 -- accepted; and the desk is one that the calls have made

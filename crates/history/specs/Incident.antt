@@ -7,12 +7,12 @@ use mathlib.Core.Path.{_∙_, _≡_, ap, refl, subst, sym}
 use lib.Dec.{eqb, eqb-refl}
 use lib.ListN.{length, take}
 use Rattle.desk.specs.Rooms.{editionOf, serialOf}
-use Rattle.desk.specs.Shared.{recordOf, recordsOf}
+use Rattle.desk.specs.Shared.{recordOf, recordsFor, recordsOf}
 use Rattle.desk.specs.declared.Edition.{Edition}
 use Rattle.desk.specs.declared.Record.{Record}
 use Rattle.desk.specs.declared.Serial.{Serial}
 use Rattle.history.specs.Demand3.{first-part}
-use Rattle.history.specs.History.{Account, accountAt, AllBytes, AsLeft, recordsDue, recordsFor, run, start, stream}
+use Rattle.history.specs.History.{Account, accountAt, AllBytes, AsLeft, recordsDue, run, start, stream}
 use Rattle.matching.specs.Laws.Bools.{is-true}
 use Rattle.matching.specs.Occurrence.{Occurrence}
 use Rattle.desk.specs.Reached.{Call}

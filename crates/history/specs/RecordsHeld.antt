@@ -12,13 +12,13 @@ use Rattle.desk.specs.Layout.{Lent, deskRead}
 use Rattle.desk.specs.Limits.{mostRecords}
 use Rattle.desk.specs.Numbers.{feedNumber}
 use Rattle.desk.specs.Reached.{Call, afterCall, callClose, callFeed, callOpen, callReplace, callTake}
-use Rattle.desk.specs.Shared.{held, recordsOf}
+use Rattle.desk.specs.Shared.{held, recordsFor, recordsOf}
 use Rattle.desk.specs.declared.Desk.{Desk}
 use Rattle.desk.specs.declared.Record.{Record}
 use Rattle.desk.specs.declared.Serial.{Serial}
 use Rattle.matching.specs.Occurrence.{Occurrence, Ordered}
 use Rattle.matching.specs.Words.{Word}
-use Rattle.history.specs.History.{Account, World, recordsFor, stream}
+use Rattle.history.specs.History.{Account, World, stream}
 use Rattle.matching.specs.Tags.{foundIn}
 use Rattle.desk.specs.declared.Advance.{Advance}
 

@@ -1,19 +1,23 @@
 -- The ring as a list: pushing puts a record behind those held, popping takes the oldest.
 use Prim.Native.Nat.{_%_, _+_, _-_, _<_, _≤_, suc, zero, ℕ}
-use mathlib.Core.List.{List, [], _++_, _∷_, append-assoc, append-nil}
+use mathlib.Core.List.{[], _++_, _∷_, append-assoc, append-nil, List}
 use mathlib.Core.Path.{_∙_, _≡_, ap, ap₂, refl, sym}
 use native.Mathlib.Nat.{mod-eq-of-lt}
 use native.Mathlib.Numerals.{add-one}
 use native.Mathlib.Omega.{arith}
 use lib.ListN.{getD, length, length-map, length-set, set}
 use lib.Seq.{getD-set-other, getD-set-same}
-use Rattle.desk.specs.Shared.{held, noRecord, paired, popped, push, pushAll, recordOf, recordsOf, round}
+use Rattle.desk.specs.Shared.{held, noRecord, paired, popped, push, pushAll, recordOf, recordsFor, recordsOf, round}
 use Rattle.desk.specs.declared.Edition.{Edition}
 use Rattle.desk.specs.declared.Record.{Record}
 use Rattle.desk.specs.declared.Records.{Records}
 use Rattle.desk.specs.declared.Serial.{Serial}
 use Rattle.matching.specs.Laws.AnyTable.{Every}
-use Rattle.matching.specs.Occurrence.{Occurrence, flat}
+use Rattle.matching.specs.Occurrence.{flat, Occurrence}
+use mathlib.Core.Bool.{Bool, cond, false, true}
+use lib.Dec.{eqb, eqb-refl}
+use Rattle.matching.specs.Laws.Bools.{is-false, is-true}
+use Rattle.matching.specs.Laws.Words.{eqb-eq}
 
 round-wrap : (l : List Record) (h n : ℕ) → round l (h % 256) n ≡ round l h n
 unfolding round
@@ -98,3 +102,31 @@ pub paired-flat : (os : List Occurrence) (rest : List ℕ) → Every (λ o. o .t
 unfolding paired flat
 paired-flat [] rest h = refl
 paired-flat (o ∷ os) rest h = ap₂ (λ (t : ℕ) (l : List Occurrence). record { end = o .end; tag = t } ∷ l) (mod-eq-of-lt (h .0)) (paired-flat os rest (h .1))
+
+-- ---- the records of a serial
+
+pub recordsFor-append : (n : ℕ) (a b : List Record) → recordsFor n (a ++ b) ≡ recordsFor n a ++ recordsFor n b
+unfolding recordsFor
+recordsFor-append n [] b = refl
+recordsFor-append n (r ∷ a) b = go (eqb (r .serial .0) n) (recordsFor-append n a b)
+  where
+    go : (t : Bool) → recordsFor n (a ++ b) ≡ recordsFor n a ++ recordsFor n b
+        → cond t (r ∷ recordsFor n (a ++ b)) (recordsFor n (a ++ b)) ≡ cond t (r ∷ recordsFor n a) (recordsFor n a) ++ recordsFor n b
+    go true e = ap {B = List Record} (λ (l : List Record). r ∷ l) e
+    go false e = e
+
+-- records of one serial are all its own, and none of another's
+pub recordsFor-own : (s : Serial) (e : Edition) (os : List Occurrence) → recordsFor (s .0) (recordsOf s e os) ≡ recordsOf s e os
+unfolding recordsFor
+recordsFor-own s e [] = refl
+recordsFor-own s e (o ∷ os) = rw (is-true (eqb (s .0) (s .0)) (eqb-refl (s .0)))
+    (ap {B = List Record} (λ (l : List Record). recordOf s e o ∷ l) (recordsFor-own s e os))
+
+pub recordsFor-other : (n : ℕ) (s : Serial) (e : Edition) (os : List Occurrence) → (s .0 ≡ n → ⊥) → recordsFor n (recordsOf s e os) ≡ []
+unfolding recordsFor
+recordsFor-other n s e [] h = refl
+recordsFor-other n s e (o ∷ os) h = rw (is-false (eqb (s .0) n) (λ q. h (eqb-eq (s .0) n q))) (recordsFor-other n s e os h)
+
+pub recordsOf-append : (s : Serial) (e : Edition) (a b : List Occurrence) → recordsOf s e (a ++ b) ≡ recordsOf s e a ++ recordsOf s e b
+recordsOf-append s e [] b = refl
+recordsOf-append s e (o ∷ a) b = ap {B = List Record} (λ (l : List Record). recordOf s e o ∷ l) (recordsOf-append s e a b)

@@ -13,20 +13,21 @@ use borrow.Author.Tests.{eqb-false, eqb-true}
 use Rattle.desk.specs.Laws.Rooms.{firstRoom-found, firstRoom-holds, for-held, held-for, held-inside}
 use Rattle.desk.specs.Laws.Shared.{held-popped}
 use Rattle.desk.specs.Rooms.{isFor, isHeld, roomOf, serialOf, ticketIn}
-use Rattle.desk.specs.Shared.{held, noRecord, popped, round}
+use Rattle.desk.specs.Shared.{held, noRecord, popped, recordsFor, round}
 use Rattle.desk.specs.TakeMany.{manyOf, oldest, takeManyOf, without}
 use Rattle.desk.specs.declared.Desk.{Desk}
 use Rattle.desk.specs.declared.Record.{Record}
 use Rattle.desk.specs.declared.Records.{Records}
 use Rattle.desk.specs.declared.Serial.{Serial}
 use Rattle.desk.specs.declared.Ticket.{Ticket}
-use Rattle.gate.specs.Bits.{Apart, ofSerial, withBits}
+use Rattle.gate.specs.Bits.{withBits}
 use Rattle.gate.specs.Feeding.{emptiedOf}
 use Rattle.gate.specs.Noting.{marked, noted, notedOne, seenIn}
 use Rattle.gate.specs.declared.Gate.{Gate}
 use Rattle.gate.specs.declared.Seen.{Seen}
 use Rattle.matching.specs.Laws.Bools.{not-both}
 use Rattle.desk.specs.Limits.{mostTickets}
+use Rattle.desk.specs.Laws.Apart.{Apart}
 
 abbrev nothingSeen : Seen
 nothingSeen = record { mask = 0; unread = 1 }
@@ -102,8 +103,8 @@ module _ (rooms : List Ticket) (wide : length rooms ≡ mostTickets) where
       apart (roomOf rooms s) i (k .0) h (k .1)
 
   pub noted-own : Apart rooms → (seen : List Seen) (rs : List Record) → length seen ≡ mostTickets → (i : ℕ) → isHeld (ticketIn rooms i) ≡ true
-      → seenIn (noted rooms seen rs) i .mask ≡ withBits (seenIn seen i .mask) (ofSerial (ticketIn rooms i .serial .0) rs)
-  unfolding noted withBits ofSerial
+      → seenIn (noted rooms seen rs) i .mask ≡ withBits (seenIn seen i .mask) (recordsFor (ticketIn rooms i .serial .0) rs)
+  unfolding noted withBits recordsFor
   noted-own apart seen [] w i h = refl
   noted-own apart seen (r ∷ rs) w i h = noted-own apart next rs (length-set seen (roomOf rooms (serialOf (r .serial .0))) _ ∙ w) i h
       ∙ go (eqb (r .serial .0) n) refl
@@ -115,16 +116,16 @@ module _ (rooms : List Ticket) (wide : length rooms ≡ mostTickets) where
       next = notedOne rooms seen (r .serial .0) (r .tag .0)
 
       go : (t : Bool) → eqb (r .serial .0) n ≡ t
-          → withBits (seenIn next i .mask) (ofSerial n rs) ≡ withBits (seenIn seen i .mask) (cond t (r ∷ ofSerial n rs) (ofSerial n rs))
+          → withBits (seenIn next i .mask) (recordsFor n rs) ≡ withBits (seenIn seen i .mask) (cond t (r ∷ recordsFor n rs) (recordsFor n rs))
       go true e =
           let at : roomOf rooms (serialOf (r .serial .0)) ≡ i =
           ap (λ (m : ℕ). roomOf rooms (serialOf m)) (eqb-true (r .serial .0) n e) ∙ its-room apart i h in
           let here : seenIn next i ≡ marked (seenIn seen i) (r .tag .0) =
           ap (λ (k : ℕ). getD (set seen k (marked (seenIn seen k) (r .tag .0))) i nothingSeen) at
           ∙ getD-set-same seen i _ nothingSeen (omega (arith, w, wide, held-inside rooms i h)) in
-          ap (λ (x : Seen). withBits (x .mask) (ofSerial n rs)) here
+          ap (λ (x : Seen). withBits (x .mask) (recordsFor n rs)) here
       go false e =
-          ap (λ (x : Seen). withBits (x .mask) (ofSerial n rs))
+          ap (λ (x : Seen). withBits (x .mask) (recordsFor n rs))
           (one-other seen (r .serial .0) (r .tag .0) i w
           (λ k q. eqb-false (r .serial .0) n e (sym (has-room (serialOf (r .serial .0)) k .1) ∙ ap (λ (m : ℕ). ticketIn rooms m .serial .0) (sym q))))
 

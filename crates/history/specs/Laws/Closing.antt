@@ -1,10 +1,8 @@
 -- A closing: the account is closed and its room is free.
 use Prim.Native.Nat.{_<_, _≤_, suc, ℕ}
-use mathlib.Core.Bool.{false, false≢true, true}
+use mathlib.Core.Bool.{false, true}
 use mathlib.Core.List.{List}
-use mathlib.Core.Logic.{inl, inr}
 use mathlib.Core.Path.{_∙_, _≡_, refl, subst, sym}
-use native.Mathlib.Nat.{le-of-eq, le-trans}
 use native.Mathlib.Omega.{arith}
 use lib.ListN.{length, set}
 use Rattle.desk.specs.Calls.{withTicket}
@@ -14,11 +12,12 @@ use Rattle.desk.specs.Rooms.{freeTicket, isFor, roomOf, serialOf, ticketIn}
 use Rattle.desk.specs.declared.Closing.{Closing}
 use Rattle.desk.specs.declared.Serial.{Serial}
 use Rattle.desk.specs.declared.Ticket.{Ticket}
-use Rattle.history.specs.History.{Account, World, accountAt, closing, onSerial, recordsDue, recordsFor, shut, step, stream, withAccounts}
+use Rattle.history.specs.History.{Account, World, accountAt, closing, onSerial, recordsDue, shut, step, stream, withAccounts}
 use Rattle.history.specs.Laws.Accounts.{onSerial-length}
-use Rattle.history.specs.Laws.Invariant.{Inv, Kept, Stranger, changed-each, given, wide}
-use Rattle.history.specs.Laws.Seats.{Seat, for-other, no-seat, room-for, room-kept, seat-gone, seat-kept, unique-set}
+use Rattle.history.specs.Laws.Invariant.{changed-each, given, Inv, Kept, Stranger, unique, wide}
+use Rattle.history.specs.Laws.Seats.{Seat, for-other, no-seat, room-for, seat-gone, seat-kept}
 use Rattle.desk.specs.Limits.{mostTickets}
+use Rattle.desk.specs.Shared.{recordsFor}
 
 module _ {Left : Type 0} (w : World) (v : Inv Left w) (s : Serial) (i : ℕ) (ei : i ≡ roomOf (w .desk .tickets) s) (hi : i < mostTickets)
     (p : Reached (withTicket (w .desk) i freeTicket))
@@ -47,14 +46,7 @@ module _ {Left : Type 0} (w : World) (v : Inv Left w) (s : Serial) (i : ℕ) (ei
   gone =
       no-seat refl
       (subst (λ (n : Serial). mostTickets ≤ roomOf (set rooms i freeTicket) n) (λ d. record { 0 = (ek ∙ sym (v .numbered k hk)) d })
-      (seat-gone rooms (wide w v) s i (v .unique) ei hi))
-
-  stranger : (n : Serial) → Stranger (length (after .accounts)) (n .0) → isFor n (ticketIn rooms i) ≡ false
-  stranger n h = for-other s n (ticketIn rooms i) mine (λ e. no h e)
-    where
-      no : Stranger (length (after .accounts)) (n .0) → s .0 ≡ n .0 → ⊥
-      no (inl z) e = omega (arith, z, e, ek)
-      no (inr z) e = omega (arith, z, e, ek, hk, count)
+      (seat-gone rooms (wide w v) s i (unique w v) ei hi))
 
   pub inv-closed : Inv Left after
   inv-closed = record {
@@ -66,9 +58,6 @@ module _ {Left : Type 0} (w : World) (v : Inv Left w) (s : Serial) (i : ℕ) (ei
     kept = each (λ j a. Kept (w .edition) (w .tags) a) (λ j h n. v .kept j h) (same-kept (v .kept k hk));
     seats = each (λ j a. Seat Left (set rooms i freeTicket) a)
         (λ j h n. seat-kept rooms (wide w v) i freeTicket hi (accountAt w j) (apart j h n) refl (v .seats j h)) gone;
-    strangers = λ n h. le-trans (v .strangers n (subst (λ (c : ℕ). Stranger c (n .0)) count h))
-        (le-of-eq (sym (room-kept rooms (wide w v) i freeTicket hi n (stranger n h) refl)));
-    unique = unique-set rooms (wide w v) i freeTicket hi (v .unique) (λ n j a b c. false≢true c);
     records = λ l. each (λ j a. recordsFor (suc j) (stream w) ≡ recordsDue a) (λ j h n. v .records l j h) (v .records l k hk);
     nobody = λ n h. v .nobody n (subst (λ (c : ℕ). Stranger c n) count h);
   }

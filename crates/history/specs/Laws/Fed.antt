@@ -4,26 +4,26 @@ use mathlib.Core.Bool.{true}
 use mathlib.Core.List.{List, [], _++_, _∷_, append-assoc, append-nil}
 use mathlib.Core.Logic.{inl, inr}
 use mathlib.Core.Path.{_∙_, _≡_, ap, ap₂, refl, subst, sym}
-use native.Mathlib.Nat.{le-of-eq, le-trans, zero-add}
+use native.Mathlib.Nat.{zero-add}
 use native.Mathlib.Omega.{arith}
 use lib.ListN.{length, length-append, set, take}
 use lib.Seq.{length-take-le}
 use Rattle.desk.specs.Feed.{fedBy, readFor, readOn}
 use Rattle.desk.specs.Laws.Good.{GoodDesk, good}
-use Rattle.desk.specs.Laws.Rooms.{firstRoom-kept, for-held, held-for}
-use Rattle.desk.specs.Laws.Shared.{held-pushAll, recordsOf-length}
+use Rattle.desk.specs.Laws.Rooms.{for-held}
+use Rattle.desk.specs.Laws.Shared.{held-pushAll, recordsFor-append, recordsFor-other, recordsFor-own, recordsOf-append, recordsOf-length}
 use Rattle.desk.specs.Reached.{Reached}
 use Rattle.desk.specs.Rooms.{editionOf, isFor, roomOf, serialOf, ticketIn}
-use Rattle.desk.specs.Shared.{held, pushAll, recordsOf}
+use Rattle.desk.specs.Shared.{held, pushAll, recordsFor, recordsOf}
 use Rattle.desk.specs.declared.Desk.{Desk}
 use Rattle.desk.specs.declared.Record.{Record}
 use Rattle.desk.specs.declared.Serial.{Serial}
 use Rattle.desk.specs.declared.Ticket.{Ticket}
-use Rattle.history.specs.History.{Account, World, accountAt, grown, onSerial, recordsDue, recordsFor, stream, withAccounts}
-use Rattle.history.specs.Laws.Accounts.{onSerial-length, recordsFor-append, recordsFor-other, recordsFor-own, recordsOf-append}
+use Rattle.history.specs.History.{Account, World, accountAt, grown, onSerial, recordsDue, stream, withAccounts}
+use Rattle.history.specs.Laws.Accounts.{onSerial-length}
 use Rattle.history.specs.Laws.Feeding.{agrees, live, mine, read-done}
 use Rattle.history.specs.Laws.Invariant.{Inv, Kept, Stranger, changed-each, wide}
-use Rattle.history.specs.Laws.Seats.{Agrees, Seat, for-other, seat-kept, seat-same, seated, unique-set}
+use Rattle.history.specs.Laws.Seats.{Agrees, Seat, for-other, seat-kept, seat-same, seated}
 use Rattle.matching.specs.Laws.Occurrences.{occurrencesBy-append}
 use Rattle.matching.specs.Occurrence.{Occurrence}
 use Rattle.matching.specs.Reading.{Outcome}
@@ -186,13 +186,7 @@ module _ {Left : Type 0} (w : World) (v : Inv Left w) (s : Serial) (k : ℕ) (hk
     seats = each (λ j x. Seat Left (set rooms i (readOn t r)) x)
         (λ j h n. seat-kept rooms (wide w v) i (readOn t r) hi (accountAt w j) (for-other s _ t for-s (apart j h n))
         (for-other s _ (readOn t r) read-for (apart j h n)) (v .seats j h)) seat;
-    strangers = λ n h. le-trans (v .strangers n (subst (λ (c : ℕ). Stranger c (n .0)) count h))
-        (le-of-eq (sym (firstRoom-kept (isFor n) rooms i (readOn t r) refl)));
-    unique = unique-set rooms (wide w v) i (readOn t r) hi (v .unique) (λ n j ne x y. ne (v .unique n j i x (same-for n y)));
     records = λ l. each (λ j x. recordsFor (suc j) (stream after) ≡ recordsDue x) (λ j h n. elsewhere (suc j) (λ e. n (omega (arith, e))) ∙ v .records l j h)
         (here l);
     nobody = λ n h. elsewhere n (stranger n h) ∙ v .nobody n (subst (λ (c : ℕ). Stranger c n) count h);
   }
-    where
-      same-for : (n : Serial) → isFor n (readOn t r) ≡ true → isFor n t ≡ true
-      same-for n y = held-for n t (for-held s t for-s .0) (for-held n (readOn t r) y .1)

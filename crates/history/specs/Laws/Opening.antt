@@ -2,9 +2,8 @@
 use Prim.Native.Nat.{_+_, _<_, _≤_, suc, zero, ℕ}
 use mathlib.Core.Bool.{false, true}
 use mathlib.Core.List.{List, [], _++_, _∷_}
-use mathlib.Core.Logic.{inl, inr}
+use mathlib.Core.Logic.{inr}
 use mathlib.Core.Path.{_≡_, refl, subst, sym}
-use native.Mathlib.Nat.{le-of-eq, le-trans}
 use native.Mathlib.Omega.{arith}
 use lib.ListN.{length, set}
 use Rattle.desk.specs.Calls.{openedIn}
@@ -15,14 +14,15 @@ use Rattle.desk.specs.Rooms.{freeRoom, isFor, isFree, isHeld, newTicket, roomOf
 use Rattle.desk.specs.declared.Opening.{Opening}
 use Rattle.desk.specs.declared.Serial.{Serial}
 use Rattle.desk.specs.declared.Ticket.{Ticket}
-use Rattle.history.specs.History.{Account, World, accountAt, newAccount, noAccount, opening, recordsDue, recordsFor, step, stream, withAccounts}
-use Rattle.history.specs.Laws.Invariant.{InForce, Inv, Kept, Stranger, stranger-less, wide}
-use Rattle.history.specs.Laws.Seats.{Agrees, Seat, for-other, has-room, room-kept, seat-kept, seat-new, seated, unique-set}
+use Rattle.history.specs.History.{Account, World, accountAt, newAccount, noAccount, opening, recordsDue, step, stream, withAccounts}
+use Rattle.history.specs.Laws.Invariant.{InForce, Inv, Kept, stranger-less, strangers, wide}
+use Rattle.history.specs.Laws.Seats.{Agrees, Seat, for-other, seat-kept, seat-new, seated}
 use Rattle.history.specs.Laws.Snoc.{snoc-each, snoc-length}
 use Rattle.matching.specs.Laws.Bools.{is-false, not-both}
 use Rattle.matching.specs.Occurrence.{occurrencesBy}
 use Rattle.desk.specs.Laws.Layout.{start-after}
 use Rattle.desk.specs.Limits.{mostTickets}
+use Rattle.desk.specs.Shared.{recordsFor}
 
 module _ {Left : Type 0} (w : World) (v : Inv Left w) (i : ℕ) (ei : i ≡ freeRoom (w .desk .tickets)) (hi : i < mostTickets)
     (some : w .desk .edition .0 ≡ 0 → ⊥) (p : Reached (openedIn (w .desk) i)) where
@@ -59,7 +59,7 @@ module _ {Left : Type 0} (w : World) (v : Inv Left w) (i : ℕ) (ei : i ≡ free
       is-false (isFor s (ticketIn rooms i)) (λ h. not-both (for-held s (ticketIn rooms i) h .0) f)
 
   unseen : mostTickets ≤ roomOf rooms serial
-  unseen = v .strangers serial (inr (omega (arith, number)))
+  unseen = strangers w v serial (inr (omega (arith, number)))
 
   mine : isFor serial ticket ≡ true
   mine = held-for serial ticket (new-held (w .desk .serial .0) (w .desk .edition)) refl
@@ -79,19 +79,10 @@ module _ {Left : Type 0} (w : World) (v : Inv Left w) (i : ℕ) (ei : i ≡ free
     seats = each (λ k a. Seat Left (set rooms i ticket) a)
         (λ k h. seat-kept rooms (wide w v) i ticket hi (accountAt w k) (free _) (others _ (λ e. omega (arith, e, v .numbered k h, h, number)))
         (v .seats k h)) new-seat;
-    strangers = λ s h. le-trans (v .strangers s (stranger-less (length (w .accounts)) (length (after .accounts)) (s .0) (omega (arith, count)) h))
-        (le-of-eq (sym (room-kept rooms (wide w v) i ticket hi s (free s) (others s (stranger s h)))));
-    unique = unique-set rooms (wide w v) i ticket hi (v .unique) (λ s j n a b.
-        let e = for-held s ticket b .1 in
-        omega (arith, unseen, has-room rooms (wide w v) serial j (subst (λ (x : Serial). isFor x (ticketIn rooms j) ≡ true) (λ d. record { 0 = sym e d }) a)));
     records = λ l. each (λ k a. recordsFor (suc k) (stream w) ≡ recordsDue a) (v .records l) (v .nobody (suc (length (w .accounts))) (inr (omega arith)));
     nobody = λ n h. v .nobody n (stranger-less (length (w .accounts)) (length (after .accounts)) n (omega (arith, count)) h);
   }
     where
-      stranger : (s : Serial) → Stranger (length (after .accounts)) (s .0) → s .0 ≡ serial .0 → ⊥
-      stranger s (inl e) q = omega (arith, e, q)
-      stranger s (inr e) q = omega (arith, e, q, count, number)
-
       pos : (n : ℕ) → (n ≡ 0 → ⊥) → 0 < n
       pos zero f = absurd (f refl)
       pos (suc n) f = omega arith

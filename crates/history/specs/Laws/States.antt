@@ -15,12 +15,13 @@ use Rattle.desk.specs.declared.Serial.{Serial}
 use Rattle.desk.specs.declared.StateAnswer.{StateAnswer}
 use Rattle.desk.specs.declared.StateAnswer.the-variants as A
 use Rattle.desk.specs.declared.Ticket.{Ticket}
-use Rattle.history.specs.History.{Account, World, accountAt, noAccount, recordsDue, recordsFor, stream}
-use Rattle.history.specs.Laws.Invariant.{Inv, Stranger}
+use Rattle.history.specs.History.{Account, World, accountAt, noAccount, recordsDue, stream}
+use Rattle.history.specs.Laws.Invariant.{Inv, Stranger, strangers}
 use Rattle.history.specs.Laws.Numbers.{ltb-no}
 use Rattle.history.specs.Laws.Seats.{Seat, no-seat, seated}
 use Rattle.matching.specs.Laws.Bools.{and-both, and-l, and-r, is-false}
 use Rattle.desk.specs.Limits.{mostTickets}
+use Rattle.desk.specs.Shared.{recordsFor}
 
 -- what an account says of its ticket, under an edition in force
 abbrev pub stateOfAccount : ℕ → Account → StateAnswer
@@ -75,7 +76,7 @@ module _ {Left : Type 0} (w : World) (v : Inv Left w) where
   state-none s h =
       let t = ticketIn (w .desk .tickets) (roomOf (w .desk .tickets) s) in
       ap₂ (λ (x y : Bool). stateBy (t .edition) (t .taken) x (eqb (t .edition .0) (w .desk .edition .0)) y)
-      (ltb-no (roomOf (w .desk .tickets) s) mostTickets (v .strangers s h))
+      (ltb-no (roomOf (w .desk .tickets) s) mostTickets (strangers w v s h))
       (is-false (isGiven s (w .desk .serial))
       (λ e. no h (and-l (not (eqb (s .0) 0)) (not (ltb (w .desk .serial .0) (s .0))) e)
       (and-r (not (eqb (s .0) 0)) (not (ltb (w .desk .serial .0) (s .0))) e)))

@@ -10,23 +10,23 @@ use Rattle.desk.specs.Calls.{withTicket}
 use Rattle.desk.specs.Feed.{fedBy, readFor}
 use Rattle.desk.specs.Laws.Good.{good, on-place, room-held}
 use Rattle.desk.specs.Laws.Rooms.{for-held}
-use Rattle.desk.specs.Laws.Shared.{recordsOf-length}
+use Rattle.desk.specs.Laws.Shared.{recordsFor-own, recordsOf-length}
 use Rattle.desk.specs.Laws.Views.{Closes, close-done, close-no-ticket, closes}
 use Rattle.desk.specs.Laws.Views.{Feeds, feed-long, feed-no-place, feed-no-ticket, feed-other-slots, feed-read, feed-stale, feeds}
 use Rattle.desk.specs.Laws.Views.{Opens, open-done, open-no-room, open-no-set, open-serial-end, opens}
 use Rattle.desk.specs.Laws.Views.{Replaces, replace-done, replace-edition-end, replace-fault, replace-table, replaces}
 use Rattle.desk.specs.Laws.Views.{takes}
 use Rattle.desk.specs.Rooms.{freeTicket, roomOf, ticketIn}
-use Rattle.desk.specs.Shared.{recordsOf}
+use Rattle.desk.specs.Shared.{recordsFor, recordsOf}
 use Rattle.desk.specs.declared.Closing.{Closing}
 use Rattle.desk.specs.declared.Feeding.{Feeding}
 use Rattle.desk.specs.declared.Opening.{Opening}
 use Rattle.desk.specs.declared.Replacing.{Replacing}
 use Rattle.desk.specs.declared.Serial.{Serial}
 use Rattle.history.specs.History.{Account, AllBytes, AsLeft, LentAsLeft, OfBytes, World}
-use Rattle.history.specs.History.{accountAt, closing, feeding, grown, newAccount, noAccount, onSerial, opening, recordsFor, replacing, run, shut, step}
+use Rattle.history.specs.History.{accountAt, closing, feeding, grown, newAccount, noAccount, onSerial, opening, replacing, run, shut, step}
 use Rattle.history.specs.History.{stream}
-use Rattle.history.specs.Laws.Accounts.{grown-none, recordsFor-own}
+use Rattle.history.specs.Laws.Accounts.{grown-none}
 use Rattle.history.specs.Laws.Fed.{stream-fed}
 use Rattle.history.specs.Laws.Feeding.{read-done}
 use Rattle.history.specs.Laws.Invariant.{Inv, changed-is, given}

@@ -1,8 +1,8 @@
 -- Feeding a piece, over any table, leaves each serial its room, each ticket its edition, and each room read or unread as it was.
 use Prim.Native.Nat.{ℕ, zero, suc, _+_, _<_}
-use mathlib.Core.Bool.{Bool, _&&_, cond, false, not, true}
+use mathlib.Core.Bool.{Bool, cond, false, true}
 use mathlib.Core.List.{List}
-use mathlib.Core.Path.{_≡_, _∙_, refl, sym, ap, subst}
+use mathlib.Core.Path.{_≡_, _∙_, refl, sym, ap}
 use native.Mathlib.Decide.{decLt, ℕ-discrete}
 use native.Mathlib.Omega.{arith}
 use lib.Dec.{eqb, ltb}
@@ -22,7 +22,6 @@ use Rattle.desk.specs.declared.Ticket.{Ticket}
 use Rattle.gate.specs.Feeding.{fedOn, restOf}
 use Rattle.gate.specs.Noting.{seenIn}
 use Rattle.gate.specs.declared.Gate.{Gate}
-use Rattle.history.specs.Laws.Seats.{Unique}
 use Rattle.matching.specs.Words.{Word}
 use Rattle.gate.specs.Laws.Own.{noted-length, noted-unread}
 
@@ -36,12 +35,6 @@ pub record SameRooms (d e : Desk) : Type 0 where
 
 pub same-none : (d : Desk) → SameRooms d d
 same-none d = record { rooms = λ n. refl; serials = λ i. refl; editions = λ i. refl; serial = refl; edition = refl }
-
-pub same-unique : {d e : Desk} → SameRooms d e → Unique (d .tickets) → Unique (e .tickets)
-same-unique {d} {e} a u s i j h k = u s i j (was i h) (was j k)
-  where
-    was : (i : ℕ) → isFor s (ticketIn (e .tickets) i) ≡ true → isFor s (ticketIn (d .tickets) i) ≡ true
-    was i h = subst (λ (x : Serial). (not (eqb (x .0) 0) && eqb (x .0) (s .0)) ≡ true) (a .serials i) h
 
 -- a ticket changed but for its serial and edition
 ticket-set : (rooms : List Ticket) (i j : ℕ) (t : Ticket) → t .serial ≡ ticketIn rooms i .serial → t .edition ≡ ticketIn rooms i .edition

@@ -19,7 +19,7 @@ use Rattle.gate.specs.declared.Verdict.{Verdict}
 use Rattle.history.specs.Laws.Numbers.{lower}
 use Rattle.matching.specs.Laws.Bools.{not-both}
 use Rattle.verdicts.specs.GateHistory.{GateWorld, NotReplaced, Readable, Replaced, Undecided, approvalAt}
-use Rattle.verdicts.specs.Laws.Standing.{Kept, Sits, Standing, sits, stood}
+use Rattle.verdicts.specs.Laws.Standing.{Kept, Sits, sits, Standing, stood, strangers}
 use Rattle.desk.specs.Limits.{mostTickets}
 
 -- the tags kept for a serial
@@ -52,11 +52,11 @@ module _ (g : GateWorld) (v : Standing g) where
   waiting s h = go (s .0) refl
     where
       go : (n : ℕ) → s .0 ≡ n → (k : ℕ) × Undecided g s k
-      go zero e = absurd (omega (arith, h, v .strangers s (inl e)))
+      go zero e = absurd (omega (arith, h, strangers g v s (inl e)))
       go (suc k) e = known (decLe (suc k) (length (g .approvals)))
         where
           known : Dec (suc k ≤ length (g .approvals)) → (k : ℕ) × Undecided g s k
-          known (no p) = absurd (omega (arith, h, v .strangers s (inr (omega (arith, e, p)))))
+          known (no p) = absurd (omega (arith, h, strangers g v s (inr (omega (arith, e, p)))))
           known (yes p) = (k, record { inside = p; serial = same; undecided = live (v .seats k p) })
             where
               same : approvalAt g k .serial ≡ s .0

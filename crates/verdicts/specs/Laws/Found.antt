@@ -10,12 +10,12 @@ use native.Mathlib.Omega.{arith}
 use lib.ListN.{length}
 use lib.Pow.{pow-pos}
 use Rattle.desk.specs.Rooms.{editionOf, roomOf, serialOf}
-use Rattle.desk.specs.Shared.{recordOf}
+use Rattle.desk.specs.Shared.{recordOf, recordsFor}
 use Rattle.desk.specs.declared.Record.{Record}
 use Rattle.desk.specs.declared.Serial.{Serial}
 use Rattle.gate.specs.Noting.{seenIn}
 use Rattle.gate.specs.declared.Seen.{Seen}
-use Rattle.history.specs.History.{accountAt, OpenTicket, Proper, recordsFor, run, start, stream, World}
+use Rattle.history.specs.History.{accountAt, OpenTicket, Proper, run, start, stream, World}
 use Rattle.history.specs.Laws.Feeding.{agrees, live}
 use Rattle.history.specs.Laws.Invariant.{Inv}
 use Rattle.history.specs.Laws.LedgerSteps.{sound-left}

@@ -5,7 +5,7 @@ use mathlib.Core.Bool.{Bool, false, true}
 use mathlib.Core.List.{List, [], _++_, _∷_}
 use mathlib.Core.Logic.{inl, inr}
 use mathlib.Core.Path.{_≡_, _∙_, refl, sym, ap, subst}
-use native.Mathlib.Nat.{le-of-eq, le-trans}
+use native.Mathlib.Nat.{le-of-eq}
 use native.Mathlib.Omega.{arith}
 use lib.Dec.{eqb, ltb}
 use lib.ListN.{length, length-append, length-set, set}
@@ -29,22 +29,23 @@ use Rattle.gate.specs.Gate.{beginOf, changeOf, cutIn, decideBy, decideOf, ended
 use Rattle.gate.specs.Noting.{begunSeen, seenIn, unseen}
 use Rattle.gate.specs.declared.Seen.{Seen}
 use Rattle.gate.specs.declared.feeding.Fed.{Fed}
-use Rattle.history.specs.Laws.Invariant.{Stranger, stranger-less}
+use Rattle.history.specs.Laws.Invariant.{Stranger}
 use Rattle.history.specs.Laws.Numbers.{differ, lower}
-use Rattle.history.specs.Laws.Seats.{Unique, for-other, has-room, nobody-new, room-for, room-kept, seat-gone, seat-new, ticket-kept, unique-new, unique-set}
+use Rattle.history.specs.Laws.Seats.{for-other, room-for, room-kept, seat-gone, seat-new, ticket-kept}
 use Rattle.history.specs.Laws.Snoc.{snoc-each, snoc-length}
 use Rattle.matching.specs.Laws.Bools.{is-false, not-both}
 use Rattle.matching.specs.Words.{Word}
 use Rattle.verdicts.specs.GateHistory.{Approval, GateAct, GateWorld, approvalAt, begunWith, decidedWith, gateBegin, gateDecide, gatePiece, gateReplace}
 use Rattle.verdicts.specs.GateHistory.{gateRun, gateStart, gateStep, handedCut, handedWhole, handedWith, newApproval, noApproval, onApproval}
 use Rattle.verdicts.specs.GateHistory.{replacedWith, settled, withApprovals}
-use Rattle.verdicts.specs.Laws.Alike.{Alike, fed-alike, same-unique}
+use Rattle.verdicts.specs.Laws.Alike.{Alike, fed-alike}
 use Rattle.verdicts.specs.Laws.Approvals.{on-each, on-length, verdict-settles}
 use Rattle.verdicts.specs.Laws.Counted.{FedCounted, fed-counted}
 use Rattle.verdicts.specs.Laws.Masks.{nothingSeen, rooms-apart}
 use Rattle.desk.specs.Layout.{Kind, Lent, Order, sizesOf}
 use Rattle.desk.specs.Limits.{mostTickets}
 use Rattle.desk.specs.Calls.{openedIn}
+use Rattle.desk.specs.Laws.Apart.{reached-unique, unknown-room}
 
 -- what a room keeps for an approval: the ticket is of the edition that the count of replacements was, and unread is 0 while it is whole
 pub record Kept (t : Ticket) (x : Seen) (p : Approval) : Type 0 where
@@ -86,8 +87,14 @@ pub record Standing (g : GateWorld) : Type 0 where
   pub upto : (k : ℕ) → k < length (g .approvals) → approvalAt g k .accepted ≤ g .accepted
   pub seats : (k : ℕ) → k < length (g .approvals) → Sits (g .gate .desk .tickets) (g .gate .seen) (approvalAt g k)
   pub counts : (k : ℕ) → k < length (g .approvals) → Counts (g .gate .desk .tickets) (approvalAt g k)
-  pub strangers : (s : Serial) → Stranger (length (g .approvals)) (s .0) → mostTickets ≤ roomOf (g .gate .desk .tickets) s
-  pub unique : Unique (g .gate .desk .tickets)
+
+-- a serial that no beginning answered has no room
+pub strangers : (g : GateWorld) → Standing g → (s : Serial) → Stranger (length (g .approvals)) (s .0) → mostTickets ≤ roomOf (g .gate .desk .tickets) s
+strangers g v s z = unknown-room (v .reached) s (go z)
+  where
+    go : Stranger (length (g .approvals)) (s .0) → Stranger (g .gate .desk .serial .0) (s .0)
+    go (inl e) = inl e
+    go (inr e) = inr (omega (arith, e, v .serials))
 
 pub standing-start : (kind : Kind) → Standing (gateStart kind)
 standing-start kind = record {
@@ -99,8 +106,6 @@ standing-start kind = record {
   upto = λ k h. absurd (omega arith);
   seats = λ k h. absurd (omega arith);
   counts = λ k h. absurd (omega arith);
-  strangers = λ s h. nobody-new s;
-  unique = unique-new;
 }
 
 module _ (g : GateWorld) (v : Standing g) where
@@ -129,8 +134,6 @@ module _ (g : GateWorld) (v : Standing g) where
         upto = λ k h. omega (arith, v .upto k h);
         seats = v .seats;
         counts = v .counts;
-        strangers = v .strangers;
-        unique = v .unique;
       }
 
   -- a new approval
@@ -160,7 +163,7 @@ module _ (g : GateWorld) (v : Standing g) where
     mine = held-for s t (new-held (g .gate .desk .serial .0) (g .gate .desk .edition)) refl
 
     unknown : mostTickets ≤ roomOf rooms s
-    unknown = v .strangers s (inr (omega (arith, number)))
+    unknown = strangers g v s (inr (omega (arith, number)))
 
     was-free : (n : Serial) → isFor n (ticketIn rooms i) ≡ false
     was-free n =
@@ -206,10 +209,6 @@ module _ (g : GateWorld) (v : Standing g) where
     its-counts : Counts rooms2 new
     its-counts d = record { all = λ e. ap (λ (x : Ticket). x .taken) (seat-new rooms rooms-wide i t hi s mine unknown .1); part = λ e. differ cc }
 
-    strange : (n : Serial) → Stranger (length (g .approvals ++ new ∷ [])) (n .0) → n .0 ≡ s .0 → ⊥
-    strange n (inl e) q = omega (arith, e, q)
-    strange n (inr e) q = omega (arith, e, q, count, number)
-
     begun : Reached (openedIn (g .gate .desk) i)
         → Standing (withApprovals g
         (record { desk = openedIn (g .gate .desk) i; seen = seen2 })
@@ -225,11 +224,6 @@ module _ (g : GateWorld) (v : Standing g) where
           (λ k h. old (approvalAt g k) (λ e. omega (arith, e, v .numbered k h, h, number)) (v .seats k h)) its;
       counts = snoc-each (g .approvals) new noApproval (λ k p. Counts rooms2 p)
           (λ k h. old-counts (approvalAt g k) (λ e. omega (arith, e, v .numbered k h, h, number)) (v .seats k h) (v .counts k h)) its-counts;
-      strangers = λ n h. le-trans (v .strangers n (stranger-less (length (g .approvals)) (length (g .approvals ++ new ∷ [])) (n .0) (omega (arith, count)) h))
-          (le-of-eq (sym (stays n (strange n h))));
-      unique = unique-set rooms rooms-wide i t hi (v .unique) (λ n j ne a b.
-          let e = for-held n t b .1 in
-          omega (arith, unknown, has-room rooms rooms-wide s j (subst (λ (x : Serial). isFor x (ticketIn rooms j) ≡ true) (λ d. record { 0 = sym e d }) a)));
     }
 
   standing-begin : Standing (gateStep g gateBegin)
@@ -267,16 +261,13 @@ module _ (g : GateWorld) (v : Standing g) where
         counts = on-each (s .0) settled (g .approvals) (λ j p. Counts (set rooms k freeTicket) p)
             (λ j z e d. differ cc)
             (λ j z e. other-counts (approvalAt g j) e (v .seats j z) (v .counts j z));
-        strangers = λ n z. (let q = v .strangers n (subst (λ (c : ℕ). Stranger c (n .0)) (on-length (s .0) settled (g .approvals)) z) in
-            le-trans q (le-of-eq (sym (stays n (λ e. apart n e q)))));
-        unique = unique-set rooms rooms-wide k freeTicket hk (v .unique) (λ n j ne a b. not-both b refl);
       }
         where
           its : isFor s (ticketIn rooms k) ≡ true
           its = subst (λ (y : ℕ). isFor s (ticketIn rooms y) ≡ true) (sym f) (room-for rooms rooms-wide s h)
 
           gone : mostTickets ≤ roomOf (set rooms k freeTicket) s
-          gone = seat-gone rooms rooms-wide s k (v .unique) f hk
+          gone = seat-gone rooms rooms-wide s k (reached-unique (v .reached)) f hk
 
           apart : (n : Serial) → n .0 ≡ s .0 → mostTickets ≤ roomOf rooms n → ⊥
           apart n e q = let z : n ≡ s = λ d. record { 0 = e d } in omega (arith, h, subst (λ (y : Serial). mostTickets ≤ roomOf rooms y) z q)
@@ -389,8 +380,6 @@ module _ (g : GateWorld) (v : Standing g) where
           (λ j z e. miss (approvalAt g j) e (v .seats j z));
       counts = on-each (s .0) f (g .approvals) (λ j p. Counts (fed .gate .desk .tickets) p) (λ j z e. count (approvalAt g j) e (v .counts j z))
           (λ j z e. fed-counts (approvalAt g j) e (v .seats j z) (v .counts j z));
-      strangers = λ n z. rw (a .same .rooms n) (v .strangers n (subst (λ (c : ℕ). Stranger c (n .0)) (on-length (s .0) f (g .approvals)) z));
-      unique = same-unique (a .same) (v .unique);
     }
 
     fed-wide : length (fed .gate .seen) ≡ mostTickets

@@ -3,33 +3,39 @@ use Prim.Native.Nat.{ℕ, zero, suc, _+_, _<_, _≤_}
 use mathlib.Core.Bool.{false, false≢true, true}
 use mathlib.Core.List.{List}
 use mathlib.Core.Path.{_≡_, _∙_, ap, refl, subst, sym}
-use native.Mathlib.Decide.{ℕ-discrete}
+use native.Mathlib.Decide.{decLe, ℕ-discrete}
 use native.Mathlib.Omega.{arith}
 use lib.ListN.{length, replicate, set}
 use Rattle.desk.specs.Calls.{newDesk}
 use Rattle.desk.specs.Feed.{readFor, readOn}
 use Rattle.desk.specs.Laws.Good.{good, room-held, set-places}
-use Rattle.desk.specs.Laws.Rooms.{for-held, set-other, set-same}
+use Rattle.desk.specs.Laws.Rooms.{for-held, free-held, set-other, set-same}
 use Rattle.desk.specs.Laws.Views.{Closes, close-done, close-no-ticket, closes}
 use Rattle.desk.specs.Laws.Views.{Feeds, feed-long, feed-no-place, feed-no-ticket, feed-other-slots, feed-read, feed-stale, feeds}
 use Rattle.desk.specs.Laws.Views.{Opens, open-done, open-no-room, open-no-set, open-serial-end, opens}
 use Rattle.desk.specs.Laws.Views.{Replaces, replace-done, replace-edition-end, replace-fault, replace-table, replaces}
 use Rattle.desk.specs.Laws.Views.{Takes, take-nothing, take-oldest, takes}
 use Rattle.desk.specs.Reached.{Reached, byCall, callClose, callFeed, callOpen, callReplace, callTake, fromNew}
-use Rattle.desk.specs.Rooms.{freeTicket, isHeld, newTicket, roomOf, serialOf, ticketIn}
+use Rattle.desk.specs.Rooms.{freeTicket, isFor, isHeld, newTicket, roomOf, serialOf, ticketIn}
 use Rattle.desk.specs.declared.Closing.{Closing}
 use Rattle.desk.specs.declared.Desk.{Desk}
 use Rattle.desk.specs.declared.Feeding.{Feeding}
 use Rattle.desk.specs.declared.Opening.{Opening}
 use Rattle.desk.specs.declared.Replacing.{Replacing}
 use Rattle.desk.specs.declared.Serial.{Serial}
 use Rattle.desk.specs.declared.Taking.{Taking}
 use Rattle.desk.specs.declared.Ticket.{Ticket}
-use Rattle.gate.specs.Bits.{Apart}
 use Rattle.matching.specs.Laws.Bools.{not-both}
 use Rattle.matching.specs.Words.{Word}
-use Rattle.desk.specs.Layout.{Kind, Order, Sizes, sizesOf}
+use Rattle.desk.specs.Layout.{Kind, Lent, Order, Sizes, sizesOf}
 use Rattle.desk.specs.Limits.{mostTickets}
+use mathlib.Core.Logic.{_⊎_, inl, inr}
+use borrow.Author.Tests.{eq-eqb}
+
+-- no two rooms are held under one serial
+abbrev pub Apart : List Ticket → Type 0
+Apart rooms = (i j : ℕ) → isHeld (ticketIn rooms i) ≡ true → isHeld (ticketIn rooms j) ≡ true → ticketIn rooms i .serial .0 ≡ ticketIn rooms j .serial .0
+    → i ≡ j
 
 -- no room is held under a serial that was not given yet, and no two under one
 record Told (d : Desk) : Type 0 where
@@ -101,7 +107,7 @@ module _ (d : Desk) (wide : length (d .tickets) ≡ mostTickets) (k : Told d) wh
   told-replaces order len r (replace-edition-end count e l) = k
   told-replaces order len r (replace-done count e l) = record { given = k .given; apart = k .apart }
 
-  told-feeds : (i : ℕ) (table : List ℕ) (piece : Word) (r : Feeding) → (i < mostTickets → isHeld (ticketIn (d .tickets) i) ≡ true) → Feeds d i table piece r
+  told-feeds : (i : ℕ) (table : Lent) (piece : Word) (r : Feeding) → (i < mostTickets → isHeld (ticketIn (d .tickets) i) ≡ true) → Feeds d i table piece r
       → Told (r .desk)
   told-feeds i table piece r f (feed-no-ticket a) = k
   told-feeds i table piece r f (feed-stale a b) = k
@@ -128,3 +134,28 @@ told (byCall {d = d} r callTake) = told-takes d (good r .rooms) (told r) _ (take
 
 pub reached-apart : {d : Desk} → Reached d → Apart (d .tickets)
 reached-apart r = told r .apart
+
+-- a serial's room is the only one that it has
+pub reached-unique : {d : Desk} → Reached d → (s : Serial) (i j : ℕ) → isFor s (ticketIn (d .tickets) i) ≡ true → isFor s (ticketIn (d .tickets) j) ≡ true → i ≡ j
+reached-unique {d} r s i j h k =
+    let a = for-held s (ticketIn (d .tickets) i) h in
+    let b = for-held s (ticketIn (d .tickets) j) k in
+    reached-apart r i j (a .0) (b .0) (a .1 ∙ sym (b .1))
+
+-- a serial that was not given has no room
+pub unknown-room : {d : Desk} → Reached d → (s : Serial) → (s .0 ≡ 0) ⊎ (d .serial .0 < s .0) → mostTickets ≤ roomOf (d .tickets) s
+unknown-room {d} r s z = go (decLe mostTickets (roomOf (d .tickets) s)) z
+  where
+    go : Dec (mostTickets ≤ roomOf (d .tickets) s) → (s .0 ≡ 0) ⊎ (d .serial .0 < s .0) → mostTickets ≤ roomOf (d .tickets) s
+    go (yes h) z = h
+    go (no h) z = absurd (known z)
+      where
+        t : Ticket
+        t = ticketIn (d .tickets) (roomOf (d .tickets) s)
+
+        its : (isHeld t ≡ true) × (t .serial .0 ≡ s .0)
+        its = for-held s t (room-held d s (good r) (omega arith))
+
+        known : (s .0 ≡ 0) ⊎ (d .serial .0 < s .0) → ⊥
+        known (inl e) = not-both (its .0) (free-held t (eq-eqb (t .serial .0) 0 (its .1 ∙ e)))
+        known (inr e) = omega (arith, e, its .1, told r .given (roomOf (d .tickets) s) (its .0))
