@@ -4,14 +4,19 @@
 set -euo pipefail
 cd "$(dirname "$0")/.."
 
-# the words that a file unfolds, one to a line; an `unfolding` goes on over lines that stand four further in
+# the words that a file unfolds: behind `unfolding`, over the lines that stand further in, and between `unfold` and `in`; a name that is brought in under another
+# (`NAME as OTHER`) counts as unfolded
 unfolded() { # FILE
-  awk '
-    { match($0, /^ */); indent = RLENGTH }
-    /^ *unfolding / { at = indent; on = 1; sub(/^ *unfolding /, ""); split($0, w, " "); for (i in w) print w[i]; next }
-    on && indent >= at + 4 { split($0, w, " "); for (i in w) print w[i]; next }
-    { on = 0 }
-  ' "$1" | sed 's/.*\.//' | sort -u
+  {
+    awk '
+      { match($0, /^ */); indent = RLENGTH; line = $0; sub(/--.*/, "", line) }
+      line ~ /^ *unfolding( |$)/ { at = indent; on = 1; sub(/^ *unfolding */, "", line); print line; next }
+      on && indent > at { print line; next }
+      { on = 0 }
+    ' "$1"
+    sed 's/--.*//' "$1" | tr '\n' ' ' | grep -oE '(^|[^[:alnum:]·])unfold [^()]*[^[:alnum:]]in ' || true
+    grep -oE '[^ ,{}]+ as [^ ,{}]+' "$1" | sed 's/ as .*//' || true
+  } | tr ' ' '\n' | sed 's/.*[.·(]//' | sort -u
 }
 
 failed=0
@@ -24,7 +29,7 @@ door() { # DEFINITIONS FILE_THAT_MAY...
     [[ $file == "$definitions" || " $* " == *" $file "* ]] && continue
     open=$(comm -12 <(unfolded "$file") <(echo "$names") | xargs)
     [[ -z $open ]] || { echo "doors: $file unfolds $open of $definitions" >&2; failed=1; }
-  done < <(grep -rl --include='*.antt' '^ *unfolding ' crates)
+  done < <(grep -rlE --include='*.antt' --include='*.rt' 'unfold(ing)?( |$)| as ' crates)
   for file; do
     [[ -n $(comm -12 <(unfolded "$file") <(echo "$names")) ]] || { echo "doors: $file need not open $definitions" >&2; failed=1; }
   done

@@ -98,7 +98,8 @@ pub record OpenExact (d : Desk) (a : OpenAnswer) : Type 0 where
   pub no-room : (openNumber a ≡ 11) ↔ ((NoSet d → ⊥) × (LastSerial d → ⊥) × AllHeld d)
   pub opened : (s : Serial) → (a ≡ O.Opened s) ↔ ((NoSet d → ⊥) × (LastSerial d → ⊥) × (AllHeld d → ⊥) × (s ≡ serialOf (d .serial .0 + 1)))
 
--- feed: 12, 13, then a table of another slot count, which is a stop and no refusal, then 14; else none: `feed-reads` says what is answered then
+-- feed: 12, 13, then a table of another slot count, which is a stop and no refusal, then 14; else none. What is answered then: `other-slots`, and
+-- `feed-reads`
 pub record FeedExact (d : Desk) (s : Serial) (table : Lent) (piece : Word) (a : FeedAnswer) : Type 0 where
   pub no-ticket : (feedNumber a ≡ 12) ↔ (HasRoom d s → ⊥)
   pub stale : (feedNumber a ≡ 13) ↔ (HasRoom d s × (Current d s → ⊥))

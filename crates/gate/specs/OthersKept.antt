@@ -43,7 +43,7 @@ use Rattle.gate.specs.declared.feeding.Fed.{Fed}
 use Rattle.desk.specs.Laws.Layout.{desk-kept}
 use Rattle.matching.specs.Words.{Word}
 use Rattle.desk.specs.Layout.{Kind, Lent, Order, sizesOf}
-use Rattle.desk.specs.Limits.{mostTickets}
+use Rattle.desk.specs.Limits.{mostRecords, mostTickets}
 
 -- a gate as its calls make it: 16 masks, a desk that the desk's calls make, and no record held
 pub record Settled (g : Gate) : Type 0 where
@@ -53,7 +53,7 @@ pub record Settled (g : Gate) : Type 0 where
 
 -- ---- one feed
 
-module _ (d : Desk) (s : Serial) (table : List ℕ) (piece : Word) (r : Reached d) where
+module _ (d : Desk) (s : Serial) (table : Lent) (piece : Word) (r : Reached d) where
   abbrev i : ℕ
   i = roomOf (d .tickets) s
 
@@ -92,7 +92,7 @@ module _ (d : Desk) (s : Serial) (table : List ℕ) (piece : Word) (r : Reached 
       go f (feed-read a b c l) =
           let t = ticketIn (d .tickets) i in
           let found = readFor d t table piece .found in
-          let k = desk-kept (d .slots) table (t .place) (t .taken) (256 - d .records .count) piece in
+          let k = desk-kept (d .slots) table (t .place) (t .taken) (mostRecords - d .records .count) piece in
           let its : t .serial .0 ≡ s .0 = for-held s t (room-held d s (good r) a) .1 in
           ap (recordsFor n) (held-pushAll (d .records) (recordsOf (t .serial) (t .edition) found) (good r .ring)
           (omega (arith, recordsOf-length (t .serial) (t .edition) found, k .fits, good r .count)))
@@ -100,7 +100,7 @@ module _ (d : Desk) (s : Serial) (table : List ℕ) (piece : Word) (r : Reached 
           ∙ ap (λ (l : List Record). recordsFor n (held (d .records)) ++ l) (recordsFor-other n (t .serial) (t .edition) found (λ q. other (sym q ∙ its)))
           ∙ append-nil (recordsFor n (held (d .records)))
 
-module _ (g : Gate) (s : Serial) (table : List ℕ) (rest : Word) (masks : length (g .seen) ≡ mostTickets) (r : Reached (g .desk)) where
+module _ (g : Gate) (s : Serial) (table : Lent) (rest : Word) (masks : length (g .seen) ≡ mostTickets) (r : Reached (g .desk)) where
   -- one feed of what is left: the records then held are those held before and those of this feed, and each goes to its own
   pub rest-own : ToTheirOwn (g .desk .tickets) (g .seen) (restOf g s table rest .gate .seen) (held (feedOf (g .desk) s table rest .desk .records))
   rest-own =
@@ -127,7 +127,7 @@ module _ (g : Gate) (s : Serial) (table : List ℕ) (rest : Word) (masks : lengt
 -- ---- a whole piece
 
 -- what each feed keeps, the whole keeps
-fed-keeps : (P : Gate → Type 0) (s : Serial) (table : List ℕ) (piece : Word) → ((x : Gate) (rest : Word) → P x → P (restOf x s table rest .gate))
+fed-keeps : (P : Gate → Type 0) (s : Serial) (table : Lent) (piece : Word) → ((x : Gate) (rest : Word) → P x → P (restOf x s table rest .gate))
     → (most : ℕ) (g : Gate) (from : ℕ)
     → P g → P (fedOn most g s table piece from .gate)
 unfolding fedOn
@@ -145,7 +145,7 @@ fed-keeps P s table piece f (suc most) g from p =
     go true false q = q
     go false b q = p
 
-settled-rest : (g : Gate) (s : Serial) (table : List ℕ) (rest : Word) → Settled g → Settled (restOf g s table rest .gate)
+settled-rest : (g : Gate) (s : Serial) (table : Lent) (rest : Word) → Settled g → Settled (restOf g s table rest .gate)
 settled-rest g s table rest k =
     let d = feedOf (g .desk) s table rest .desk in
     let r : Reached d = byCall (k .reached) (callFeed s table rest) in
@@ -161,7 +161,7 @@ record Untouched (g : Gate) (s : Serial) (x : Gate) : Type 0 where
   serials : (i : ℕ) → ticketIn (x .desk .tickets) i .serial ≡ ticketIn (g .desk .tickets) i .serial
   same : (i : ℕ) → (ticketIn (g .desk .tickets) i .serial .0 ≡ s .0 → ⊥) → seenIn (x .seen) i ≡ seenIn (g .seen) i
 
-untouched-rest : (g : Gate) (s : Serial) (table : List ℕ) (x : Gate) (rest : Word) → Untouched g s x → Untouched g s (restOf x s table rest .gate)
+untouched-rest : (g : Gate) (s : Serial) (table : Lent) (x : Gate) (rest : Word) → Untouched g s x → Untouched g s (restOf x s table rest .gate)
 unfolding withBits recordsFor
 untouched-rest g s table x rest u = record {
   settled = settled-rest x s table rest (u .settled);
@@ -189,7 +189,7 @@ untouched-rest g s table x rest u = record {
         go false h = rest-own x s table rest (u .settled .masks) (u .settled .reached) .free i h
 
 -- a piece, whatever table it is lent: for every room that another serial has, all is kept as before
-pub piece-others : (g : Gate) (s : Serial) (table : List ℕ) (piece : Word) → Settled g → (i : ℕ) → (ticketIn (g .desk .tickets) i .serial .0 ≡ s .0 → ⊥)
+pub piece-others : (g : Gate) (s : Serial) (table : Lent) (piece : Word) → Settled g → (i : ℕ) → (ticketIn (g .desk .tickets) i .serial .0 ≡ s .0 → ⊥)
     → seenIn (pieceOf g s table piece .gate .seen) i ≡ seenIn (g .seen) i
 unfolding pieceOf
 piece-others g s table piece k i n = go (ltb room mostTickets) (eqb (ticketIn (g .desk .tickets) room .edition .0) (g .desk .edition .0)) refl
@@ -257,7 +257,7 @@ settled-begin g k =
     go r (open-no-room a b c) = refl
     go r (open-done a b i e h) = refl
 
-pub settled-piece : (g : Gate) (s : Serial) (table : List ℕ) (piece : Word) → Settled g → Settled (pieceOf g s table piece .gate)
+pub settled-piece : (g : Gate) (s : Serial) (table : Lent) (piece : Word) → Settled g → Settled (pieceOf g s table piece .gate)
 unfolding pieceOf
 settled-piece g s table piece k = go (ltb room mostTickets) (eqb (ticketIn (g .desk .tickets) room .edition .0) (g .desk .edition .0))
   where

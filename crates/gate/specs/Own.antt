@@ -18,7 +18,7 @@ use Rattle.gate.specs.Laws.Own.{all-oldest, noted-free, noted-length, no
 use Rattle.gate.specs.Noting.{noted, seenIn}
 use Rattle.gate.specs.declared.Gate.{Gate}
 use Rattle.gate.specs.declared.Seen.{Seen}
-use Rattle.desk.specs.Limits.{mostTickets}
+use Rattle.desk.specs.Limits.{mostRecords, mostTickets}
 use Rattle.desk.specs.Laws.Apart.{Apart, reached-apart}
 
 -- a gate's masks and a desk: 16 of each, no two rooms held under one serial, and at most 256 records held
@@ -26,7 +26,7 @@ pub record Roomed (g : Gate) (d : Desk) : Type 0 where
   pub masks : length (g .seen) ≡ mostTickets
   pub rooms : length (d .tickets) ≡ mostTickets
   pub apart : Apart (d .tickets)
-  pub most : d .records .count ≤ 256
+  pub most : d .records .count ≤ mostRecords
 
 -- so is a gate with its 16 masks and every desk that the calls make
 pub reached-roomed : (g : Gate) (d : Desk) → length (g .seen) ≡ mostTickets → Reached d → Roomed g d
@@ -60,5 +60,5 @@ pub nowhere : (rooms : List Ticket) (seen : List Seen) (before : List Record) (r
 nowhere = noted-nowhere
 
 -- no record is held then, and the tickets are as before
-pub emptied-none : (g : Gate) (d : Desk) → d .records .count ≤ 256 → (held (emptiedOf g d .desk .records) ≡ []) × (emptiedOf g d .desk .tickets ≡ d .tickets)
+pub emptied-none : (g : Gate) (d : Desk) → d .records .count ≤ mostRecords → (held (emptiedOf g d .desk .records) ≡ []) × (emptiedOf g d .desk .tickets ≡ d .tickets)
 emptied-none = none-held

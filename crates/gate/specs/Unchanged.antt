@@ -29,7 +29,7 @@ use Rattle.desk.specs.Layout.{Lent, Order, sizesOf}
 use Rattle.desk.specs.Limits.{mostTickets}
 
 -- a piece refused NO TICKET or STALE
-pub piece-refused : (g : Gate) (s : Serial) (table : List ℕ) (piece : Word) → (pieceNumber (pieceOf g s table piece .answer) ≡ 0 → ⊥)
+pub piece-refused : (g : Gate) (s : Serial) (table : Lent) (piece : Word) → (pieceNumber (pieceOf g s table piece .answer) ≡ 0 → ⊥)
     → pieceOf g s table piece .gate ≡ g
 unfolding pieceOf
 piece-refused g s table piece =
@@ -99,7 +99,7 @@ change-refused g order run n =
     (ap (λ (d : Desk). record { desk = d; seen = g .seen }) (k .0), k .1)
 
 -- a piece of no bytes: nothing is fed and no record is taken out, so the gate is as before, whatever the answer
-pub piece-empty : (g : Gate) (s : Serial) (table : List ℕ) → pieceOf g s table [] .gate ≡ g
+pub piece-empty : (g : Gate) (s : Serial) (table : Lent) → pieceOf g s table [] .gate ≡ g
 unfolding pieceOf fedOn
 piece-empty g s table = go (ltb i mostTickets) (eqb (ticketIn (g .desk .tickets) i .edition .0) (g .desk .edition .0))
   where
@@ -112,7 +112,7 @@ piece-empty g s table = go (ltb i mostTickets) (eqb (ticketIn (g .desk .tickets)
     go true true = refl
 
 -- and for a ticket of the edition in force it is read
-pub piece-empty-read : (g : Gate) (s : Serial) (table : List ℕ) → roomOf (g .desk .tickets) s < mostTickets
+pub piece-empty-read : (g : Gate) (s : Serial) (table : Lent) → roomOf (g .desk .tickets) s < mostTickets
     → ticketIn (g .desk .tickets) (roomOf (g .desk .tickets) s) .edition .0 ≡ g .desk .edition .0 → pieceOf g s table [] .answer ≡ P.Read
 unfolding pieceOf fedOn
 piece-empty-read g s table h e = rw (lt-ltb _ mostTickets h, eq-eqb _ _ e) refl

@@ -29,7 +29,7 @@ use Rattle.history.specs.History.{Account, accountAt, Gone, lives, OpenO
 use Rattle.history.specs.Readings.{Demanded}
 use Rattle.matching.specs.Limits.{largest}
 use Rattle.matching.specs.Reading.{Outcome}
-use Rattle.matching.specs.Words.{Word}
+use Rattle.matching.specs.Words.{Below, Word}
 use Rattle.tagset.specs.declared.SetFault.{SetFault}
 use Rattle.desk.specs.Feed.{advance}
 use Rattle.desk.specs.declared.Advance.{Advance}
@@ -55,8 +55,9 @@ pub record FeedAnswers (Left : Type 0) (w : World) (s : Serial) (table : Lent) (
   pub stale : (e : Edition) → (answer ≡ F.Stale e) ↔ ((k : ℕ) × StaleTicket w s k × (e .0 ≡ accountAt w k .edition))
   pub other-slots : (k : ℕ) → OpenTicket w s k → (SameSlots (w .desk) table → ⊥) → answer ≡ F.Fed (advance 0 0 S.Damaged)
   pub long : (answer ≡ F.Long) ↔ ((k : ℕ) × OpenTicket w s k × SameSlots (w .desk) table × (largest < length (accountAt w k .bytes) + length piece))
-  pub fed : (a : Advance) → answer ≡ F.Fed a → (k : ℕ) × OpenTicket w s k
-  pub reads : Left → table ≡ w .table → (k : ℕ) → OpenTicket w s k → length (accountAt w k .bytes) + length piece ≤ largest
+  pub fed : (a : Advance) → answer ≡ F.Fed a
+      → (k : ℕ) × OpenTicket w s k × (SameSlots (w .desk) table → length (accountAt w k .bytes) + length piece ≤ largest)
+  pub reads : Left → table ≡ w .table → Below 256 piece → (k : ℕ) → OpenTicket w s k → length (accountAt w k .bytes) + length piece ≤ largest
       → FedAsDemanded w s (accountAt w k) piece answer
 
 -- ---- an opening

@@ -5,6 +5,8 @@ use mathlib.Core.List.{List, []}
 use mathlib.Core.Logic.{_⊎_, inl, inr}
 use mathlib.Core.Path.{_∙_, _≡_, ap, subst, sym}
 use lib.ListN.{getD, length}
+use native.Mathlib.Omega.{arith}
+use Rattle.desk.specs.Conditions.{SameSlots}
 use Rattle.desk.specs.Reached.{Call, Reached}
 use Rattle.desk.specs.Rooms.{roomOf, serialOf, ticketIn}
 use Rattle.desk.specs.State.{stateOf}
@@ -120,3 +122,8 @@ second-part kind calls b left cut cuts = (
 
     t : SoundLeft v
     t = becomes-sound (start kind) (serving kind cut w) _ _ (record { inv = inv-start kind; ledger = ledger-start kind }) c
+
+-- the table as left has the slots that the desk asks for
+pub left-fits : (kind : Kind) (calls : List Call) → AllBytes calls → 0 < length (run (start kind) calls .orders)
+    → SameSlots (run (start kind) calls .desk) (run (start kind) calls .table)
+left-fits kind calls b h = let s = sound kind calls b in s .inv .force (omega (arith, h, s .ledger .editions)) .slots-are

@@ -1,5 +1,7 @@
 -- TAKING MANY IS TAKINGS, in a history's words: after any history, a taking of many leaves what as many takings as it answers leave, and
 -- writes the numbers of the records that those hand out, in order.
+use Rattle.desk.specs.declared.TakeAnswer.the-variants as K
+use Rattle.desk.specs.Numbers.{takeValues}
 use Prim.Native.Nat.{ℕ, zero, suc, _*_, _/_, _%_, _≤_, min}
 use mathlib.Core.List.{List, [], _∷_, _++_}
 use mathlib.Core.Path.{_≡_, _∙_, ap, refl, sym}
@@ -31,6 +33,16 @@ answered w len = takeManyOf (w .desk) len .count
 abbrev pub tookMany : World → ℕ → World
 tookMany w len = withOut w (takeManyOf (w .desk) len .desk) (w .out ++ take (answered w len) (held (w .desk .records)))
 
+-- what takings tell that hand out these records: the values of each answer, one answer behind another
+unfoldable pub told : List Record → List ℕ
+told [] = []
+told (r ∷ rs) = takeValues (K.Taken r) ++ told rs
+
+numbers-told : (rs : List Record) → recordNumbers rs ≡ told rs
+unfolding told recordNumbers
+numbers-told [] = refl
+numbers-told (r ∷ rs) = ap (λ (l : List ℕ). takeValues (K.Taken r) ++ l) (numbers-told rs)
+
 pub record ManyTakings (w : World) (list : List ℕ) : Type 0 where
   -- it answers the number of the records held, or of those that the list has room for, whichever is less
   pub count : answered w (length list) ≡ min (length (held (w .desk .records))) (length list / 4)
@@ -41,7 +53,7 @@ pub record ManyTakings (w : World) (list : List ℕ) : Type 0 where
   -- the list after it: the numbers of the records that those takings hand out, then what stood there
   pub written :
       listTaken (w .desk) list (manyOf (w .desk) (length list))
-      ≡ recordNumbers (handedBy w (replicate (answered w (length list)) callTake)) ++ drop (4 * answered w (length list)) list
+      ≡ told (handedBy w (replicate (answered w (length list)) callTake)) ++ drop (4 * answered w (length list)) list
 
 oldest-take : (n : ℕ) (q : Records) → n ≤ q .count → oldest n q ≡ take n (held q)
 unfolding oldest
@@ -67,7 +79,8 @@ many-are-takings w list = record {
   takings = ap (λ (l : List Record). withOut w (takeManyOf (w .desk) (length list) .desk) (w .out ++ l)) (sym (oldest-take n (w .desk .records) few))
       ∙ sym all;
   each = ap length handed ∙ oldest-length n (w .desk .records);
-  written = ap (λ (l : List Record). recordNumbers l ++ drop (4 * n) list) (sym handed);
+  written = ap (λ (l : List Record). recordNumbers l ++ drop (4 * n) list) (sym handed)
+      ∙ ap (λ (l : List ℕ). l ++ drop (4 * n) list) (numbers-told (handedBy w (replicate n callTake)));
 }
   where
     n : ℕ

@@ -29,6 +29,8 @@ use Rattle.tagset.specs.Grammar.{distinct, entriesFrom, entryOf, goodSet, badSe
 use Rattle.tagset.specs.declared.Verdict.the-variants.{Good}
 use Rattle.desk.specs.Layout.{deskBuilt, deskRead, deskSlots, deskTable, lentFits, oneBit, placeIn}
 use Rattle.desk.specs.Reached.{callFeed, callOpen}
+use Rattle.desk.specs.Limits.{mostRecords, mostTickets}
+use Rattle.matching.specs.Limits.{largest, longestTag, mostSlots, mostTags}
 
 -- after "hx" each bit machine is in a state: that state's vector, as the table has it, for machines 0 to 7
 abbrev pub vectorsAfter-hx : List ℕ
@@ -111,14 +113,28 @@ pub record Incident : Type 0 where
 
 -- each feed of these histories is lent the table as the last replacement left it
 pub record LentTables : Type 0 where
-  pub half-read : AsLeft (start oneBit) (calls-half later)
   pub nearly-full : AsLeft (start oneBit) calls-255
+  pub in-pieces : AsLeft (start oneBit) (calls-open ++ callFeed (serialOf 1) (split 10 tags) ush ∷ callFeed (serialOf 1) (split 10 tags) ers ∷ [])
+  pub in-one : AsLeft (start oneBit) (calls-open ++ callFeed (serialOf 1) (split 10 tags) ushers ∷ [])
+  pub half-read : AsLeft (start oneBit) (calls-half tags)
+  pub read-again : AsLeft (start oneBit)
+      (calls-half later ++ callFeed (serialOf 1) (split 10 later) ers ∷ callOpen ∷ callFeed (serialOf 2) (split 10 later) ushers ∷ [])
+
+-- the limits, in the rules' numbers
+pub record Limits : Type 0 where
+  pub tickets : mostTickets ≡ 16
+  pub records : mostRecords ≡ 256
+  pub tags-of-a-set : mostTags ≡ 16
+  pub bytes-of-a-tag : longestTag ≡ 32
+  pub slots-of-a-machine : mostSlots ≡ 513
+  pub largest-number : largest ≡ 4294967295
 
 pub record Samples : Type 0 where
   pub of-reading : OfReading
   pub of-desk : OfDesk
   pub incident : Incident
   pub lent : LentTables
+  pub limits : Limits
 
 -- THE SAMPLES
 pub samples : Samples
@@ -167,7 +183,18 @@ samples = record {
   };
   incident = record { refused = refl; again = refl };
   lent = record {
-    half-read = (tt, (tt, (refl, (tt, tt))));
     nearly-full = (tt, (tt, (refl, (tt, (refl, (tt, (tt, (refl, tt))))))));
+    in-pieces = (tt, (tt, (refl, (refl, tt))));
+    in-one = (tt, (tt, (refl, tt)));
+    half-read = (tt, (tt, (refl, (tt, tt))));
+    read-again = (tt, (tt, (refl, (tt, (refl, (tt, (refl, tt)))))));
+  };
+  limits = record {
+    tickets = refl;
+    records = refl;
+    tags-of-a-set = refl;
+    bytes-of-a-tag = refl;
+    slots-of-a-machine = refl;
+    largest-number = refl;
   };
 }

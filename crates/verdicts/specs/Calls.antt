@@ -13,7 +13,7 @@ use Rattle.gate.specs.declared.Gate.{Gate}
 use Rattle.matching.specs.Words.{Below, Word}
 use Rattle.verdicts.specs.Cases.{BeginExactly, PieceExactly, ReplaceExactly}
 use Rattle.verdicts.specs.Exactly.{over-any-tables}
-use Rattle.verdicts.specs.GateHistory.{AsLeft, GateAct, NotReplaced, Undecided, approvalAt, gateRun, gateStart}
+use Rattle.verdicts.specs.GateHistory.{GateProper, GateAct, NotReplaced, Undecided, approvalAt, gateRun, gateStart}
 use Rattle.verdicts.specs.Laws.Beginning.{begins-exactly, replaces-exactly}
 use Rattle.verdicts.specs.Laws.Came.{came-start}
 use Rattle.verdicts.specs.Laws.CamePiece.{came}
@@ -23,13 +23,13 @@ use Rattle.verdicts.specs.Laws.Standing.{standing, standing-start}
 use Rattle.verdicts.specs.Laws.Taken.{answers-taken, open-in, part-short, short-part, taken-of-handed}
 use Rattle.verdicts.specs.Laws.Within.{answers-within}
 use Rattle.verdicts.specs.Taken.{AnswersTaken, AnswersWithin, OpenIn, TakenOfHanded, takenIn}
-use Rattle.desk.specs.Layout.{Kind, Order, Sizes}
+use Rattle.desk.specs.Layout.{Kind, Lent, Order, Sizes}
 use Rattle.matching.specs.Limits.{mostTags}
 use Rattle.matching.specs.Tags.{tagCount}
 
 -- A PIECE: NO TICKET exactly if no undecided approval has the serial, and STALE, with its edition, exactly if a replacement was accepted since it
 -- began, as when it is decided; else it is read, or cut
-pub piece-exactly : (kind : Kind) (calls : List GateAct) (s : Serial) (table : List ℕ) (piece : Word)
+pub piece-exactly : (kind : Kind) (calls : List GateAct) (s : Serial) (table : Lent) (piece : Word)
     → PieceExactly (gateRun (gateStart kind) calls) s (pieceOf (gateRun (gateStart kind) calls .gate) s table piece .answer)
 piece-exactly kind calls s table piece =
     let w = gateRun (gateStart kind) calls in
@@ -38,11 +38,11 @@ piece-exactly kind calls s table piece =
 
 -- over any gate and any table, of a serial with a ticket of the edition in force: answered Read exactly if the ticket counts the whole piece
 -- more, and Cut exactly with the fewer bytes that it counts more
-pub piece-counts : (g : Gate) (s : Serial) → OpenIn g s → (table : List ℕ) (piece : Word) → AnswersTaken g s piece (pieceOf g s table piece)
+pub piece-counts : (g : Gate) (s : Serial) → OpenIn g s → (table : Lent) (piece : Word) → AnswersTaken g s piece (pieceOf g s table piece)
 piece-counts = answers-taken
 
 -- THE NUMBER OF A CUT, after any history: fewer than the piece has, and as many as the ticket counts more
-pub cut-number : (kind : Kind) (calls : List GateAct) (s : Serial) (table : List ℕ) (piece : Word) (n : ℕ) → let g = gateRun (gateStart kind) calls .gate in
+pub cut-number : (kind : Kind) (calls : List GateAct) (s : Serial) (table : Lent) (piece : Word) (n : ℕ) → let g = gateRun (gateStart kind) calls .gate in
     pieceOf g s table piece .answer ≡ P.Cut n → (n < length piece) × (takenIn (pieceOf g s table piece .gate) s ≡ takenIn g s + n)
 cut-number kind calls s table piece n q =
     let w = gateRun (gateStart kind) calls in
@@ -80,7 +80,7 @@ hold-is-taken kind calls s mask q =
 
 -- over tables as left, a piece for a current approval is read whole exactly if its ticket then counts no more than 4,294,967,295 bytes, and is
 -- else cut before its first byte
-pub piece-as-left : (kind : Kind) (calls : List GateAct) → AsLeft (gateStart kind) calls → (s : Serial) (k : ℕ) → let w = gateRun (gateStart kind) calls in
+pub piece-as-left : (kind : Kind) (calls : List GateAct) → GateProper (gateStart kind) calls → (s : Serial) (k : ℕ) → let w = gateRun (gateStart kind) calls in
     Undecided w s k → NotReplaced w k → (piece : Word) → Below 256 piece → AnswersWithin (w .gate) s piece (pieceOf (w .gate) s (w .table) piece .answer)
 piece-as-left kind calls l s k u n =
     let w = gateRun (gateStart kind) calls in

@@ -18,57 +18,58 @@ use mathlib.Core.Bool.{Bool, cond, false, true}
 use lib.Dec.{eqb, eqb-refl}
 use Rattle.matching.specs.Laws.Bools.{is-false, is-true}
 use Rattle.matching.specs.Laws.Words.{eqb-eq}
+use Rattle.desk.specs.Limits.{mostRecords}
 
-round-wrap : (l : List Record) (h n : ℕ) → round l (h % 256) n ≡ round l h n
+round-wrap : (l : List Record) (h n : ℕ) → round l (h % mostRecords) n ≡ round l h n
 unfolding round
 round-wrap l h zero = refl
 round-wrap l h (suc n) =
-    let e : h % 256 % 256 ≡ h % 256 = omega arith in
-    let f : suc (h % 256) % 256 ≡ suc h % 256 = omega arith in
-    let t : round l (suc (h % 256)) n ≡ round l (suc h) n = sym (round-wrap l (suc (h % 256)) n) ∙ (rw f (round-wrap l (suc h) n)) in
+    let e : h % mostRecords % mostRecords ≡ h % mostRecords = omega arith in
+    let f : suc (h % mostRecords) % mostRecords ≡ suc h % mostRecords = omega arith in
+    let t : round l (suc (h % mostRecords)) n ≡ round l (suc h) n = sym (round-wrap l (suc (h % mostRecords)) n) ∙ (rw f (round-wrap l (suc h) n)) in
     rw (e, t)
 
-round-snoc : (l : List Record) (h n i : ℕ) → i ≡ (h + n) % 256 → round l h (suc n) ≡ round l h n ++ (getD l i noRecord ∷ [])
+round-snoc : (l : List Record) (h n i : ℕ) → i ≡ (h + n) % mostRecords → round l h (suc n) ≡ round l h n ++ (getD l i noRecord ∷ [])
 unfolding round
 round-snoc l h zero i e =
-    let f : i ≡ h % 256 = omega arith in
+    let f : i ≡ h % mostRecords = omega arith in
     rw f
 round-snoc l h (suc n) i e =
-    let f : i ≡ (suc h + n) % 256 = omega arith in
-    ap (λ (t : List Record). getD l (h % 256) noRecord ∷ t) (round-snoc l (suc h) n i f)
+    let f : i ≡ (suc h + n) % mostRecords = omega arith in
+    ap (λ (t : List Record). getD l (h % mostRecords) noRecord ∷ t) (round-snoc l (suc h) n i f)
 
-round-set : (l : List Record) (r : Record) (h n k i : ℕ) → n ≤ k → k < 256 → i ≡ (h + k) % 256 → round (set l i r) h n ≡ round l h n
+round-set : (l : List Record) (r : Record) (h n k i : ℕ) → n ≤ k → k < mostRecords → i ≡ (h + k) % mostRecords → round (set l i r) h n ≡ round l h n
 unfolding round
 round-set l r h zero k i p q e = refl
 round-set l r h (suc n) k i p q e =
-    let ne : (h % 256 ≡ i → ⊥) = λ z. omega arith in
-    let f : i ≡ (suc h + (k - 1)) % 256 = omega arith in
+    let ne : (h % mostRecords ≡ i → ⊥) = λ z. omega arith in
+    let f : i ≡ (suc h + (k - 1)) % mostRecords = omega arith in
     let t : round (set l i r) (suc h) n ≡ round l (suc h) n = round-set l r (suc h) n (k - 1) i (omega arith) (omega arith) f in
-    rw (getD-set-other l i (h % 256) r noRecord ne, t)
+    rw (getD-set-other l i (h % mostRecords) r noRecord ne, t)
 
-pub held-push : (q : Records) (r : Record) → length (q .ring) ≡ 256 → q .count < 256 → held (push q r) ≡ held q ++ (r ∷ [])
+pub held-push : (q : Records) (r : Record) → length (q .ring) ≡ mostRecords → q .count < mostRecords → held (push q r) ≡ held q ++ (r ∷ [])
 held-push q r e h =
-    let i = (q .first + q .count) % 256 in
+    let i = (q .first + q .count) % mostRecords in
     let hi : i < length (q .ring) = omega arith in
     rw add-one
     (round-snoc (set (q .ring) i r) (q .first) (q .count) i refl
     ∙ (rw (round-set (q .ring) r (q .first) (q .count) (q .count) i (omega arith) h refl, getD-set-same (q .ring) i r noRecord hi)))
 
-pub held-pushAll : (q : Records) (rs : List Record) → length (q .ring) ≡ 256 → q .count + length rs ≤ 256 → held (pushAll q rs) ≡ held q ++ rs
+pub held-pushAll : (q : Records) (rs : List Record) → length (q .ring) ≡ mostRecords → q .count + length rs ≤ mostRecords → held (pushAll q rs) ≡ held q ++ rs
 unfolding pushAll
 held-pushAll q [] e h = sym (append-nil _)
 held-pushAll q (r ∷ rs) e h =
     held-pushAll (push q r) rs (simp length-set e) (omega arith)
     ∙ (rw (held-push q r e (omega arith), append-assoc))
 
-round-pop : (l : List Record) (h n : ℕ) → round l h (suc n) ≡ getD l (h % 256) noRecord ∷ round l ((h + 1) % 256) n
+round-pop : (l : List Record) (h n : ℕ) → round l h (suc n) ≡ getD l (h % mostRecords) noRecord ∷ round l ((h + 1) % mostRecords) n
 unfolding round
 round-pop l h n =
-    let w : round l ((h + 1) % 256) n ≡ round l (suc h) n = round-wrap l (h + 1) n ∙ ap (λ (k : ℕ). round l k n) (add-one h) in
+    let w : round l ((h + 1) % mostRecords) n ≡ round l (suc h) n = round-wrap l (h + 1) n ∙ ap (λ (k : ℕ). round l k n) (add-one h) in
     rw w
 
 -- what is held is the oldest record, and behind it what is held without it
-pub held-popped : (q : Records) → 0 < q .count → held q ≡ getD (q .ring) (q .first % 256) noRecord ∷ held (popped q)
+pub held-popped : (q : Records) → 0 < q .count → held q ≡ getD (q .ring) (q .first % mostRecords) noRecord ∷ held (popped q)
 held-popped q p =
     let c : q .count ≡ suc (q .count - 1) = omega arith in
     ap (λ (n : ℕ). round (q .ring) (q .first) n) c ∙ round-pop (q .ring) (q .first) (q .count - 1)

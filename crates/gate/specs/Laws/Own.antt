@@ -26,7 +26,7 @@ use Rattle.gate.specs.Noting.{marked, noted, notedOne, seenIn}
 use Rattle.gate.specs.declared.Gate.{Gate}
 use Rattle.gate.specs.declared.Seen.{Seen}
 use Rattle.matching.specs.Laws.Bools.{not-both}
-use Rattle.desk.specs.Limits.{mostTickets}
+use Rattle.desk.specs.Limits.{mostRecords, mostTickets}
 use Rattle.desk.specs.Laws.Apart.{Apart}
 
 abbrev nothingSeen : Seen
@@ -137,10 +137,10 @@ oldest-held (suc n) q e =
     ap {B = List Record} (λ (l : List Record). getD (q .ring) (q .first % 256) noRecord ∷ l) (oldest-held n (popped q) (omega (arith, e)))
     ∙ sym (held-popped q (omega (arith, e)))
 
-all-many : (d : Desk) → d .records .count ≤ 256 → manyOf d 1024 ≡ d .records .count
+all-many : (d : Desk) → d .records .count ≤ mostRecords → manyOf d 1024 ≡ d .records .count
 all-many d h = min-eq-left h
 
-pub all-oldest : (d : Desk) → d .records .count ≤ 256 → oldest (manyOf d 1024) (d .records) ≡ held (d .records)
+pub all-oldest : (d : Desk) → d .records .count ≤ mostRecords → oldest (manyOf d 1024) (d .records) ≡ held (d .records)
 all-oldest d h = oldest-held (manyOf d 1024) (d .records) (all-many d h)
 
 without-count : (n : ℕ) (q : Records) → without n q .count ≡ q .count - n
@@ -148,7 +148,7 @@ unfolding without
 without-count zero q = sym (sub-zero (q .count))
 without-count (suc n) q = without-count n (popped q) ∙ omega arith
 
-pub none-held : (g : Gate) (d : Desk) → d .records .count ≤ 256 → (held (emptiedOf g d .desk .records) ≡ []) × (emptiedOf g d .desk .tickets ≡ d .tickets)
+pub none-held : (g : Gate) (d : Desk) → d .records .count ≤ mostRecords → (held (emptiedOf g d .desk .records) ≡ []) × (emptiedOf g d .desk .tickets ≡ d .tickets)
 unfolding takeManyOf round
 none-held g d h =
     let left = without (manyOf d 1024) (d .records) in

@@ -24,7 +24,7 @@ use Rattle.history.specs.Laws.Feeding.{live}
 use Rattle.history.specs.Laws.Invariant.{given, Inv, wide}
 use Rattle.history.specs.Laws.Numbers.{differ}
 use Rattle.matching.specs.Laws.Bools.{not-both}
-use Rattle.matching.specs.Words.{Below, Word}
+use Rattle.matching.specs.Words.{Word}
 use Rattle.desk.specs.Layout.{Lent, Order, Sizes}
 use Rattle.history.specs.Laws.LedgerSteps.{Sound}
 use Rattle.history.specs.Cases.{CloseAnswers, FedAsDemanded, FeedAnswers, OpenAnswers, ReplaceAnswers, TakeAnswers}
@@ -42,9 +42,9 @@ not-gone w s k g o = not-both (g k (o .inside) (o .serial)) (o .not-closed)
 same-account : {Left : Type 0} (w : World) → Inv Left w → (s : Serial) (j k : ℕ) → OpenOrStale w s j → OpenOrStale w s k → j ≡ k
 same-account w v s j k a b = omega (arith, a .serial, b .serial, v .numbered j (a .inside), v .numbered k (b .inside))
 
-pub feed-answered : {Left : Type 0} (w : World) → Inv Left w → (s : Serial) (table : Lent) (piece : Word) → Below 256 piece
+pub feed-answered : {Left : Type 0} (w : World) → Inv Left w → (s : Serial) (table : Lent) (piece : Word)
     → FeedAnswers Left w s table piece (feedOf (w .desk) s table piece .answer)
-feed-answered {Left} w v s table piece c = go _ (feeds-for w v s table piece c) refl
+feed-answered {Left} w v s table piece = go _ (feeds-for w v s table piece) refl
   where
     -- what is so of an account of the serial is so of each
     same : (P : ℕ → Type 0) (j k : ℕ) → OpenOrStale w s j → OpenOrStale w s k → P j → P k
@@ -60,7 +60,7 @@ feed-answered {Left} w v s table piece c = go _ (feeds-for w v s table piece c) 
       other-slots = λ k o n. absurd (not-gone w s k g (o .0));
       long = (λ e. differ cc, λ z. absurd (not-gone w s (z .0) g (z .1 .0)));
       fed = λ m e. differ cc;
-      reads = λ l f k o m. absurd (not-gone w s k g (o .0));
+      reads = λ l f c k o m. absurd (not-gone w s k g (o .0));
     }
     go r (for-stale j o) q = record {
       no-ticket = (λ e. differ cc, λ g. absurd (not-gone w s j g (o .0)));
@@ -68,15 +68,15 @@ feed-answered {Left} w v s table piece c = go _ (feeds-for w v s table piece c) 
       other-slots = λ k x n. absurd (omega (arith, o .1, current k j x (o .0)));
       long = (λ e. differ cc, λ z. absurd (omega (arith, o .1, current (z .0) j (z .1) (o .0))));
       fed = λ m e. differ cc;
-      reads = λ l f k x m. absurd (omega (arith, o .1, current k j x (o .0)));
+      reads = λ l f c k x m. absurd (omega (arith, o .1, current k j x (o .0)));
     }
     go r (for-slots j o n) q = record {
       no-ticket = (λ e. differ cc, λ g. absurd (not-gone w s j g (o .0)));
       stale = λ i. (λ e. differ cc, λ z. absurd (omega (arith, z .1 .1, current j (z .0) o (z .1 .0))));
       other-slots = λ k x f. refl;
       long = (λ e. differ cc, λ z. absurd (n (z .2)));
-      fed = λ m e. (j, o);
-      reads = λ l f k x m. absurd (n (fits-left w v s j o table f));
+      fed = λ m e. (j, o, λ f. absurd (n f));
+      reads = λ l f c k x m. absurd (n (fits-left w v s j o table f));
     }
     go r (for-long j o f l) q = record {
       no-ticket = (λ e. differ cc, λ g. absurd (not-gone w s j g (o .0)));
@@ -84,7 +84,7 @@ feed-answered {Left} w v s table piece c = go _ (feeds-for w v s table piece c) 
       other-slots = λ k x n. absurd (n f);
       long = (λ e. (j, o, f, l), λ z. refl);
       fed = λ m e. differ cc;
-      reads = λ p t k x m. absurd (omega (arith, m, same (λ i. largest < length (accountAt w i .bytes) + length piece) j k (o .0) (x .0) l));
+      reads = λ p t c k x m. absurd (omega (arith, m, same (λ i. largest < length (accountAt w i .bytes) + length piece) j k (o .0) (x .0) l));
     }
     go r (for-read j o f l x d y a) q = record {
       no-ticket = (λ e. differ cc, λ g. absurd (not-gone w s j g (o .0)));
@@ -94,16 +94,16 @@ feed-answered {Left} w v s table piece c = go _ (feeds-for w v s table piece c) 
         λ e. differ cc,
         λ z. absurd (omega (arith, l, same (λ i. largest < length (accountAt w i .bytes) + length piece) (z .0) j (z .1 .0) (o .0) (z .3))),
       );
-      fed = λ m e. (j, o);
-      reads = λ p t k u m. same (λ i. FedAsDemanded w s (accountAt w i) piece (F.Fed (advance (x .taken) (length (x .found)) (x .stop)))) j k (o .0) (u .0)
+      fed = λ m e. (j, o, λ z. l);
+      reads = λ p t c k u m. same (λ i. FedAsDemanded w s (accountAt w i) piece (F.Fed (advance (x .taken) (length (x .found)) (x .stop)))) j k (o .0) (u .0)
           (let here : feedOf (w .desk) s (w .table) piece ≡ record { desk = d; answer = F.Fed (advance (x .taken) (length (x .found)) (x .stop)) } =
           ap (λ (z : Lent). feedOf (w .desk) s z piece) (sym t) ∙ q in
           record {
             outcome = x;
-            demanded = y p t .0;
+            demanded = y p t c .0;
             answered = refl;
             added = ap (λ (z : Feeding). stream (feeding w s piece (z .desk) (z .answer))) here ∙ a;
-            place = ap (λ (z : Feeding). ticketOf (feeding w s piece (z .desk) (z .answer) .desk) s .place) here ∙ y p t .1;
+            place = ap (λ (z : Feeding). ticketOf (feeding w s piece (z .desk) (z .answer) .desk) s .place) here ∙ y p t c .1;
           });
     }
 

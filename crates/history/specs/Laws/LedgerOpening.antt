@@ -1,4 +1,4 @@
--- An opening keeps the ledger: a room was free, so at most 15 tickets were open or stale.
+-- An opening keeps the ledger: a room was free, so fewer tickets than rooms were open or stale.
 use Prim.Native.Nat.{_+_, _<_, _≤_, suc, ℕ}
 use mathlib.Core.Bool.{Bool, cond, false, true}
 use mathlib.Core.List.{[], _++_, _∷_}
@@ -44,10 +44,10 @@ module _ {Left : Type 0} (w : World) (v : Inv Left w) (g : Ledger w) (i : ℕ) (
   free = free-held (ticketIn (w .desk .tickets) i)
       (subst (λ (j : ℕ). isFree (ticketIn (w .desk .tickets) j) ≡ true) (sym ei) (firstRoom-holds isFree (w .desk .tickets) (omega (arith, wide w v, ei))))
 
-  spare : lives (w .accounts) ≤ 15
+  spare : lives (w .accounts) < mostTickets
   spare = go (ℕ-discrete (ticketsHeld (w .desk .tickets)) mostTickets)
     where
-      go : Dec (ticketsHeld (w .desk .tickets) ≡ mostTickets) → lives (w .accounts) ≤ 15
+      go : Dec (ticketsHeld (w .desk .tickets) ≡ mostTickets) → lives (w .accounts) < mostTickets
       go (yes e) = absurd (omega (arith, hi, ei, full-iff (w .desk .tickets) .1 (e ∙ sym (wide w v)), wide w v))
       go (no e) = omega (arith, g .rooms, held-le (w .desk .tickets), wide w v)
 
@@ -96,7 +96,7 @@ module _ {Left : Type 0} (w : World) (v : Inv Left w) (g : Ledger w) (i : ℕ) (
           last-rises (yes p) = omega (arith, ap (λ (x : Account). x .edition) (old a p), v .kept a p .upto, z)
           last-rises (no p) = omega (arith, ap (λ (x : Account). x .edition) (last a (omega (arith, h, l, count))), z)
 
-      roomy-new : (k : ℕ) → k < length (after .accounts) → Dec (suc k ≤ length (w .accounts)) → lives (take k (after .accounts)) ≤ 15
+      roomy-new : (k : ℕ) → k < length (after .accounts) → Dec (suc k ≤ length (w .accounts)) → lives (take k (after .accounts)) < mostTickets
       roomy-new k h (yes b) = rw (take-append-le k (w .accounts) (new ∷ []) (omega arith)) (g .roomy k b)
       roomy-new k h (no b) = rw (ap (λ (n : ℕ). take n (after .accounts)) (at-end k b h) ∙ take-append-seam (w .accounts) (new ∷ [])) spare
 

@@ -3,7 +3,7 @@ use Prim.Native.Nat.{_+_, _-_, _<_, _≤_, suc, zero, ℕ}
 use mathlib.Core.Bool.{false}
 use mathlib.Core.List.{List, [], _++_, _∷_, append-assoc, append-nil}
 use mathlib.Core.Path.{_∙_, _≡_, ap, ap₂, refl, subst, subst₂, sym}
-use native.Mathlib.Nat.{le-of-eq, le-trans, zero-add}
+use native.Mathlib.Nat.{le-of-eq, le-trans, lt-of-le-of-lt, zero-add}
 use native.Mathlib.Omega.{arith}
 use lib.ListN.{drop, getD, length, length-append, length-drop, take}
 use lib.Seq.{getD-at, getD-drop, getD-take, length-take-le, take-all, take-append-seam}
@@ -23,6 +23,7 @@ use Rattle.matching.specs.Words.{Below, Word}
 use Rattle.desk.specs.Reached.{Call, callOpen}
 use Rattle.desk.specs.Layout.{Kind}
 use Rattle.matching.specs.Limits.{largest}
+use Rattle.desk.specs.Limits.{mostTickets}
 
 take-none : (n : ℕ) → take {A = Replacement} n [] ≡ []
 take-none zero = refl
@@ -43,7 +44,7 @@ pub record Ready (os : List Replacement) (pre : List Account) (a : Account) : Ty
   pub tags : (e : ℕ) → a .edition ≡ suc e → a .tags ≡ tagsOfOrder (getD os e noOrder)
   pub bytes : Below 256 (a .bytes)
   pub small : length (a .bytes) ≤ largest
-  pub roomy : lives pre ≤ 15
+  pub roomy : lives pre < mostTickets
   pub count : length pre < largest
 
 module _ (os : List Replacement) (fine : AllFine os) (few : length os ≤ largest) where
@@ -133,7 +134,7 @@ module _ (os : List Replacement) (fine : AllFine os) (few : length os ≤ larges
           subst₂ (λ (l : List Replacement) (x : List Account). Becomes w1 (callOpen ∷ []) l x) (one .orders-are)
           (ap₂ (λ (x : List Account) (y : Account). x ++ y ∷ []) (one .accounts-are) is-a0)
           (opened-one w1 s1 (omega (arith, e1, r .from)) (omega (arith, r .count, ap {B = ℕ} length (one .accounts-are)))
-          (le-trans (le-of-eq (ap lives (one .accounts-are))) (r .roomy)))
+          (lt-of-le-of-lt (le-of-eq (ap lives (one .accounts-are))) (r .roomy)))
 
       w2 : World
       w2 = run w1 (callOpen ∷ [])
@@ -214,7 +215,7 @@ ready w s pre a rest q =
       tags = λ e h. ap (λ (x : Account). x .tags) (sym here) ∙ s .ledger .account-tags k inside e (ap (λ (x : Account). x .edition) here ∙ h);
       bytes = kept .bytes;
       small = kept .small;
-      roomy = subst (λ (l : List Account). lives l ≤ 15) (ap (take k) q ∙ take-append-seam pre (a ∷ rest)) (s .ledger .roomy k inside);
+      roomy = subst (λ (l : List Account). lives l < mostTickets) (ap (take k) q ∙ take-append-seam pre (a ∷ rest)) (s .ledger .roomy k inside);
       count = omega (arith, inside, s .ledger .few-serials);
     }
 

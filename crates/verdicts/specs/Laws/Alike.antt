@@ -24,6 +24,7 @@ use Rattle.gate.specs.Noting.{seenIn}
 use Rattle.gate.specs.declared.Gate.{Gate}
 use Rattle.matching.specs.Words.{Word}
 use Rattle.gate.specs.Laws.Own.{noted-length, noted-unread}
+use Rattle.desk.specs.Layout.{Lent}
 
 -- two desks whose rooms have the same serials and editions
 pub record SameRooms (d e : Desk) : Type 0 where
@@ -53,7 +54,7 @@ ticket-set rooms i j t p q = go (ℕ-discrete j i) (decLt i (length rooms))
         let z : set rooms i t ≡ rooms = set-out rooms i t (omega (arith, h)) in
         (ap (λ (l : List Ticket). ticketIn l j .serial) z, ap (λ (l : List Ticket). ticketIn l j .edition) z)
 
-pub feed-same : (d : Desk) (s : Serial) (table : List ℕ) (piece : Word) → SameRooms d (feedOf d s table piece .desk)
+pub feed-same : (d : Desk) (s : Serial) (table : Lent) (piece : Word) → SameRooms d (feedOf d s table piece .desk)
 feed-same d s table piece = go _ _ (feeds d s table piece)
   where
     go : (i : ℕ) (r : Feeding) → Feeds d i table piece r → SameRooms d (r .desk)
@@ -93,7 +94,7 @@ alike-then a b = record {
   wide = b .wide ∙ a .wide;
 }
 
-pub rest-alike : (g : Gate) (s : Serial) (table : List ℕ) (rest : Word) → Alike g (restOf g s table rest .gate)
+pub rest-alike : (g : Gate) (s : Serial) (table : Lent) (rest : Word) → Alike g (restOf g s table rest .gate)
 unfolding takeManyOf
 rest-alike g s table rest =
     let f = feed-same (g .desk) s table rest in
@@ -105,7 +106,7 @@ rest-alike g s table rest =
       wide = noted-length (d .tickets) (g .seen) (oldest (manyOf d 1024) (d .records));
     }
 
-pub fed-alike : (most : ℕ) (g : Gate) (s : Serial) (table : List ℕ) (piece : Word) (from : ℕ) → Alike g (fedOn most g s table piece from .gate)
+pub fed-alike : (most : ℕ) (g : Gate) (s : Serial) (table : Lent) (piece : Word) (from : ℕ) → Alike g (fedOn most g s table piece from .gate)
 unfolding fedOn
 fed-alike zero g s table piece from = alike-none g
 fed-alike (suc most) g s table piece from =

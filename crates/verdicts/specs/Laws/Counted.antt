@@ -1,7 +1,6 @@
 -- Feeding a piece, over any table, raises the count of its own ticket by the bytes that the gate says were taken, and no other's.
 use Prim.Native.Nat.{ℕ, zero, suc, _+_, _≤_}
 use mathlib.Core.Bool.{Bool, cond, false, true}
-use mathlib.Core.List.{List}
 use mathlib.Core.Path.{_≡_, _∙_, refl, ap, subst}
 use native.Mathlib.Omega.{arith}
 use lib.Dec.{eqb, ltb}
@@ -23,6 +22,7 @@ use Rattle.gate.specs.declared.feeding.Fed.{Fed}
 use Rattle.matching.specs.Words.{Word}
 use Rattle.verdicts.specs.Laws.Alike.{rest-alike}
 use Rattle.desk.specs.Limits.{mostTickets}
+use Rattle.desk.specs.Layout.{Lent}
 
 -- the ticket in room i counts so many more, and each other as many as before
 pub record Counted (d e : Desk) (i n : ℕ) : Type 0 where
@@ -33,7 +33,7 @@ pub record Counted (d e : Desk) (i n : ℕ) : Type 0 where
 counted-none : (d : Desk) (i : ℕ) → Counted d d i 0
 counted-none d i = record { wide = refl; own = omega arith; others = λ j h. refl }
 
-feed-counted : (d : Desk) (s : Serial) (table : List ℕ) (piece : Word) → length (d .tickets) ≡ mostTickets
+feed-counted : (d : Desk) (s : Serial) (table : Lent) (piece : Word) → length (d .tickets) ≡ mostTickets
     → Counted d (feedOf d s table piece .desk) (roomOf (d .tickets) s) (takenBy (feedOf d s table piece .answer))
 feed-counted d s table piece wide = go _ _ (feeds d s table piece)
   where
@@ -49,7 +49,7 @@ feed-counted d s table piece wide = go _ _ (feeds d s table piece)
       others = λ j h. ap (λ (x : Ticket). x .taken) (set-other (d .tickets) i j _ h);
     }
 
-rest-counted : (g : Gate) (s : Serial) (table : List ℕ) (rest : Word) → length (g .desk .tickets) ≡ mostTickets
+rest-counted : (g : Gate) (s : Serial) (table : Lent) (rest : Word) → length (g .desk .tickets) ≡ mostTickets
     → Counted (g .desk) (restOf g s table rest .gate .desk) (roomOf (g .desk .tickets) s) (restOf g s table rest .taken)
 unfolding takeManyOf
 rest-counted g s table rest wide =
@@ -63,7 +63,7 @@ pub record FedCounted (g : Gate) (s : Serial) (piece : Word) (from : ℕ) (r : F
   pub most : from ≤ length piece → r .taken ≤ length piece
   pub counted : Counted (g .desk) (r .gate .desk) (roomOf (g .desk .tickets) s) more
 
-pub fed-counted : (most : ℕ) (g : Gate) (s : Serial) (table : List ℕ) (piece : Word) (from : ℕ) → length (g .desk .tickets) ≡ mostTickets
+pub fed-counted : (most : ℕ) (g : Gate) (s : Serial) (table : Lent) (piece : Word) (from : ℕ) → length (g .desk .tickets) ≡ mostTickets
     → FedCounted g s piece from (fedOn most g s table piece from)
 unfolding fedOn
 fed-counted zero g s table piece from wide = record { more = 0; total = omega arith; most = λ h. h; counted = counted-none (g .desk) _ }

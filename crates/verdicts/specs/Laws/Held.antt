@@ -207,7 +207,7 @@ module _ (g : GateWorld) (v : Standing g) (c : Held g) where
           (eqb (ticketIn rooms i .edition .0) (g .gate .desk .edition .0))))
           (closed _ (closes (g .gate .desk) s) (ltb-true i mostTickets e))
 
-  held-piece : (s : Serial) (table : List ℕ) (piece : Word) → Held (gateStep g (gatePiece s table piece))
+  held-piece : (s : Serial) (table : Lent) (piece : Word) → Held (gateStep g (gatePiece s table piece))
   unfolding pieceOf
   held-piece s table piece = go (ltb i mostTickets) (eqb (ticketIn rooms i .edition .0) (g .gate .desk .edition .0))
     where

@@ -2,7 +2,6 @@
 use Rattle.gate.specs.declared.PieceAnswer.the-variants as P
 use Prim.Native.Nat.{ℕ, suc, _<_}
 use mathlib.Core.Bool.{Bool, false, true}
-use mathlib.Core.List.{List}
 use mathlib.Core.Logic.{_⊎_, inl, inr}
 use mathlib.Core.Path.{_≡_, _∙_, ap, refl, sym}
 use native.Mathlib.Omega.{arith}
@@ -24,6 +23,7 @@ use Rattle.verdicts.specs.Laws.Cases.{same, stale-current}
 use Rattle.verdicts.specs.Laws.Deciding.{seated, waiting}
 use Rattle.verdicts.specs.Laws.Standing.{Standing}
 use Rattle.desk.specs.Limits.{mostTickets}
+use Rattle.desk.specs.Layout.{Lent}
 
 pub data Pieces (g : GateWorld) (s : Serial) : PieceAnswer → Type 0 where
   pieces-none : ((k : ℕ) → Undecided g s k → ⊥) → Pieces g s P.NoTicket
@@ -31,7 +31,7 @@ pub data Pieces (g : GateWorld) (s : Serial) : PieceAnswer → Type 0 where
   pieces-read : (k : ℕ) → Undecided g s k → NotReplaced g k → Pieces g s P.Read
   pieces-cut : (k n : ℕ) → Undecided g s k → NotReplaced g k → Pieces g s (P.Cut n)
 
-pub pieces : (g : GateWorld) → Standing g → (s : Serial) (table : List ℕ) (piece : Word) → Pieces g s (pieceOf (g .gate) s table piece .answer)
+pub pieces : (g : GateWorld) → Standing g → (s : Serial) (table : Lent) (piece : Word) → Pieces g s (pieceOf (g .gate) s table piece .answer)
 unfolding pieceOf
 pieces g v s table piece = go (ltb i mostTickets) refl (eqb (its .0) (g .gate .desk .edition .0)) refl
   where

@@ -302,7 +302,7 @@ module _ (g : GateWorld) (v : Standing g) where
           (closed _ (closes (g .gate .desk) s) (ltb-true i mostTickets e) (byCall (v .reached) (callClose s)))
 
   -- a piece
-  module _ (s : Serial) (table : List ℕ) (piece : Word) where
+  module _ (s : Serial) (table : Lent) (piece : Word) where
     abbrev fed : Fed
     fed = fedOn (length piece) (g .gate) s table piece 0
 

@@ -2,7 +2,6 @@
 use Rattle.gate.specs.declared.PieceAnswer.the-variants as P
 use Prim.Native.Nat.{ℕ, _+_, _<_}
 use mathlib.Core.Bool.{Bool, false, true}
-use mathlib.Core.List.{List}
 use mathlib.Core.Path.{_≡_, _∙_, ap, refl, subst, sym}
 use native.Mathlib.Omega.{arith}
 use lib.Dec.{eqb}
@@ -26,6 +25,7 @@ use Rattle.verdicts.specs.Laws.Counted.{FedCounted, fed-counted}
 use Rattle.verdicts.specs.Laws.Deciding.{seated}
 use Rattle.verdicts.specs.Laws.Standing.{Standing, Tally, tally-most}
 use Rattle.verdicts.specs.Taken.{AnswersTaken, OpenIn, TakenOfHanded, takenIn}
+use Rattle.desk.specs.Layout.{Lent}
 
 abbrev pub cutAfter : PieceAnswer → ℕ
 cutAfter (P.Cut n) = n
@@ -33,7 +33,7 @@ cutAfter P.Read = 0
 cutAfter P.NoTicket = 0
 cutAfter (P.Stale e) = 0
 
-pub answers-taken : (g : Gate) (s : Serial) → OpenIn g s → (table : List ℕ) (piece : Word) → AnswersTaken g s piece (pieceOf g s table piece)
+pub answers-taken : (g : Gate) (s : Serial) → OpenIn g s → (table : Lent) (piece : Word) → AnswersTaken g s piece (pieceOf g s table piece)
 answers-taken g s o table piece =
     subst (λ (r : Piecing). AnswersTaken g s piece r)
     (piece-fed g s i refl table piece fed (endedOf (fed .gate) i (fed .taken) (length piece)) (o .room) (o .current) refl refl)

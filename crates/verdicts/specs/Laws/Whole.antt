@@ -34,7 +34,7 @@ use Rattle.matching.specs.Words.{Below, Word}
 use Rattle.verdicts.specs.Laws.Alike.{SameRooms, rest-alike}
 use Rattle.verdicts.specs.Laws.Onward.{Joined, Onward, rest-onward-by}
 use Rattle.desk.specs.Reached.{Call}
-use Rattle.desk.specs.Layout.{Kind}
+use Rattle.desk.specs.Layout.{Kind, Lent}
 use Rattle.matching.specs.Limits.{largest}
 use Rattle.desk.specs.Limits.{mostTickets}
 
@@ -112,7 +112,7 @@ long-none kind calls b seen s (c ∷ rest) k h e long =
     none r (feed-read a q l m) = absurd (omega (arith, m, long, agrees w (sound-left kind calls (b .0) (b .1) .inv) s k h e a .taken))
 
 pub fed-all : (most : ℕ) (kind : Kind) (calls : List Call) → Proper (start kind) calls → (seen : List Seen) → Joined seen (run (start kind) calls)
-    → (s : Serial) (d : Desk) (table : List ℕ) (piece : Word) (from : ℕ)
+    → (s : Serial) (d : Desk) (table : Lent) (piece : Word) (from : ℕ)
     → run (start kind) calls .desk ≡ d → run (start kind) calls .table ≡ table → Below 256 piece → from ≤ length piece → length piece ≤ from + most
     → OpenFor (run (start kind) calls) s (length piece - from)
     → fedOn most (record { desk = d; seen = seen }) s table piece from .taken ≡ length piece
