@@ -24,7 +24,8 @@
 //!
 //! let set = text::read(b"# withdrawn on Monday\npreview-17\nfree \\#4\\x20\n")?;
 //! assert_eq!(set.tag(Tag(1)), Some(&b"free #4 "[..]));
-//! assert_eq!(text::read(text::written(&set).as_bytes())?, set);
+//! let again = text::read(text::written(&set).as_bytes())?;
+//! assert_eq!(again, set);
 //!
 //! let twice = text::read(b"preview-17\n\npreview-17\n").unwrap_err();
 //! assert_eq!(twice.to_string(), "line 3: the tag of line 1 again");
