@@ -426,8 +426,8 @@ typedef struct sleet_gate_table {
 } sleet_gate_table;
 
 /* A gate and its table. They stay together, so that no piece is read over another table. The calls
-   below up to sleet_decide are all that may be made on it. Don't copy it, and define it in one file: a
-   static one in a header is another gate in each file that includes it. */
+   below up to sleet_decide are all that may be made on it. Don't copy it, and define it in one file that
+   is linked once: a static one in a header is another gate in each file that includes it. */
 typedef struct sleet_gateway {
     sleet_gate gate;
     sleet_gate_table table;

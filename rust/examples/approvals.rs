@@ -46,8 +46,8 @@ fn receive(gate: &mut Gate, one: &mut Approval, piece: &str) -> Result<(), Refus
                 "{}: stale at a piece, begun under edition {edition}; read again",
                 one.name
             );
-            let verdict = gate.decide(one.serial)?;
-            assert!(!verdict.passes());
+            let passes = gate.decide(one.serial)?.passes();
+            assert!(!passes);
             read_again(gate, one)
         }
         Err(refusal) => Err(refusal),

@@ -37,8 +37,8 @@ const MOST_SLOTS: usize = 513;
 /// assert_eq!((replaced.edition, replaced.tags), (Edition(1), 4));
 ///
 /// let serial = desk.open()?;
-/// assert_eq!(desk.feed(serial, b"ush")?.taken, 3);
-/// assert_eq!(desk.feed(serial, b"ers")?.stop, Stop::All);
+/// let (first, second) = (desk.feed(serial, b"ush")?, desk.feed(serial, b"ers")?);
+/// assert_eq!((first.taken, second.stop), (3, Stop::All));
 /// let ends: Vec<(u32, Tag)> = desk.drain().map(|r: Record| (r.end, r.tag)).collect();
 /// assert_eq!(ends, [(4, Tag(0)), (4, Tag(1)), (6, Tag(3))]);
 ///

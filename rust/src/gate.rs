@@ -31,11 +31,13 @@ const MOST_SLOTS: usize = 513;
 /// caller's; `docs/EMBEDDING.md` has all of it, and this is what is forgotten most easily:
 ///
 /// - **One lock.** Threads share a gate as a `Mutex<Gate>`. Decide and let through under one guard,
-///   bound by `let`: a [`Verdict::Pass`] speaks of the set in force when it was given.
-/// - **Queues.** What waits in a queue, for a retry or in a cache isn't let through yet: decide when
-///   it leaves.
-/// - **As many bytes as were read.** [`Gate::state`] before the decision has their number: hold it
-///   against the number that goes out.
+///   bound by a `let` of its own, with nothing awaited between: a [`Verdict::Pass`] speaks of the set
+///   in force when it was given. After `let verdict = shared.lock().unwrap().decide(serial)?;` the
+///   guard is gone.
+/// - **Queues.** What waits in a queue, for a retry, in a cache or in a `BufWriter` isn't let through
+///   yet: decide when it leaves.
+/// - **As many bytes as were read.** [`Gate::state`] before the decision has their number: compare it
+///   with the number that is to go out, before it goes out.
 /// - **A refused set withdraws nothing.** Let nothing through until the list that was refused is in
 ///   force, put right; the last good list again is not enough.
 /// - **An empty list is no set.** When no tag is withdrawn any more, put one in force that no approval
@@ -52,26 +54,28 @@ const MOST_SLOTS: usize = 513;
 ///
 /// // A tag across two pieces.
 /// let north = gate.begin()?;
-/// assert_eq!(gate.piece(north, b"approved: crown 26, from prev")?, Piece::Read);
-/// assert_eq!(gate.piece(north, b"iew-17, for Monday")?, Piece::Read);
-/// match gate.decide(north)? {
-///     Verdict::Hold(held) => assert_eq!(held.to_string(), "preview-17 (tag 0 of edition 1)"),
-///     other => panic!("{other}"),
-/// }
+/// let front = gate.piece(north, b"approved: crown 26, from prev")?;
+/// let rest = gate.piece(north, b"iew-17, for Monday")?;
+/// assert_eq!((front, rest), (Piece::Read, Piece::Read));
+/// let words = gate.decide(north)?.to_string();
+/// assert_eq!(words, "hold: it carries preview-17 (tag 0 of edition 1)");
 ///
 /// // Read whole and without a tag; but the set is replaced before the decision.
 /// let south = gate.begin()?;
 /// gate.piece(south, b"approved: bridge 4, from preview-31")?;
 /// gate.replace(&TagSet::new(["preview-17", "preview-23", "preview-31"])?)?;
-/// assert_eq!(gate.decide(south)?, Verdict::Stale { edition: Edition(1) });
+/// let verdict = gate.decide(south)?;
+/// assert_eq!(verdict, Verdict::Stale { edition: Edition(1) });
 ///
 /// // So it is read again, from its first byte.
 /// let again = gate.begin()?;
 /// gate.piece(again, b"approved: bridge 4, from preview-31")?;
-/// assert!(!gate.decide(again)?.passes());
+/// let passes = gate.decide(again)?.passes();
+/// assert!(!passes);
 ///
 /// // A serial is decided once.
-/// assert_eq!(gate.decide(again), Err(Refusal::NoTicket));
+/// let refused = gate.decide(again);
+/// assert_eq!(refused, Err(Refusal::NoTicket));
 /// # Ok::<(), Refusal>(())
 /// ```
 pub struct Gate {
@@ -126,9 +130,11 @@ impl Gate {
     /// use sleetbarley::{Gate, Refusal};
     ///
     /// let mut gate = Gate::new();
-    /// assert_eq!(gate.replace_bytes(b"\x02\0\x01\0he")?.tags, 1);
+    /// let now = gate.replace_bytes(b"\x02\0\x01\0he")?;
+    /// assert_eq!(now.tags, 1);
     /// // The bytes of a tag alone are no set.
-    /// assert_eq!(gate.replace_bytes(b"preview-17"), Err(Refusal::Kind { entry: 0 }));
+    /// let refused = gate.replace_bytes(b"preview-17");
+    /// assert_eq!(refused, Err(Refusal::Kind { entry: 0 }));
     /// # Ok::<(), Refusal>(())
     /// ```
     pub fn replace_bytes(&mut self, set: &[u8]) -> Result<Replaced, Refusal> {

@@ -37,9 +37,11 @@ pub const WHOLE_START: u16 = 0;
 /// let mut desk = LentDesk::new();
 /// desk.replace(TagSet::new(["he", "she"])?.as_bytes(), &mut table)?;
 /// let serial = desk.open()?;
-/// assert_eq!(desk.feed(serial, &table, b"she")?.records, 2);
+/// let fed = desk.feed(serial, &table, b"she")?;
+/// assert_eq!(fed.records, 2);
 /// // A table of another length is not the one of the replacement.
-/// assert_eq!(desk.feed(serial, &table[..240], b"she")?.stop, Stop::Damaged);
+/// let fed = desk.feed(serial, &table[..240], b"she")?;
+/// assert_eq!(fed.stop, Stop::Damaged);
 /// # Ok::<(), Refusal>(())
 /// ```
 #[derive(Clone, PartialEq, Eq)]

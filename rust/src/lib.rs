@@ -42,8 +42,9 @@
 //! fn main() -> Result<(), Refusal> {
 //!     let mut gate = Gate::new();
 //!     gate.replace(&TagSet::new(["K-1041", "K-2200"])?)?;
-//!     assert!(passes(&mut gate, &["batch 8 as ", "K-3007"])?);
-//!     assert!(!passes(&mut gate, &["batch 7 after K-10", "41 was repeated"])?);
+//!     let eighth = passes(&mut gate, &["batch 8 as ", "K-3007"])?;
+//!     let seventh = passes(&mut gate, &["batch 7 after K-10", "41 was repeated"])?;
+//!     assert!(eighth && !seventh);
 //!     Ok(())
 //! }
 //! ```

@@ -181,9 +181,17 @@ impl Display for Refusal {
                     "machine {machine} needs {states} states, more than the table has slots"
                 )
             }
-            Refusal::Edition => write!(f, "no edition is left here: go on with a new one"),
+            Refusal::Edition => write!(
+                f,
+                "no edition is left, and the set isn't in force: hold all approvals until the \
+                 process is restarted with this list in force"
+            ),
             Refusal::NoSet => write!(f, "no set is in force yet: replace one first"),
-            Refusal::Serial => write!(f, "no serial is left here: go on with a new one"),
+            Refusal::Serial => write!(
+                f,
+                "no serial is left: hold all approvals until the process is restarted with the \
+                 list in force"
+            ),
             Refusal::NoRoom => {
                 write!(
                     f,

@@ -28,7 +28,24 @@ const KIND: [u8; 2] = [1, 0];
 /// assert_eq!(twice, Err(Refusal::Repeat { entry: 2 }));
 ///
 /// let none: [&str; 0] = [];
-/// assert_eq!(TagSet::new(none), Err(Refusal::Empty { entry: 0 }));
+/// let empty = TagSet::new(none);
+/// assert_eq!(empty, Err(Refusal::Empty { entry: 0 }));
+///
+/// // Two lists in one: the tags of both, and one that stands in both only once.
+/// let (monday, tuesday) = (TagSet::new(["he", "she"])?, TagSet::new(["she", "his"])?);
+/// let new = tuesday.tags().filter(|tag| !monday.tags().any(|old| old == *tag));
+/// let both = TagSet::new(monday.tags().chain(new))?;
+/// let tags: Vec<&[u8]> = both.tags().collect();
+/// assert_eq!(tags, [&b"he"[..], b"she", b"his"]);
+/// # Ok::<(), Refusal>(())
+/// ```
+///
+/// A set is no tag, so this doesn't compile; the tags that were meant would not be withdrawn:
+///
+/// ```compile_fail,E0277
+/// # use sleetbarley::{Refusal, TagSet};
+/// let (monday, tuesday) = (TagSet::new(["he"])?, TagSet::new(["she"])?);
+/// let both = TagSet::new([&monday, &tuesday])?;
 /// # Ok::<(), Refusal>(())
 /// ```
 #[derive(Clone, Debug, PartialEq, Eq, Hash)]
@@ -106,12 +123,6 @@ impl TagSet {
     /// The slots that a whole-byte table of this set needs.
     pub fn whole_slots(&self) -> usize {
         self.whole_slots
-    }
-}
-
-impl AsRef<[u8]> for TagSet {
-    fn as_ref(&self) -> &[u8] {
-        &self.bytes
     }
 }
 

@@ -72,7 +72,8 @@ impl SplitTable {
 ///
 /// let set = TagSet::new(["he", "she", "his", "hers"])?;
 /// let (whole, split) = (WholeTable::build(&set)?, SplitTable::build(&set)?);
-/// assert_eq!(whole.find_all(b"ushers")?, split.find_all(b"ushers")?);
+/// let (by_whole, by_split) = (whole.find_all(b"ushers")?, split.find_all(b"ushers")?);
+/// assert_eq!(by_whole, by_split);
 /// # Ok::<(), Refusal>(())
 /// ```
 #[derive(Clone, Debug, PartialEq, Eq)]

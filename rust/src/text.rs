@@ -7,12 +7,14 @@
 //! | `\\`, `\#` | a backslash, a number sign |
 //! | `\n`, `\r`, `\t` | bytes 10, 13 and 9 |
 //! | `\xHH` | the byte of these two hexadecimal digits, in lower or upper case |
-//! | any other printable byte, or one of 128 and above | itself |
+//! | any other printable byte of ASCII | itself |
 //!
 //! Lines end with a line feed, or with a carriage return and a line feed. What an eye can't see, or
-//! may take for something else, is a fault and no tag: a control byte that isn't escaped, a blank at
-//! a line's front or end (write `\x20`), a `#` behind a blank, which may be meant as a remark (write
-//! `\#`), and a byte order mark.
+//! may take for something else, is a fault and no tag: a control byte that isn't escaped, a byte of
+//! 128 or above (write `\xHH`; the bytes of a letter such as `ü`, and of blanks that have no width),
+//! a blank at a line's front or end (write `\x20`), and a `#` behind a blank, which may be meant as a
+//! remark (write `\#`). A remark may have any bytes but a byte order mark, which is a fault in every
+//! line: one in the middle tells that two texts were joined there.
 //!
 //! Whether the tags make a lawful set, the archive's proved reading says; a fault of its is told
 //! with the line of the tag.
@@ -22,16 +24,23 @@
 //!
 //! let set = text::read(b"# withdrawn on Monday\npreview-17\nfree \\#4\\x20\n")?;
 //! assert_eq!(set.tag(Tag(1)), Some(&b"free #4 "[..]));
-//! assert_eq!(text::read(text::written(&set).as_bytes())?, set);
+//! let again = text::read(text::written(&set).as_bytes())?;
+//! assert_eq!(again, set);
 //!
 //! let twice = text::read(b"preview-17\n\npreview-17\n").unwrap_err();
 //! assert_eq!(twice.to_string(), "line 3: the tag of line 1 again");
+//!
+//! let unseen = text::read("preview-17\u{200b}\n".as_bytes()).unwrap_err();
+//! assert_eq!((unseen.line, unseen.what), (1, text::What::High { byte: 0xe2, place: 11 }));
 //! # Ok::<(), text::Fault>(())
 //! ```
 
 use crate::refusal::Refusal;
 use crate::set::TagSet;
 use std::fmt::{self, Display, Formatter, Write};
+
+/// The byte order mark of UTF-8, which an editor may put in front of a text.
+const MARK: &[u8] = b"\xef\xbb\xbf";
 
 /// Why a text is no set.
 #[derive(Clone, Copy, Debug, PartialEq, Eq, Hash)]
@@ -46,7 +55,7 @@ pub struct Fault {
 #[derive(Clone, Copy, Debug, PartialEq, Eq, Hash)]
 #[non_exhaustive]
 pub enum What {
-    /// The text begins with a byte order mark.
+    /// A byte order mark stands in it, at whatever place.
     Mark,
     /// A blank stands at the line's front.
     BlankInFront,
@@ -58,6 +67,13 @@ pub enum What {
     Control {
         /// The byte.
         byte: u8,
+    },
+    /// A byte of 128 or above stands in it as such.
+    High {
+        /// The byte.
+        byte: u8,
+        /// Its place in the line, counted from 1.
+        place: usize,
     },
     /// A backslash that begins none of the escapes.
     Escape,
@@ -83,7 +99,10 @@ impl Display for Fault {
     fn fmt(&self, f: &mut Formatter) -> fmt::Result {
         write!(f, "line {}: ", self.line)?;
         match self.what {
-            What::Mark => write!(f, "a byte order mark; save the text without it"),
+            What::Mark => write!(
+                f,
+                "a byte order mark; save the text without it, each text where several were joined"
+            ),
             What::BlankInFront => write!(f, "a blank at the front; write \\x20 where the tag has it"),
             What::BlankAtEnd => write!(f, "a blank at the end; write \\x20 where the tag has it"),
             What::Remark => write!(
@@ -93,6 +112,11 @@ impl Display for Fault {
             What::Control { byte } => {
                 write!(f, "a control byte; write \\x{byte:02x} where the tag has it")
             }
+            What::High { byte, place } => write!(
+                f,
+                "byte {place} is above ASCII, and an eye can't be sure of it; \
+                 write \\x{byte:02x} where the tag has it"
+            ),
             What::Escape => write!(
                 f,
                 "a backslash that is none of \\\\ \\# \\n \\r \\t and \\x with two hexadecimal digits"
@@ -115,7 +139,7 @@ pub fn read(text: &[u8]) -> Result<TagSet, Fault> {
     for line in text.split(|byte| *byte == b'\n') {
         lines += 1;
         let fault = |what| Fault { line: lines, what };
-        if let Some(tag) = read_line(line, lines == 1).map_err(fault)? {
+        if let Some(tag) = read_line(line).map_err(fault)? {
             tags.push((lines, tag));
         }
     }
@@ -153,9 +177,9 @@ fn told(refusal: Refusal, tags: &[(usize, Vec<u8>)], last: usize) -> Fault {
 }
 
 /// The tag of a line, or none where it is passed over.
-fn read_line(line: &[u8], first: bool) -> Result<Option<Vec<u8>>, What> {
+fn read_line(line: &[u8]) -> Result<Option<Vec<u8>>, What> {
     let line = line.strip_suffix(b"\r").unwrap_or(line);
-    if first && line.starts_with(b"\xef\xbb\xbf") {
+    if line.windows(MARK.len()).any(|bytes| bytes == MARK) {
         return Err(What::Mark);
     }
     if line.starts_with(b"#") || line.iter().all(|byte| b" \t".contains(byte)) {
@@ -171,6 +195,10 @@ fn read_line(line: &[u8], first: bool) -> Result<Option<Vec<u8>>, What> {
             (b'\\', _) => unescaped(after).ok_or(What::Escape)?,
             (b'#', b' ') => return Err(What::Remark),
             (0..=31 | 127, _) => return Err(What::Control { byte: *byte }),
+            (128.., _) => {
+                let place = line.len() - after.len();
+                return Err(What::High { byte: *byte, place });
+            }
             _ => (*byte, after),
         };
         tag.push(meant);

@@ -1,5 +1,6 @@
 //! Every refusal that the crate's calls can reach, with its number, its values and its words.
-//! (EDITION and SERIAL take four billion calls; the tests over any image reach them.)
+//! (EDITION and SERIAL take four billion calls; the tests over any image reach them. Their words
+//! are here.)
 
 use sleetbarley::lent::{self, LentDesk, SPLIT_TABLE};
 use sleetbarley::{
@@ -165,4 +166,16 @@ fn a_lent_table_that_was_changed_stops_the_feed_and_nothing_else() {
     table[..3].fill(u16::MAX);
     assert_eq!(desk.feed(serial, &table, b"he"), Ok(damaged(0)));
     assert!(desk == before);
+}
+
+#[test]
+fn at_the_last_number_approvals_are_held_and_no_gate_is_started_anew() {
+    let words = [Refusal::Edition, Refusal::Serial].map(|refusal| refusal.to_string());
+    let expected = [
+        "refused with 8, EDITION: no edition is left, and the set isn't in force: hold all \
+         approvals until the process is restarted with this list in force",
+        "refused with 10, SERIAL: no serial is left: hold all approvals until the process is \
+         restarted with the list in force",
+    ];
+    assert_eq!(words, expected);
 }

@@ -22,7 +22,10 @@ fn lines_are_tags_and_the_rest_is_passed_over() {
         tags_of(b"\\\\\\n\\r\\t\\x00\\xfF\\x20"),
         [b"\\\n\r\t\0\xff "]
     );
-    assert_eq!(tags_of("Zürich\n".as_bytes()), ["Zürich".as_bytes()]);
+    assert_eq!(
+        tags_of("# Zürich\nZ\\xc3\\xBCrich\n".as_bytes()),
+        ["Zürich".as_bytes()]
+    );
     assert_eq!(
         tags_of(b"\\#not a remark\n\\x20#"),
         [&b"#not a remark"[..], b" #"]
@@ -34,6 +37,7 @@ fn every_fault_is_told_with_its_line() {
     let numbered =
         |count: usize| -> String { (0..count).map(|k| format!("tag {k}\n\n")).collect() };
     let long = format!("# one\n{}\n", "x".repeat(33));
+    let high = |byte, place| What::High { byte, place };
     let cases: Vec<(Vec<u8>, usize, What)> = vec![
         (b"".to_vec(), 1, What::NoTag),
         (b"# a\n\n# b\n".to_vec(), 3, What::NoTag),
@@ -47,6 +51,9 @@ fn every_fault_is_told_with_its_line() {
         (b"a\rb\n".to_vec(), 1, What::Control { byte: 13 }),
         (b"a\0\n".to_vec(), 1, What::Control { byte: 0 }),
         (b"a\x7f\n".to_vec(), 1, What::Control { byte: 127 }),
+        (b"a\n\xc3\xbc\n".to_vec(), 2, high(0xc3, 1)),
+        (b"a\n\\xc3\xbc\n".to_vec(), 2, high(0xbc, 5)),
+        (b"#\n\nab\xff\r\n".to_vec(), 3, high(0xff, 3)),
         (b"a\n\n\\q\n".to_vec(), 3, What::Escape),
         (b"a\\".to_vec(), 1, What::Escape),
         (b"a\\x4".to_vec(), 1, What::Escape),
@@ -67,6 +74,66 @@ fn every_fault_is_told_with_its_line() {
     }
     assert_eq!(tags_of(numbered(16).as_bytes()).len(), 16);
     assert_eq!(tags_of("x".repeat(32).as_bytes())[0].len(), 32);
+}
+
+#[test]
+fn a_byte_stands_for_itself_only_where_an_eye_can_be_sure_of_it() {
+    for byte in 0..=u8::MAX {
+        let escaped = format!("a\\x{byte:02x}b\n");
+        assert_eq!(tags_of(escaped.as_bytes()), [[b'a', byte, b'b']]);
+        let said = read(&[b'a', byte, b'b']).map_err(|fault| (fault.line, fault.what));
+        match byte {
+            b'\n' => assert_eq!(said, Ok(TagSet::new(["a", "b"]).expect("lawful"))),
+            0..=31 | 127 => assert_eq!(said, Err((1, What::Control { byte }))),
+            b'\\' => assert_eq!(said, Err((1, What::Escape))),
+            128.. => assert_eq!(said, Err((1, What::High { byte, place: 2 }))),
+            _ => assert_eq!(said, Ok(TagSet::new([[b'a', byte, b'b']]).expect("lawful"))),
+        }
+    }
+}
+
+#[test]
+fn letters_that_no_eye_sees_are_told_with_what_to_write() {
+    // A blank that doesn't break, one without width, a soft hyphen, another script's letter: in
+    // front of the tag, within it, behind it, and alone in a line.
+    for letter in ['\u{a0}', '\u{200b}', '\u{ad}', '\u{440}'] {
+        let byte = letter.to_string().as_bytes()[0];
+        for (line, place) in [("#preview", 1), ("pre#view", 4), ("preview#", 8), ("#", 1)] {
+            let line = line.replace('#', &letter.to_string());
+            let fault = read(format!("a\n{line}\nb\n").as_bytes()).expect_err("a fault");
+            assert_eq!(
+                (fault.line, fault.what),
+                (2, What::High { byte, place }),
+                "{fault}"
+            );
+            let write = format!("write \\x{byte:02x} where the tag has it");
+            assert!(fault.to_string().ends_with(&write), "{fault}");
+        }
+        // In a remark it does no harm.
+        assert_eq!(tags_of(format!("#{letter}\na\n").as_bytes()), [b"a"]);
+    }
+}
+
+#[test]
+fn a_byte_order_mark_is_a_fault_in_every_line() {
+    let cases: [(&[u8], usize); 7] = [
+        (b"\xef\xbb\xbfa\n", 1),
+        (b"\xef\xbb\xbf\na\n", 1),
+        (b"a\n\xef\xbb\xbf# b\nc\n", 2),
+        (b"a\n \xef\xbb\xbf\nc\n", 2),
+        // Behind a text whose last line lacks its end.
+        (b"a\nb\xef\xbb\xbfc\n", 2),
+        (b"a\n# b\xef\xbb\xbfc\n", 2),
+        (b"a\n\n\xef\xbb\xbf", 3),
+    ];
+    for (text, line) in cases {
+        let fault = read(text).expect_err("a fault");
+        assert_eq!((fault.line, fault.what), (line, What::Mark), "{fault}");
+        assert!(fault.to_string().contains("a byte order mark"), "{fault}");
+    }
+    // Written by escapes its bytes are a tag like others.
+    let tag = b"\xef\xbb\xbfpreview-17";
+    assert_eq!(tags_of(b"\\xef\\xbb\\xbfpreview-17\n"), [tag]);
 }
 
 /// Random numbers (xorshift).
@@ -174,6 +241,43 @@ fn the_program_makes_a_set_and_lists_it() {
     assert_eq!(said(&faulty), (Some(1), String::new(), words.into()));
     assert_eq!(fs::read(&again).expect("made"), set.as_bytes());
     assert_eq!(fs::read_dir(&folder).expect("a folder").count(), 3);
+}
+
+#[test]
+fn the_program_refuses_what_an_eye_can_not_see() {
+    let told = |words: &str| {
+        let words = format!("sleet-set: standard input or output: {words}\n");
+        (Some(1), String::new(), words)
+    };
+    let make = |text: &[u8]| said(&sleet_set(&["make", "-", "-"], text));
+    // Two texts, joined by cat; the second was saved with a mark.
+    let monday = &b"# withdrawn on Monday\npreview-17\n"[..];
+    let tuesday = b"\xef\xbb\xbfpreview-23\n";
+    let mark = "a byte order mark; save the text without it, each text where several were joined";
+    let joined = [monday, tuesday].concat();
+    assert_eq!(make(&joined), told(&format!("line 3: {mark}")));
+    let unended = [&monday[..monday.len() - 1], tuesday].concat();
+    assert_eq!(make(&unended), told(&format!("line 2: {mark}")));
+    for (letter, words) in [('\u{a0}', "\\xc2"), ('\u{200b}', "\\xe2")] {
+        let text = format!("preview-17\npreview-23{letter}\n");
+        let high = format!(
+            "line 2: byte 11 is above ASCII, and an eye can't be sure of it; \
+             write {words} where the tag has it"
+        );
+        assert_eq!(make(text.as_bytes()), told(&high));
+    }
+    // A set that has such bytes is listed by escapes, and made again from its list.
+    let set = TagSet::new(["Z\u{fc}rich", "preview-17\u{200b}", "\u{feff}a"]).expect("lawful");
+    let listed = sleet_set(&["list", "-"], set.as_bytes());
+    let expected = "# tags: 3; bytes of the set: 36\n# tag 0, length 7\nZ\\xc3\\xbcrich\n\
+                    # tag 1, length 13\npreview-17\\xe2\\x80\\x8b\n\
+                    # tag 2, length 4\n\\xef\\xbb\\xbfa\n";
+    assert_eq!(said(&listed), (Some(0), expected.into(), String::new()));
+    let again = sleet_set(&["make", "-", "-"], &listed.stdout);
+    assert_eq!(
+        (again.status.code(), &again.stdout[..]),
+        (Some(0), set.as_bytes())
+    );
 }
 
 #[test]

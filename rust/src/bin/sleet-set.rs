@@ -19,9 +19,11 @@ A - stands for standard input or standard output. A set has 1 to 16 tags of 1 to
   nothing, or only blanks and tabs       the line is passed over
   # in front                             a remark, passed over
   \\ \# \n \r \t \xHH                    a byte, by an escape
-  any other byte, but a control byte     itself
+  any other printable byte of ASCII      itself
 
-A blank at the front or end of a tag is written \x20, and a # behind a blank \#.
+A blank at the front or end of a tag is written \x20, and a # behind a blank \#. A
+byte of 128 and above may stand in a remark; in a tag it is written \xHH. A byte
+order mark is a fault in every line.
 Where the text is faulty nothing is written, and OUT.bin stays as it was.
 
 It ends with 0 where it is done, 1 where the input is at fault or a file can't be
