@@ -13,8 +13,10 @@
 //! may take for something else, is a fault and no tag: a control byte that isn't escaped, a byte of
 //! 128 or above (write `\xHH`; the bytes of a letter such as `ü`, and of blanks that have no width),
 //! a blank at a line's front or end (write `\x20`), and a `#` behind a blank, which may be meant as a
-//! remark (write `\#`). A remark may have any bytes but a byte order mark, which is a fault in every
-//! line: one in the middle tells that two texts were joined there.
+//! remark (write `\#`). A byte order mark is a fault in every line: one in the middle tells that two
+//! texts were joined there. A remark may have any other bytes but those that an editor may show as a
+//! line's end, which would make a tag of what stands behind them: control bytes other than the tab,
+//! U+0085, U+2028 and U+2029.
 //!
 //! Whether the tags make a lawful set, the archive's proved reading says; a fault of its is told
 //! with the line of the tag.
@@ -42,6 +44,9 @@ use std::fmt::{self, Display, Formatter, Write};
 /// The byte order mark of UTF-8, which an editor may put in front of a text.
 const MARK: &[u8] = b"\xef\xbb\xbf";
 
+/// What an editor may show as the end of a line, besides control bytes: U+0085, U+2028, U+2029.
+const ENDS: [&[u8]; 3] = [b"\xc2\x85", b"\xe2\x80\xa8", b"\xe2\x80\xa9"];
+
 /// Why a text is no set.
 #[derive(Clone, Copy, Debug, PartialEq, Eq, Hash)]
 pub struct Fault {
@@ -57,6 +62,8 @@ pub struct Fault {
 pub enum What {
     /// A byte order mark stands in it, at whatever place.
     Mark,
+    /// A remark has what an editor may show as the end of a line.
+    End,
     /// A blank stands at the line's front.
     BlankInFront,
     /// A blank stands at the line's end.
@@ -102,6 +109,11 @@ impl Display for Fault {
             What::Mark => write!(
                 f,
                 "a byte order mark; save the text without it, each text where several were joined"
+            ),
+            What::End => write!(
+                f,
+                "a remark with what an editor may show as a line's end; \
+                 end it with a line feed where what follows is a tag"
             ),
             What::BlankInFront => write!(f, "a blank at the front; write \\x20 where the tag has it"),
             What::BlankAtEnd => write!(f, "a blank at the end; write \\x20 where the tag has it"),
@@ -179,10 +191,13 @@ fn told(refusal: Refusal, tags: &[(usize, Vec<u8>)], last: usize) -> Fault {
 /// The tag of a line, or none where it is passed over.
 fn read_line(line: &[u8]) -> Result<Option<Vec<u8>>, What> {
     let line = line.strip_suffix(b"\r").unwrap_or(line);
-    if line.windows(MARK.len()).any(|bytes| bytes == MARK) {
+    if has(line, MARK) {
         return Err(What::Mark);
     }
-    if line.starts_with(b"#") || line.iter().all(|byte| b" \t".contains(byte)) {
+    if line.starts_with(b"#") {
+        return if may_end_within(line) { Err(What::End) } else { Ok(None) };
+    }
+    if line.iter().all(|byte| b" \t".contains(byte)) {
         return Ok(None);
     }
     if line.starts_with(b" ") {
@@ -209,6 +224,16 @@ fn read_line(line: &[u8]) -> Result<Option<Vec<u8>>, What> {
         b' ' => Err(What::BlankAtEnd),
         _ => Ok(Some(tag)),
     }
+}
+
+fn has(line: &[u8], bytes: &[u8]) -> bool {
+    line.windows(bytes.len()).any(|at| at == bytes)
+}
+
+/// Whether an editor may show more than one line.
+fn may_end_within(line: &[u8]) -> bool {
+    let control = |byte: &u8| *byte != b'\t' && byte.is_ascii_control();
+    line.iter().any(control) || ENDS.iter().any(|end| has(line, end))
 }
 
 /// The byte that an escape means, from what stands behind its backslash, and what follows it.

@@ -136,6 +136,26 @@ fn a_byte_order_mark_is_a_fault_in_every_line() {
     assert_eq!(tags_of(b"\\xef\\xbb\\xbfpreview-17\n"), [tag]);
 }
 
+#[test]
+fn what_an_editor_may_show_as_a_line_of_its_own_is_a_fault_in_a_remark() {
+    for byte in (0..=u8::MAX).filter(|byte| *byte != b'\n') {
+        let text = [b"a\n# b", &[byte][..], b"preview-23\n"].concat();
+        let said = read(&text).map_err(|fault| (fault.line, fault.what));
+        match byte {
+            b'\t' => assert_eq!(said, Ok(TagSet::new(["a"]).expect("lawful"))),
+            0..=31 | 127 => assert_eq!(said, Err((2, What::End))),
+            _ => assert_eq!(said, Ok(TagSet::new(["a"]).expect("lawful"))),
+        }
+    }
+    for end in ['\u{85}', '\u{2028}', '\u{2029}'] {
+        let fault = read(format!("a\n# b{end}preview-23\n").as_bytes()).expect_err("a fault");
+        assert_eq!((fault.line, fault.what), (2, What::End), "{fault}");
+        let alone = read(format!("a\n{end}preview-23\n").as_bytes()).expect_err("a fault");
+        assert_eq!(alone.line, 2, "{alone}");
+    }
+    assert_eq!(tags_of(b"# b\r\npreview-23\r\n"), [b"preview-23"]);
+}
+
 /// Random numbers (xorshift).
 fn random(state: &mut u64) -> u64 {
     *state ^= *state << 13;

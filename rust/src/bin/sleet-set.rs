@@ -22,8 +22,8 @@ A - stands for standard input or standard output. A set has 1 to 16 tags of 1 to
   any other printable byte of ASCII      itself
 
 A blank at the front or end of a tag is written \x20, and a # behind a blank \#. A
-byte of 128 and above may stand in a remark; in a tag it is written \xHH. A byte
-order mark is a fault in every line.
+byte of 128 and above may stand in a remark; in a tag it is written \xHH. Faults in
+every line are a byte order mark, and what may be shown as a line's end and is none.
 Where the text is faulty nothing is written, and OUT.bin stays as it was.
 
 It ends with 0 where it is done, 1 where the input is at fault or a file can't be
