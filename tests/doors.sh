@@ -4,19 +4,19 @@
 set -euo pipefail
 cd "$(dirname "$0")/.."
 
-# the words that a file unfolds: behind `unfolding`, over the lines that stand further in, and between `unfold` and `in`; a name that is brought in under another
-# (`NAME as OTHER`) counts as unfolded
+# the words that a file unfolds: behind `unfolding`, over the lines that stand further in, and between `unfold` and `in`; a name that is
+# brought in under another (`NAME as OTHER`) counts as unfolded
 unfolded() { # FILE
   {
     awk '
       { match($0, /^ */); indent = RLENGTH; line = $0; sub(/--.*/, "", line) }
-      line ~ /^ *unfolding( |$)/ { at = indent; on = 1; sub(/^ *unfolding */, "", line); print line; next }
+      line ~ /(^|[ (])unfolding([ (]|$)/ { at = indent; on = 1; sub(/.*unfolding */, "", line); print line; next }
       on && indent > at { print line; next }
       { on = 0 }
     ' "$1"
-    sed 's/--.*//' "$1" | tr '\n' ' ' | grep -oE '(^|[^[:alnum:]·])unfold [^()]*[^[:alnum:]]in ' || true
+    sed 's/--.*//' "$1" | tr '\n' ' ' | sed 's/ in /\n/g' | grep -oE '(^|[^[:alnum:]·])unfold .*' || true
     grep -oE '[^ ,{}]+ as [^ ,{}]+' "$1" | sed 's/ as .*//' || true
-  } | tr ' ' '\n' | sed 's/.*[.·(]//' | sort -u
+  } | tr ' (){},;' '\n' | sed 's/.*[.·]//' | sort -u
 }
 
 failed=0
@@ -35,12 +35,17 @@ door() { # DEFINITIONS FILE_THAT_MAY...
   done
 }
 
-# how the desk's table is laid out: its laws, the four functions of code that lay it out, and the samples, which are computed
+# how the desk's table is laid out: its laws, the three functions of code that lay it out and what their proofs share, and the samples, which
+# are computed
 door crates/desk/specs/Layout.antt crates/desk/specs/Laws/Layout.antt crates/desk/proofs/ByAnswer.antt crates/desk/proofs/layout/build_if/Proof.antt \
   crates/desk/proofs/rooms/new_ticket/Proof.antt crates/desk/proofs/scan/read_for/Proof.antt crates/samples/specs/Samples.antt
 
 # when a tag of a set ends an input: its laws, and those of readings and tables of tags that are matched byte for byte
 door crates/matching/specs/Tags.antt crates/matching/specs/Laws/Tags.antt crates/desk/specs/Laws/Layout.antt crates/history/specs/Laws/Rows.antt
+
+# and as equations of the rules it is for readers alone: a proof that used them would look inside
+inside=$(grep -rl --include='*.antt' --include='*.rt' 'as-the-rules' crates | grep -v '^crates/desk/specs/Laws/Layout.antt$' || true)
+[[ -z $inside ]] || { echo "doors: as-the-rules is used in" $inside >&2; failed=1; }
 
 ((failed == 0)) && echo 'doors: shut'
 exit $failed

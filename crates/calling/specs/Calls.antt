@@ -62,7 +62,8 @@ lendOn h lent = answered (record { desk = h .desk; bytes = h .bytes; table = h .
 
 abbrev pub replaceOn : Held → Answered
 replaceOn h =
-    answered (withLent (withDesk h (replaceOf (h .desk) (bySet (h .bytes)) (length (lentTable h)) .desk)) (replacedRun (h .desk) (bySet (h .bytes)) (lentTable h)))
+    answered (withLent (withDesk h (replaceOf (h .desk) (bySet (h .bytes)) (length (lentTable h)) .desk))
+    (replacedRun (h .desk) (bySet (h .bytes)) (lentTable h)))
     (replaceLine (replaceOf (h .desk) (bySet (h .bytes)) (length (lentTable h)) .answer))
 
 abbrev pub openOn : Held → Answered

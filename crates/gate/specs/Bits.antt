@@ -1,4 +1,4 @@
--- Records by their serial, their bits in a mask, tag i being bit i, and rooms that tell serials apart.
+-- The bits of records in a mask, tag i being bit i.
 use Prim.Native.Nat.{ℕ, _%_, _^_}
 use mathlib.Core.List.{List, [], _∷_}
 use lib.Bits.{bitOr}

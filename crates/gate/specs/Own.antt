@@ -7,7 +7,7 @@ use mathlib.Core.Path.{_≡_, subst, sym}
 use lib.ListN.{length}
 use Rattle.desk.specs.Laws.Good.{good}
 use Rattle.desk.specs.Reached.{Reached}
-use Rattle.desk.specs.Rooms.{isHeld, roomOf, serialOf, ticketIn}
+use Rattle.desk.specs.Rooms.{Apart, isHeld, roomOf, serialOf, ticketIn}
 use Rattle.desk.specs.Shared.{held, recordsFor}
 use Rattle.desk.specs.declared.Desk.{Desk}
 use Rattle.desk.specs.declared.Record.{Record}
@@ -19,7 +19,7 @@ use Rattle.gate.specs.Noting.{noted, seenIn}
 use Rattle.gate.specs.declared.Gate.{Gate}
 use Rattle.gate.specs.declared.Seen.{Seen}
 use Rattle.desk.specs.Limits.{mostRecords, mostTickets}
-use Rattle.desk.specs.Laws.Apart.{Apart, reached-apart}
+use Rattle.desk.specs.Laws.Apart.{reached-apart}
 
 -- a gate's masks and a desk: 16 of each, no two rooms held under one serial, and at most 256 records held
 pub record Roomed (g : Gate) (d : Desk) : Type 0 where
@@ -60,5 +60,6 @@ pub nowhere : (rooms : List Ticket) (seen : List Seen) (before : List Record) (r
 nowhere = noted-nowhere
 
 -- no record is held then, and the tickets are as before
-pub emptied-none : (g : Gate) (d : Desk) → d .records .count ≤ mostRecords → (held (emptiedOf g d .desk .records) ≡ []) × (emptiedOf g d .desk .tickets ≡ d .tickets)
+pub emptied-none : (g : Gate) (d : Desk) → d .records .count ≤ mostRecords
+    → (held (emptiedOf g d .desk .records) ≡ []) × (emptiedOf g d .desk .tickets ≡ d .tickets)
 emptied-none = none-held

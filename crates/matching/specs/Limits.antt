@@ -1,4 +1,4 @@
--- The limits of the rules, each said here and nowhere else.
+-- The limits of the rules, by name.
 use Prim.Native.Nat.{ℕ}
 
 -- the tags of a set

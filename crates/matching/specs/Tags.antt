@@ -1,5 +1,5 @@
 -- The tags of a set: how many there are, when one of them ends an input, and what is found of them. Whatever speaks of editions and tickets
--- speaks of these names, and knows of them what Laws/Tags.antt shows; how a tag is matched is said here alone.
+-- speaks of these names; of those that are `unfoldable` it knows what Laws/Tags.antt shows, and how a tag is matched is said here alone.
 use Prim.Native.Nat.{ℕ}
 use mathlib.Core.Bool.{Bool, _&&_}
 use mathlib.Core.List.{List, []}

@@ -19,7 +19,7 @@ use Rattle.tables.specs.Building.{builtOf}
 use Rattle.tagset.specs.Grammar.{distinct, entriesFrom, entryOf, setOf}
 
 -- numbers below a limit, by a test
-below-by : (m : ℕ) (l : List ℕ) → allBelow m l ≡ true → Below m l
+pub below-by : (m : ℕ) (l : List ℕ) → allBelow m l ≡ true → Below m l
 unfolding allBelow
 below-by m [] e = tt
 below-by m (x ∷ l) e = (ltb-true x m (and-l (ltb x m) (allBelow m l) e), below-by m l (and-r (ltb x m) (allBelow m l) e))

@@ -4,23 +4,26 @@ use Rattle.desk.specs.declared.CloseAnswer.the-variants as C
 use Rattle.desk.specs.declared.FeedAnswer.the-variants as F
 use Rattle.tables.specs.declared.Built.the-variants as B
 use Rattle.tagset.specs.declared.SetFault.the-variants as D
-use Prim.Native.Nat.{_%_, _*_, ℕ}
+use Prim.Native.Nat.{_%_, _*_, _/_, min, suc, zero, ℕ}
+use mathlib.Core.Bool.{true}
 use mathlib.Core.List.{List, [], _++_, _∷_, map}
 use mathlib.Core.Path.{_≡_, refl}
+use native.Mathlib.Omega.{arith}
 use lib.ListN.{getD, replicate}
 use Rattle.desk.specs.Calls.{closeOf, openOf, takeOf}
 use Rattle.desk.specs.Feed.{advance, feedOf}
 use Rattle.desk.specs.Replace.{replaceOf, replacedRun}
 use Rattle.desk.specs.Rooms.{editionOf, firstRoom, roomOf, serialOf}
 use Rattle.desk.specs.Shared.{pushAll, round}
-use Rattle.history.specs.History.{AsLeft, onSerial, run, start, stream}
+use Rattle.history.specs.History.{AsLeft, Proper, onSerial, run, start, stream}
 use Rattle.matching.specs.Machine.{longest, next, prefixes, states, vector, vectorBy, walk, withPrefixes, withTags, withWord}
 use Rattle.matching.specs.Occurrence.{numbersWhere, occurAt, occurrences, occurrencesBy, tagsEnding}
 use Rattle.matching.specs.Reading.{allBelow, flagged, halted, nexts, onesOf, read, tableStep, tookByte, vectorsAt}
 use Rattle.matching.specs.Slicing.{anded, reduced, slice}
 use Rattle.matching.specs.Stepping.{readBy, stepped}
-use Rattle.matching.specs.Table.{built, laid, roomFrom, slot, slots, spot, tagsFor}
-use Rattle.matching.specs.Words.{among, ends, indexOf, same}
+use Rattle.matching.specs.Table.{built, laid, roomFrom, slot, slots, slotsIn, spot, tagsFor}
+use Rattle.matching.specs.Words.{Below, among, ends, indexOf, same}
+use Rattle.samples.specs.BuiltSample.{below-by}
 use Rattle.samples.specs.Sets.{a-record, calls-254, calls-255, calls-closed, calls-half, calls-open, asSet, at, ers, he-set, hishers, hx, later, long}
 use Rattle.samples.specs.Sets.{one-two, singles, split, startPlace, tags, two, ush, ushers}
 use Rattle.tables.specs.Building.{builtOf, tableOf}
@@ -111,13 +114,13 @@ pub record Incident : Type 0 where
       (calls-half later ++ callFeed (serialOf 1) (split 10 later) ers ∷ callOpen ∷ callFeed (serialOf 2) (split 10 later) ushers ∷ []))
       ≡ a-record 2 2 2 0 ∷ a-record 2 2 2 1 ∷ a-record 2 2 6 0 ∷ []
 
--- each feed of these histories is lent the table as the last replacement left it
+-- these histories are as the theorems of demand 3 ask: of bytes, and each feed is lent the table as the last replacement left it
 pub record LentTables : Type 0 where
-  pub nearly-full : AsLeft (start oneBit) calls-255
-  pub in-pieces : AsLeft (start oneBit) (calls-open ++ callFeed (serialOf 1) (split 10 tags) ush ∷ callFeed (serialOf 1) (split 10 tags) ers ∷ [])
-  pub in-one : AsLeft (start oneBit) (calls-open ++ callFeed (serialOf 1) (split 10 tags) ushers ∷ [])
-  pub half-read : AsLeft (start oneBit) (calls-half tags)
-  pub read-again : AsLeft (start oneBit)
+  pub nearly-full : Proper (start oneBit) calls-255
+  pub in-pieces : Proper (start oneBit) (calls-open ++ callFeed (serialOf 1) (split 10 tags) ush ∷ callFeed (serialOf 1) (split 10 tags) ers ∷ [])
+  pub in-one : Proper (start oneBit) (calls-open ++ callFeed (serialOf 1) (split 10 tags) ushers ∷ [])
+  pub half-read : Proper (start oneBit) (calls-half tags)
+  pub read-again : Proper (start oneBit)
       (calls-half later ++ callFeed (serialOf 1) (split 10 later) ers ∷ callOpen ∷ callFeed (serialOf 2) (split 10 later) ushers ∷ [])
 
 -- the limits, in the rules' numbers
@@ -127,6 +130,9 @@ pub record Limits : Type 0 where
   pub tags-of-a-set : mostTags ≡ 16
   pub bytes-of-a-tag : longestTag ≡ 32
   pub slots-of-a-machine : mostSlots ≡ 513
+  -- the slots of a run of so many numbers: for eight one-bit machines of 3 numbers a slot, and for the whole-byte machine of 257
+  pub slots-split : (len : ℕ) → slotsIn 1 8 len ≡ min (len / 24) 513
+  pub slots-whole : (len : ℕ) → slotsIn 8 1 len ≡ min (len / 257) 513
   pub largest-number : largest ≡ 4294967295
 
 pub record Samples : Type 0 where
@@ -136,11 +142,20 @@ pub record Samples : Type 0 where
   pub lent : LentTables
   pub limits : Limits
 
+-- words of the samples are bytes, by a test
+by : (w : List ℕ) → allBelow 256 w ≡ true → Below 256 w
+by = below-by 256
+
+ones : (n : ℕ) → Below 256 (replicate n 97)
+ones zero = tt
+ones (suc n) = (omega arith, ones n)
+
 -- THE SAMPLES
 pub samples : Samples
 unfolding asSet singles same among ends indexOf withWord withPrefixes withTags prefixes states longest next walk vectorBy vector slice reduced anded
-    spot laid slot slots built roomFrom numbersWhere tagsEnding occurAt occurrencesBy nexts vectorsAt onesOf flagged allBelow halted tookByte stepped readBy tableStep read
-    entryOf entriesFrom distinct setOf along tagsLie setRead cutAt builtOf tableOf firstRoom pushAll openOf closeOf takeOf replaceOf replacedRun feedOf onSerial run AsLeft round
+    spot laid slot slots built roomFrom numbersWhere tagsEnding occurAt occurrencesBy nexts vectorsAt onesOf flagged allBelow halted tookByte stepped readBy
+    tableStep read entryOf entriesFrom distinct setOf along tagsLie setRead cutAt builtOf tableOf firstRoom pushAll openOf closeOf takeOf replaceOf replacedRun
+    feedOf onSerial run AsLeft round
     Rattle.desk.specs.Layout.startPlace deskSlots lentFits placeIn deskRead deskBuilt deskTable
 samples = record {
   of-reading = record {
@@ -183,11 +198,17 @@ samples = record {
   };
   incident = record { refused = refl; again = refl };
   lent = record {
-    nearly-full = (tt, (tt, (refl, (tt, (refl, (tt, (tt, (refl, tt))))))));
-    in-pieces = (tt, (tt, (refl, (refl, tt))));
-    in-one = (tt, (tt, (refl, tt)));
-    half-read = (tt, (tt, (refl, (tt, tt))));
-    read-again = (tt, (tt, (refl, (tt, (refl, (tt, (refl, tt)))))));
+    nearly-full = (
+      (by (asSet one-two) refl, (tt, (ones 127, (tt, (ones 1, (tt, (tt, (ones 1, tt)))))))),
+      (tt, (tt, (refl, (tt, (refl, (tt, (tt, (refl, tt)))))))),
+    );
+    in-pieces = ((by (asSet tags) refl, (tt, (by ush refl, (by ers refl, tt)))), (tt, (tt, (refl, (refl, tt)))));
+    in-one = ((by (asSet tags) refl, (tt, (by ushers refl, tt))), (tt, (tt, (refl, tt))));
+    half-read = ((by (asSet tags) refl, (tt, (by ush refl, (by (asSet tags) refl, tt)))), (tt, (tt, (refl, (tt, tt)))));
+    read-again = (
+      (by (asSet tags) refl, (tt, (by ush refl, (by (asSet later) refl, (by ers refl, (tt, (by ushers refl, tt))))))),
+      (tt, (tt, (refl, (tt, (refl, (tt, (refl, tt))))))),
+    );
   };
   limits = record {
     tickets = refl;
@@ -195,6 +216,8 @@ samples = record {
     tags-of-a-set = refl;
     bytes-of-a-tag = refl;
     slots-of-a-machine = refl;
+    slots-split = λ len. refl;
+    slots-whole = λ len. refl;
     largest-number = refl;
   };
 }

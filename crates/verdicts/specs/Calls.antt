@@ -41,6 +41,13 @@ piece-exactly kind calls s table piece =
 pub piece-counts : (g : Gate) (s : Serial) → OpenIn g s → (table : Lent) (piece : Word) → AnswersTaken g s piece (pieceOf g s table piece)
 piece-counts = answers-taken
 
+-- so it is after any history, of an approval since whose beginning no replacement was accepted
+pub piece-counts-after : (kind : Kind) (calls : List GateAct) (s : Serial) (k : ℕ) → let w = gateRun (gateStart kind) calls in Undecided w s k
+    → NotReplaced w k → (table : Lent) (piece : Word) → AnswersTaken (w .gate) s piece (pieceOf (w .gate) s table piece)
+piece-counts-after kind calls s k u n =
+    let w = gateRun (gateStart kind) calls in
+    answers-taken (w .gate) s (open-in w (standing calls (gateStart kind) (standing-start kind)) s k u n)
+
 -- THE NUMBER OF A CUT, after any history: fewer than the piece has, and as many as the ticket counts more
 pub cut-number : (kind : Kind) (calls : List GateAct) (s : Serial) (table : Lent) (piece : Word) (n : ℕ) → let g = gateRun (gateStart kind) calls .gate in
     pieceOf g s table piece .answer ≡ P.Cut n → (n < length piece) × (takenIn (pieceOf g s table piece .gate) s ≡ takenIn g s + n)

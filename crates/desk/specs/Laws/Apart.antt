@@ -16,7 +16,7 @@ use Rattle.desk.specs.Laws.Views.{Opens, open-done, open-no-room, open-n
 use Rattle.desk.specs.Laws.Views.{Replaces, replace-done, replace-edition-end, replace-fault, replace-table, replaces}
 use Rattle.desk.specs.Laws.Views.{Takes, take-nothing, take-oldest, takes}
 use Rattle.desk.specs.Reached.{Reached, byCall, callClose, callFeed, callOpen, callReplace, callTake, fromNew}
-use Rattle.desk.specs.Rooms.{freeTicket, isFor, isHeld, newTicket, roomOf, serialOf, ticketIn}
+use Rattle.desk.specs.Rooms.{Apart, freeTicket, isFor, isHeld, newTicket, roomOf, serialOf, ticketIn}
 use Rattle.desk.specs.declared.Closing.{Closing}
 use Rattle.desk.specs.declared.Desk.{Desk}
 use Rattle.desk.specs.declared.Feeding.{Feeding}
@@ -31,11 +31,6 @@ use Rattle.desk.specs.Layout.{Kind, Lent, Order, Sizes, sizesOf}
 use Rattle.desk.specs.Limits.{mostTickets}
 use mathlib.Core.Logic.{_⊎_, inl, inr}
 use borrow.Author.Tests.{eq-eqb}
-
--- no two rooms are held under one serial
-abbrev pub Apart : List Ticket → Type 0
-Apart rooms = (i j : ℕ) → isHeld (ticketIn rooms i) ≡ true → isHeld (ticketIn rooms j) ≡ true → ticketIn rooms i .serial .0 ≡ ticketIn rooms j .serial .0
-    → i ≡ j
 
 -- no room is held under a serial that was not given yet, and no two under one
 record Told (d : Desk) : Type 0 where
@@ -136,7 +131,8 @@ pub reached-apart : {d : Desk} → Reached d → Apart (d .tickets)
 reached-apart r = told r .apart
 
 -- a serial's room is the only one that it has
-pub reached-unique : {d : Desk} → Reached d → (s : Serial) (i j : ℕ) → isFor s (ticketIn (d .tickets) i) ≡ true → isFor s (ticketIn (d .tickets) j) ≡ true → i ≡ j
+pub reached-unique : {d : Desk} → Reached d → (s : Serial) (i j : ℕ) → isFor s (ticketIn (d .tickets) i) ≡ true
+    → isFor s (ticketIn (d .tickets) j) ≡ true → i ≡ j
 reached-unique {d} r s i j h k =
     let a = for-held s (ticketIn (d .tickets) i) h in
     let b = for-held s (ticketIn (d .tickets) j) k in

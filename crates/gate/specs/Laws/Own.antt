@@ -12,7 +12,7 @@ use lib.Seq.{getD-set-other, getD-set-same, set-out}
 use borrow.Author.Tests.{eqb-false, eqb-true}
 use Rattle.desk.specs.Laws.Rooms.{firstRoom-found, firstRoom-holds, for-held, held-for, held-inside}
 use Rattle.desk.specs.Laws.Shared.{held-popped}
-use Rattle.desk.specs.Rooms.{isFor, isHeld, roomOf, serialOf, ticketIn}
+use Rattle.desk.specs.Rooms.{Apart, isFor, isHeld, roomOf, serialOf, ticketIn}
 use Rattle.desk.specs.Shared.{held, noRecord, popped, recordsFor, round}
 use Rattle.desk.specs.TakeMany.{manyOf, oldest, takeManyOf, without}
 use Rattle.desk.specs.declared.Desk.{Desk}
@@ -27,7 +27,6 @@ use Rattle.gate.specs.declared.Gate.{Gate}
 use Rattle.gate.specs.declared.Seen.{Seen}
 use Rattle.matching.specs.Laws.Bools.{not-both}
 use Rattle.desk.specs.Limits.{mostRecords, mostTickets}
-use Rattle.desk.specs.Laws.Apart.{Apart}
 
 abbrev nothingSeen : Seen
 nothingSeen = record { mask = 0; unread = 1 }
@@ -148,7 +147,8 @@ unfolding without
 without-count zero q = sym (sub-zero (q .count))
 without-count (suc n) q = without-count n (popped q) ∙ omega arith
 
-pub none-held : (g : Gate) (d : Desk) → d .records .count ≤ mostRecords → (held (emptiedOf g d .desk .records) ≡ []) × (emptiedOf g d .desk .tickets ≡ d .tickets)
+pub none-held : (g : Gate) (d : Desk) → d .records .count ≤ mostRecords
+    → (held (emptiedOf g d .desk .records) ≡ []) × (emptiedOf g d .desk .tickets ≡ d .tickets)
 unfolding takeManyOf round
 none-held g d h =
     let left = without (manyOf d 1024) (d .records) in

@@ -23,7 +23,8 @@ use Rattle.history.specs.Cases.{OpensAs, ReplacesAs}
 use Rattle.history.specs.Laws.Numbers.{differ, lower}
 use Rattle.matching.specs.Limits.{largest}
 
-module _ (d : Desk) (accepted given waiting : ℕ) (wide : length (d .tickets) ≡ mostTickets) (editions : accepted ≡ d .edition .0) (serials : given ≡ d .serial .0)
+module _ (d : Desk) (accepted given waiting : ℕ) (wide : length (d .tickets) ≡ mostTickets) (editions : accepted ≡ d .edition .0)
+    (serials : given ≡ d .serial .0)
     (rooms : waiting ≡ ticketsHeld (d .tickets)) (few-serials : given ≤ largest) where
   some : (d .edition .0 ≡ 0 → ⊥) → 0 < accepted
   some n = lower 0 _ (omega arith) (λ e. n (omega (arith, e, editions)))
