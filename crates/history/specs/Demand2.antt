@@ -28,7 +28,7 @@ use Rattle.matching.specs.Words.{Below, Word, ends}
 use Rattle.reading.specs.Outside.{readBy, readOf, readTo}
 use Rattle.tables.specs.Building.{builtBy, builtOf, onSet, tableOf}
 use Rattle.tagset.specs.Grammar.{goodSet, setOf}
-use Rattle.matching.specs.Limits.{largest}
+use Rattle.matching.specs.Limits.{largest, mostTags}
 
 -- what `Demanded` says is found: of the occurrences that end in the first m bytes of a piece after v, the record (e, i) is one exactly if byte e,
 -- counted from the opening, is one of those, i is a tag, and that tag's bytes end the first e bytes
@@ -111,7 +111,8 @@ module _ (n k : ℕ) (set run : List ℕ) (ts : List Word) (b : AsBuilt n k set 
 
   -- PROGRESS outside the desk: no byte has more than 16 matches, so with room for 16 records a piece that is not empty and not LONG advances by at
   -- least one byte
-  pub advances : (v : Word) (c : ℕ) (piece : Word) (list : ℕ) → Below 256 v → Below 256 (c ∷ piece) → 16 ≤ list / 2 → length v + length (c ∷ piece) ≤ largest
+  pub advances : (v : Word) (c : ℕ) (piece : Word) (list : ℕ) → Below 256 v → Below 256 (c ∷ piece) → mostTags ≤ list / 2
+      → length v + length (c ∷ piece) ≤ largest
       → (r : Outcome) × (readOf n k table (placeAfter n ts 0 k v) (length v) (c ∷ piece) list ≡ readTo r) × (0 < r .taken)
   advances v c piece list hv hp some short = (
     expected n k ts v (length v) (list / 2) (c ∷ piece),

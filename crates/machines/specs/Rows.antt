@@ -10,6 +10,7 @@ use Rattle.machines.specs.Fronts.{known}
 use Rattle.matching.specs.Laws.Links.{child}
 use Rattle.matching.specs.Machine.{longest, next, prefixes, states, vector}
 use Rattle.matching.specs.Words.{AllBelow, AllShort, Word, among, indexOf}
+use Rattle.matching.specs.Limits.{longestTag, mostTags}
 
 -- the place of number c of slot q, where a slot has m nexts and a vector
 abbrev pub cell : ℕ → ℕ → ℕ → ℕ
@@ -18,8 +19,8 @@ cell m q c = q * (m + 1) + c
 -- what the code asks of the tags of a machine: as many as there are places of tags, at most 16, of at most 32 letters
 pub record Fit (places : ℕ) (ts : List Word) : Type 0 where
   pub many : length ts ≡ places
-  pub few : length ts ≤ 16
-  pub short : AllShort 32 ts
+  pub few : length ts ≤ mostTags
+  pub short : AllShort longestTag ts
 
 -- what it asks of letters and slots: letters below m, at most 256, and a slot for each state
 pub record Roomy (ts : List Word) (m len : ℕ) : Type 0 where
@@ -92,8 +93,8 @@ pub record Level (ts : List Word) (m d t : ℕ) (at fail l : List ℕ) : Type 0 
   pub gone : (u : ℕ) → u < t → d < length (getD ts u []) → Place (prefixes ts) (getD ts u []) (d + 1) (getD at u 0) (getD fail u 0)
   pub here : (u : ℕ) → t ≤ u → u < length ts → d ≤ length (getD ts u []) → Place (prefixes ts) (getD ts u []) d (getD at u 0) (getD fail u 0)
   pub blank : (j : ℕ) → states ts * (m + 1) ≤ j → getD l j 0 ≡ 0
-  pub roomA : length at ≡ 16
-  pub roomF : length fail ≡ 16
+  pub roomA : length at ≡ mostTags
+  pub roomF : length fail ≡ mostTags
 
 -- a level on its way, with what each tag shares with those before it
 pub record Filling (places : ℕ) (ts : List Word) (m d t : ℕ) (fronts at fail l : List ℕ) : Type 0 where

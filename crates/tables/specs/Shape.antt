@@ -12,6 +12,7 @@ use Rattle.matching.specs.Words.{AllShort, Word}
 use Rattle.tables.specs.Building.{builtBy, tableBy}
 use Rattle.tables.specs.declared.Built.{Built}
 use Rattle.tables.specs.declared.Layout.{Layout}
+use Rattle.matching.specs.Limits.{longestTag, mostTags}
 
 -- a layout is a slicing, with its letters and the mask that leaves them
 pub record Shaped (layout : Layout) : Type 0 where
@@ -22,8 +23,8 @@ pub record Shaped (layout : Layout) : Type 0 where
 -- the tags of a good set: as many as there are places of them, at most 16 of at most 32 bytes, in at most 576 bytes
 pub record Tagged (set : List ℕ) (places : ℕ) (ts : List Word) : Type 0 where
   pub many : length ts ≡ places
-  pub few : length ts ≤ 16
-  pub short : AllShort 32 ts
+  pub few : length ts ≤ mostTags
+  pub short : AllShort longestTag ts
   pub small : length set ≤ 576
 
 -- the answer for tags, over a run of so many numbers

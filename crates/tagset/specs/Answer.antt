@@ -12,6 +12,7 @@ use Rattle.tagset.specs.declared.Verdict.{Verdict}
 use Rattle.tagset.specs.declared.Verdict.the-variants.{Good, Bad}
 use Rattle.tagset.specs.declared.Entry.{Entry}
 use Rattle.tagset.specs.declared.Entry.the-variants.{Tag, Faulty}
+use Rattle.matching.specs.Limits.{mostTags}
 
 -- the number of a fault in the table of refusals
 abbrev pub faultNumber : SetFault → ℕ
@@ -57,7 +58,7 @@ padded n l = l ++ replicate (n - length l) 0
 
 -- where the tags of a set lie
 unfoldable pub tagsLie : List Word → Tags
-tagsLie ts = record { count = length ts; from = padded 16 (begun 0 ts); to = padded 16 (ended 0 ts) }
+tagsLie ts = record { count = length ts; from = padded mostTags (begun 0 ts); to = padded mostTags (ended 0 ts) }
 
 -- a set as it was read: its tags' places; or its fault, and no tags
 unfoldable pub setRead : SetOf → SetRead

@@ -8,6 +8,7 @@ use Rattle.matching.specs.Words.{Word}
 use Rattle.tagset.specs.Grammar.{kindAt, lengthAt}
 use Rattle.tagset.specs.declared.SetFault.{SetFault}
 use Rattle.tagset.specs.declared.SetFault.the-variants.{Cut, Empty, Kind, Length, Many, Repeat}
+use Rattle.matching.specs.Limits.{longestTag, mostTags}
 
 -- the payload of the entry at the front of some bytes
 abbrev pub payload : List ℕ → Word
@@ -16,19 +17,19 @@ payload left = take (lengthAt left) (drop 4 left)
 -- entry k, at the front of the bytes that are left, passes every check
 pub record Whole (k : ℕ) (left : List ℕ) : Type 0 where
   pub four : 4 ≤ length left
-  pub room : k ≡ 16 → ⊥
+  pub room : k ≡ mostTags → ⊥
   pub kind : kindAt left ≡ 1
   pub some : 0 < lengthAt left
-  pub short : lengthAt left ≤ 32
+  pub short : lengthAt left ≤ longestTag
   pub rest : 4 + lengthAt left ≤ length left
 
 -- the first check that entry k fails, and the fault that it is
 pub data Fails (k : ℕ) (left : List ℕ) : SetFault → Type 0 where
   fewerThanFour : length left < 4 → Fails k left (Cut k)
-  seventeenth : 4 ≤ length left → k ≡ 16 → Fails k left (Many k)
-  otherKind : 4 ≤ length left → (k ≡ 16 → ⊥) → (kindAt left ≡ 1 → ⊥) → Fails k left (Kind k)
-  wrongLength : 4 ≤ length left → (k ≡ 16 → ⊥) → kindAt left ≡ 1 → (lengthAt left ≡ 0) ⊎ (32 < lengthAt left) → Fails k left (Length k)
-  shortPayload : 4 ≤ length left → (k ≡ 16 → ⊥) → kindAt left ≡ 1 → 0 < lengthAt left → lengthAt left ≤ 32
+  seventeenth : 4 ≤ length left → k ≡ mostTags → Fails k left (Many k)
+  otherKind : 4 ≤ length left → (k ≡ mostTags → ⊥) → (kindAt left ≡ 1 → ⊥) → Fails k left (Kind k)
+  wrongLength : 4 ≤ length left → (k ≡ mostTags → ⊥) → kindAt left ≡ 1 → (lengthAt left ≡ 0) ⊎ (longestTag < lengthAt left) → Fails k left (Length k)
+  shortPayload : 4 ≤ length left → (k ≡ mostTags → ⊥) → kindAt left ≡ 1 → 0 < lengthAt left → lengthAt left ≤ longestTag
       → length left < 4 + lengthAt left → Fails k left (Cut k)
 
 -- the first k entries passed, their tags are ts, and these bytes are left
