@@ -44,7 +44,8 @@ int main() {
 $RUN "$out/in-cpp"
 
 note 'an answer that says what nothing else says cannot be ignored without a warning'
-for ignored in 'sleet_decide(&g, 1)' 'sleet_piece(&g, 1, 0, 0)' 'sleet_change(&g, 0, 0)' 'sleet_tags_add(&t, "he", 2)' 'sleet_set_add(t.bytes, 580, 0, "he", 2)'; do
+for ignored in 'sleet_decide(&g, 1)' 'sleet_piece(&g, 1, 0, 0)' 'sleet_change(&g, 0, 0)' 'sleet_tags_add(&t, "he", 2)' \
+  'sleet_set_add(t.bytes, 580, 0, "he", 2)'; do
   echo "#include <sleet.h>
 void ignore(void); sleet_gateway g; sleet_tags t; void ignore(void) { $ignored; }" >"$out/ignored.c"
   if "$CC" -std=c11 $warnings -I "$out/include" -c "$out/ignored.c" -o "$out/ignored.o" 2>"$out/ignored.txt"; then

@@ -150,7 +150,8 @@ add-i c = search needs
 
 pass-whole-requires : tie.Need-pass-whole-requires Inv-loop μ-loop
 pass-whole-requires c κs =
-    let asked = c .before .before .before .before .before .before .before .before .before .before .before .before .before .before .before .before .before .pre in
+    let asked =
+    c .before .before .before .before .before .before .before .before .before .before .before .before .before .before .before .before .before .pre in
     let g = took (c .before) in
     (asked .0, (one-below _ _ (g .below), g .most))
 
