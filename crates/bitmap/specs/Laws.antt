@@ -1,0 +1,8 @@
+-- The laws, each file by what it speaks of.
+pub mod Levels
+pub mod Maps
+pub mod Children
+pub mod Steps
+pub mod Built
+pub mod States
+pub mod Loops

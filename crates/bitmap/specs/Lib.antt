@@ -1,0 +1,5 @@
+-- The states level by level, their slots, and the step over any run of numbers; then the laws.
+pub mod Levels
+pub mod Slots
+pub mod Steps
+pub mod Laws
