@@ -5,7 +5,8 @@ use mathlib.Core.List.{List, _++_}
 use mathlib.Core.Path.{_≡_}
 use lib.ListN.{drop, getD, length}
 use Rattle.matching.specs.Occurrence.{Occurrence, flat}
-use Rattle.matching.specs.Reading.{Outcome, allBelow, read}
+use Rattle.matching.specs.Reading.{Outcome, allBelow, tableStep}
+use Rattle.matching.specs.Stepping.{OutcomeOf, Step, readBy}
 use Rattle.passing.specs.Quiet.{ahead}
 use Rattle.reading.specs.declared.walks.Went.{Went}
 use Rattle.reading.specs.declared.walks.WentOne.{WentOne}
@@ -18,19 +19,23 @@ abbrev pub wentOneOf : Outcome → WentOne
 wentOneOf r = record { taken = r .taken; state = getD (r .place) 0 0; records = length (r .found); stop = r .stop }
 
 -- the list after it: the records at its front, and the rest as it was
-abbrev pub listOf : List ℕ → Outcome → List ℕ
+abbrev pub listOf : {P : Type 0} → List ℕ → OutcomeOf P → List ℕ
 listOf l r = flat (r .found) ++ drop (length (flat (r .found))) l
 
--- i bytes are taken and w records written: the list l₀ has become l, and what is left is a reading from a place
-pub record Going (n s : ℕ) (table : List ℕ) (count : ℕ) (piece l₀ start l place : List ℕ) (w i : ℕ) : Type 0 where
+-- by any step: i bytes are taken and w records written, the list l₀ has become l, and what is left is a reading from a place
+pub record GoingBy {P : Type 0} (step : Step P) (count : ℕ) (piece l₀ : List ℕ) (start : P) (l : List ℕ) (place : P) (w i : ℕ) : Type 0 where
   pub most : i ≤ length piece
-  pub long : length place ≡ length start
-  pub below : allBelow s place ≡ true
   pub done : List Occurrence
   pub written : length done ≡ w
   pub fits : 2 * w ≤ length l₀
   pub list : l ≡ flat done ++ drop (length (flat done)) l₀
-  pub is : read n s table start count (length l₀ / 2) piece ≡ ahead i done (read n s table place (count + i) (length l₀ / 2 - w) (drop i piece))
+  pub is : readBy step start count (length l₀ / 2) piece ≡ ahead i done (readBy step place (count + i) (length l₀ / 2 - w) (drop i piece))
+
+-- over a table, whose places are a state for each machine
+pub record Going (n s : ℕ) (table : List ℕ) (count : ℕ) (piece l₀ start l place : List ℕ) (w i : ℕ) : Type 0 where
+  pub going : GoingBy (tableStep n s table) count piece l₀ start l place w i
+  pub long : length place ≡ length start
+  pub below : allBelow s place ≡ true
 
 -- what a walk answers, and the list after it, by the outcome of the reading
 abbrev pub Walked : Went → (before after : List ℕ) → Outcome → Type 0

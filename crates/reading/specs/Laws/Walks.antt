@@ -12,12 +12,13 @@ use lib.Seq.{drop-append-add, drop-cons, drop-drop, sets, sets-eq, take-append-s
 use borrow.Author.Tests.{le-ltb, leb-true}
 use Rattle.matching.specs.Laws.AnyTable.{nexts-length}
 use Rattle.matching.specs.Laws.Matches.{occurAt-length}
-use Rattle.matching.specs.Laws.Readings.{read-damaged, read-full, read-tookByte}
+use Rattle.matching.specs.Laws.Readings.{tableStep-goes, tableStep-wrong}
+use Rattle.matching.specs.Laws.Stepping.{readBy-damaged, readBy-full, readBy-took}
 use Rattle.matching.specs.Machine.{next, vector}
 use Rattle.matching.specs.Occurrence.{Occurrence, flat, occurAt}
-use Rattle.matching.specs.Reading.{Outcome, allBelow, flagged, halted, nexts, onesOf, read, vectorsAt}
+use Rattle.matching.specs.Reading.{Outcome, allBelow, flagged, halted, nexts, onesOf, read, tableStep, vectorsAt}
 use Rattle.matching.specs.Slicing.{anded}
-use Rattle.matching.specs.Stepping.{readBy}
+use Rattle.matching.specs.Stepping.{OutcomeOf, Step, goesTo, isDamaged, readBy}
 use Rattle.matching.specs.Words.{same}
 use Rattle.matching.specs.declared.Stop.{Stop}
 use Rattle.matching.specs.declared.Stop.the-variants.{All, Damaged, Full}
@@ -25,11 +26,12 @@ use Rattle.passing.specs.Laws.Below.{below-one}
 use Rattle.passing.specs.Laws.Passing.{ahead-ahead, ahead-byte, ahead-none}
 use Rattle.passing.specs.Laws.Runs.{full}
 use Rattle.passing.specs.Laws.Starts.{one-even}
-use Rattle.passing.specs.Quiet.{Passes, ahead}
-use Rattle.passing.specs.Steps.{Ready, Starts, Step}
+use Rattle.passing.specs.Quiet.{Passes, PassesBy, ahead}
+use Rattle.passing.specs.Steps.{Ready, Starts}
+use Rattle.passing.specs.Steps as passing-steps
 use Rattle.reading.specs.Laws.Records.{flat-append, flat-length}
 use Rattle.reading.specs.Records.{emitBy, emitOf, emitted, fitsIn}
-use Rattle.reading.specs.Walks.{Going, listOf, wentOf, wentOneOf}
+use Rattle.reading.specs.Walks.{Going, GoingBy, listOf, wentOf, wentOneOf}
 use Rattle.reading.specs.declared.records.Emit.the-variants.{NoRoom, Written}
 
 -- ---- the list
@@ -68,47 +70,43 @@ none-of false y e = refl
 
 -- ---- how a reading ended, as the code has it
 
-pub record Ended (r : Outcome) (l₀ l place : List ℕ) (why : Stop) (w i : ℕ) : Type 0 where
+pub record Ended {P : Type 0} (r : OutcomeOf P) (l₀ l : List ℕ) (place : P) (why : Stop) (w i : ℕ) : Type 0 where
   pub taken : r .taken ≡ i
   pub place-is : r .place ≡ place
   pub stop : r .stop ≡ why
   pub records : length (r .found) ≡ w
   pub list : l ≡ listOf l₀ r
 
--- ---- the loop
+-- ---- the loop, by any step
 
-module _ (n s : ℕ) (table : List ℕ) (count : ℕ) (piece l₀ start : List ℕ) where
-  abbrev whole : Outcome
-  whole = read n s table start count (length l₀ / 2) piece
+module _ {P : Type 0} (step : Step P) (count : ℕ) (piece l₀ : List ℕ) (start : P) where
+  abbrev all : OutcomeOf P
+  all = readBy step start count (length l₀ / 2) piece
 
-  pub going-start : allBelow s start ≡ true → Going n s table count piece l₀ start l₀ start 0 0
+  pub by-start : GoingBy step count piece l₀ start l₀ start 0 0
   unfolding flat
-  going-start b = record {
+  by-start = record {
     most = zero-le;
-    long = refl;
-    below = b;
     done = [];
     written = refl;
     fits = zero-le;
     list = refl;
-    is = rw (sub-zero, add-zero) (sym (ahead-none whole));
+    is = rw (sub-zero, add-zero) (sym (ahead-none all));
   }
 
-  module _ (l place : List ℕ) (w i : ℕ) (g : Going n s table count piece l₀ start l place w i) where
-    abbrev left : Outcome
-    left = read n s table place (count + i) (length l₀ / 2 - w) (drop i piece)
+  module _ (l : List ℕ) (place : P) (w i : ℕ) (g : GoingBy step count piece l₀ start l place w i) where
+    abbrev left : OutcomeOf P
+    left = readBy step place (count + i) (length l₀ / 2 - w) (drop i piece)
 
-    pub going-long : length l ≡ length l₀
-    going-long = rw (g .list) (simp (length-append, length-drop) (omega (arith, flat-length (g .done), g .written, g .fits)))
+    pub by-long : length l ≡ length l₀
+    by-long = rw (g .list) (simp (length-append, length-drop) (omega (arith, flat-length (g .done), g .written, g .fits)))
 
     -- over quiet bytes
-    pub going-pass : (q : List ℕ) (j : ℕ) → Passes n s table piece place i q j → Going n s table count piece l₀ start l q w j
-    going-pass q j p =
+    pub by-pass : (q : P) (j : ℕ) → PassesBy step piece place i q j → GoingBy step count piece l₀ start l q w j
+    by-pass q j p =
         let z : i + (j - i) ≡ j = omega (arith, p .low) in
         record {
           most = p .most;
-          long = p .long ∙ g .long;
-          below = p .below;
           done = g .done;
           written = g .written;
           fits = g .fits;
@@ -116,25 +114,25 @@ module _ (n s : ℕ) (table : List ℕ) (count : ℕ) (piece l₀ start : List �
           is = g .is ∙ ap (ahead i (g .done)) (p .same count (length l₀ / 2 - w)) ∙ ahead-ahead i (j - i) (g .done) [] _ ∙ rw (z, append-nil);
         }
 
-    ended : (why : Stop) → left ≡ halted place why → Ended whole l₀ l place why w i
+    ended : (why : Stop) → left ≡ halted place why → Ended all l₀ l place why w i
     unfolding ahead halted
     ended why e =
-        let all : whole ≡ ahead i (g .done) (halted place why) = g .is ∙ ap (ahead i (g .done)) e in
-        let found : whole .found ≡ g .done = ap (λ (r : Outcome). r .found) all ∙ append-nil (g .done) in
+        let is : all ≡ ahead i (g .done) (halted place why) = g .is ∙ ap (ahead i (g .done)) e in
+        let found : all .found ≡ g .done = ap (λ (r : OutcomeOf P). r .found) is ∙ append-nil (g .done) in
         record {
-          taken = ap (λ (r : Outcome). r .taken) all ∙ add-zero i;
-          place-is = ap (λ (r : Outcome). r .place) all;
-          stop = ap (λ (r : Outcome). r .stop) all;
+          taken = ap (λ (r : OutcomeOf P). r .taken) is ∙ add-zero i;
+          place-is = ap (λ (r : OutcomeOf P). r .place) is;
+          stop = ap (λ (r : OutcomeOf P). r .stop) is;
           records = ap length found ∙ g .written;
           list = g .list ∙ rw found;
         }
 
-    pub going-all : length piece ≤ i → Ended whole l₀ l place All w i
-    unfolding read readBy
-    going-all more = ended All (rw (drop-of-length-le piece {i = i} more))
+    pub by-all : length piece ≤ i → Ended all l₀ l place All w i
+    unfolding readBy
+    by-all more = ended All (rw (drop-of-length-le piece {i = i} more))
 
-    -- one byte: its next numbers, and the AND of their vectors
-    module _ (less : i < length piece) (next : List ℕ) (moves : next ≡ nexts n s table 0 place (getD piece i 0)) where
+    -- one byte
+    module _ (less : i < length piece) where
       abbrev c : ℕ
       c = getD piece i 0
 
@@ -144,40 +142,31 @@ module _ (n s : ℕ) (table : List ℕ) (count : ℕ) (piece l₀ start : List �
       front : drop i piece ≡ c ∷ rest
       front = rw (drop-cons piece i 0 less, add-one i)
 
-      pub going-damaged : allBelow s next ≡ false → Ended whole l₀ l place Damaged w i
-      going-damaged b =
-          ended Damaged (rw front (read-damaged n s table place (count + i) (length l₀ / 2 - w) c rest (rw moves at b)))
+      pub by-damaged : step place c ≡ isDamaged → Ended all l₀ l place Damaged w i
+      by-damaged e = ended Damaged (rw front (readBy-damaged step place (count + i) (length l₀ / 2 - w) c rest e))
 
-      module _ (below : allBelow s next ≡ true) (hits : ℕ) (vector : hits ≡ anded 65535 (vectorsAt n s table 0 next)) where
-        abbrev tags : List ℕ
-        tags = onesOf 0 16 hits
-
-        flags : flagged n s table (nexts n s table 0 place c) ≡ tags
-        unfolding flagged
-        flags = rw (vector, moves)
-
-        pub going-full : NoRoom ≡ emitOf l w tags → (l′ : List ℕ) → l′ ≡ emitted l w (count + i + 1) tags → Ended whole l₀ l′ place Full w i
-        going-full none l′ el =
+      -- it leads to a next place, with these tags
+      module _ (next : P) (tags : List ℕ) (goes : step place c ≡ goesTo next tags) where
+        pub by-full : NoRoom ≡ emitOf l w tags → (l′ : List ℕ) → l′ ≡ emitted l w (count + i + 1) tags → Ended all l₀ l′ place Full w i
+        by-full none l′ el =
             let b : fitsIn l w tags ≡ false = none-of _ _ none in
             let same : l′ ≡ l = el ∙ rw b in
-            let full : leb (length (flagged n s table (nexts n s table 0 place c))) (length l₀ / 2 - w) ≡ false = rw (flags, ← going-long) b in
-            rw same (ended Full (rw front (read-full n s table place (count + i) (length l₀ / 2 - w) c rest (rw moves at below) full)))
+            let full : leb (length tags) (length l₀ / 2 - w) ≡ false = rw (← by-long) b in
+            rw same (ended Full (rw front (readBy-full step place (count + i) (length l₀ / 2 - w) c rest next tags goes full)))
 
-        pub going-took : (x : ℕ) → Written x ≡ emitOf l w tags → (l′ : List ℕ) → l′ ≡ emitted l w (count + i + 1) tags
-            → Going n s table count piece l₀ start l′ next x (i + 1)
-        going-took x some l′ el =
+        pub by-took : (x : ℕ) → Written x ≡ emitOf l w tags → (l′ : List ℕ) → l′ ≡ emitted l w (count + i + 1) tags
+            → GoingBy step count piece l₀ start l′ next x (i + 1)
+        by-took x some l′ el =
             let f = written-of _ _ _ some in
-            let fits : leb (length (flagged n s table (nexts n s table 0 place c))) (length l₀ / 2 - w) ≡ true = rw (flags, ← going-long) (f .0) in
-            let room : length tags ≤ length l₀ / 2 - w = leb-true (length tags) (length l₀ / 2 - w) (rw (← flags) fits) in
+            let fits : leb (length tags) (length l₀ / 2 - w) ≡ true = rw (← by-long) (f .0) in
+            let room : length tags ≤ length l₀ / 2 - w = leb-true (length tags) (length l₀ / 2 - w) fits in
             let e : count + i + 1 ≡ suc (count + i) = omega arith in
             let on : count + (i + 1) ≡ suc (count + i) = omega arith in
             let less-room : length l₀ / 2 - x ≡ length l₀ / 2 - w - length tags = omega (arith, f .1) in
-            let byte : left ≡ ahead 1 (occurAt (suc (count + i)) tags) (read n s table next (suc (count + i)) (length l₀ / 2 - w - length tags) rest) =
-            rw (front, read-tookByte n s table place (count + i) (length l₀ / 2 - w) c rest (rw moves at below) fits, flags, ahead-byte, moves) in
+            let byte : left ≡ ahead 1 (occurAt (suc (count + i)) tags) (readBy step next (suc (count + i)) (length l₀ / 2 - w - length tags) rest) =
+            rw (front, readBy-took step place (count + i) (length l₀ / 2 - w) c rest next tags goes fits, ahead-byte) in
             record {
               most = omega arith;
-              long = ap length moves ∙ nexts-length n s table 0 place c ∙ g .long;
-              below = below;
               done = g .done ++ occurAt (suc (count + i)) tags;
               written = length-append (g .done) (occurAt (suc (count + i)) tags) ∙ rw (g .written, occurAt-length, f .1);
               fits = omega (arith, f .1, g .fits);
@@ -186,6 +175,56 @@ module _ (n s : ℕ) (table : List ℕ) (count : ℕ) (piece l₀ start : List �
                   (omega (arith, occurAt-length (suc (count + i)) tags, g .fits)));
               is = g .is ∙ ap (ahead i (g .done)) byte ∙ ahead-ahead i 1 (g .done) (occurAt (suc (count + i)) tags) _ ∙ rw (on, less-room);
             }
+
+-- ---- over a table
+
+module _ (n s : ℕ) (table : List ℕ) (count : ℕ) (piece l₀ start : List ℕ) where
+  abbrev step : Step (List ℕ)
+  step = tableStep n s table
+
+  abbrev whole : Outcome
+  whole = read n s table start count (length l₀ / 2) piece
+
+  pub going-start : allBelow s start ≡ true → Going n s table count piece l₀ start l₀ start 0 0
+  going-start b = record { going = by-start step count piece l₀ start; long = refl; below = b }
+
+  module _ (l place : List ℕ) (w i : ℕ) (g : Going n s table count piece l₀ start l place w i) where
+    pub going-long : length l ≡ length l₀
+    going-long = by-long step count piece l₀ start l place w i (g .going)
+
+    pub going-pass : (q : List ℕ) (j : ℕ) → Passes n s table piece place i q j → Going n s table count piece l₀ start l q w j
+    going-pass q j p = record { going = by-pass step count piece l₀ start l place w i (g .going) q j (p .quiet); long = p .long ∙ g .long; below = p .below }
+
+    pub going-all : length piece ≤ i → Ended whole l₀ l place All w i
+    unfolding read
+    going-all = by-all step count piece l₀ start l place w i (g .going)
+
+    -- one byte: its next numbers, and the AND of their vectors
+    module _ (less : i < length piece) (next : List ℕ) (moves : next ≡ nexts n s table 0 place (getD piece i 0)) where
+      pub going-damaged : allBelow s next ≡ false → Ended whole l₀ l place Damaged w i
+      unfolding read
+      going-damaged b =
+          by-damaged step count piece l₀ start l place w i (g .going) less (tableStep-wrong n s table place (getD piece i 0) (rw moves at b))
+
+      module _ (below : allBelow s next ≡ true) (hits : ℕ) (vector : hits ≡ anded 65535 (vectorsAt n s table 0 next)) where
+        abbrev tags : List ℕ
+        tags = onesOf 0 16 hits
+
+        leads : step place (getD piece i 0) ≡ goesTo next tags
+        unfolding flagged
+        leads = tableStep-goes n s table place (getD piece i 0) (rw moves at below) ∙ rw (← moves, ← vector)
+
+        pub going-full : NoRoom ≡ emitOf l w tags → (l′ : List ℕ) → l′ ≡ emitted l w (count + i + 1) tags → Ended whole l₀ l′ place Full w i
+        unfolding read
+        going-full = by-full step count piece l₀ start l place w i (g .going) less next tags leads
+
+        pub going-took : (x : ℕ) → Written x ≡ emitOf l w tags → (l′ : List ℕ) → l′ ≡ emitted l w (count + i + 1) tags
+            → Going n s table count piece l₀ start l′ next x (i + 1)
+        going-took x some l′ el = record {
+          going = by-took step count piece l₀ start l place w i (g .going) less next tags leads x some l′ el;
+          long = ap length moves ∙ nexts-length n s table 0 place (getD piece i 0) ∙ g .long;
+          below = below;
+        }
 
 -- ---- the same for eight machines, as the parts of a step give their numbers
 
@@ -207,7 +246,7 @@ module _ (s : ℕ) (table : List ℕ) (count : ℕ) (piece l₀ start : List ℕ
       eight : length place ≡ 8
       eight = g .long ∙ ready .long
 
-      pub split-able : (starts : List ℕ) → Starts 1 s starts → Step 1 s table starts place
+      pub split-able : (starts : List ℕ) → Starts 1 s starts → passing-steps.Step 1 s table starts place
       split-able starts b = record {
         even = one-even;
         begins = b;

@@ -98,7 +98,7 @@ put-all-requires c κs =
     let loop = c8 .loop in
     let args = c8 .before .before .before .before .before .args in
     let l : length (loop .list) ≡ length (args .list .now) = going-long _ _ _ _ _ _ _ _ _ _ _ (loop .inv) in
-    omega (arith, loop .inv .fits)
+    omega (arith, loop .inv .going .fits)
 
 enum-known-x : tie.Need-enum-known-x Inv-loop μ-loop
 enum-known-x c = search needs
@@ -193,10 +193,10 @@ pass-split-requires c κs =
     let starts-of = c17 .starts-of in
     let asked = c17 .before .before .before .before .pre in
     let g = took (c .before .before) in
-    (split-able _ _ _ _ _ _ (asked .0) _ _ _ _ g _ (starts-of .ensures), g .most)
+    (split-able _ _ _ _ _ _ (asked .0) _ _ _ _ g _ (starts-of .ensures), g .going .most)
 
 loop-less : tie.Need-loop-less Inv-loop μ-loop
-loop-less c = omega (arith, c .before .pass-split .ensures .low)
+loop-less c = omega (arith, c .before .pass-split .ensures .quiet .low)
 
 loop-again : tie.Need-loop-again Inv-loop μ-loop
 loop-again c = going-pass _ _ _ _ _ _ _ _ _ _ _ (took (c .before .before .before .before)) _ _ (c .before .pass-split .ensures)

@@ -69,7 +69,7 @@ put-all-requires c κs =
     let loop = c6 .loop in
     let args = c6 .before .before .before .before .args in
     let l : length (loop .list) ≡ length (args .list .now) = going-long _ _ _ _ _ _ _ _ _ _ _ (loop .inv) in
-    omega (arith, loop .inv .fits)
+    omega (arith, loop .inv .going .fits)
 
 enum-known-x : tie.Need-enum-known-x Inv-loop μ-loop
 enum-known-x c = search needs
@@ -153,10 +153,10 @@ pass-whole-requires c κs =
     let asked =
     c .before .before .before .before .before .before .before .before .before .before .before .before .before .before .before .before .before .pre in
     let g = took (c .before) in
-    (asked .0, (one-below _ _ (g .below), g .most))
+    (asked .0, (one-below _ _ (g .below), g .going .most))
 
 loop-less : tie.Need-loop-less Inv-loop μ-loop
-loop-less c = omega (arith, c .pass-whole .ensures .low)
+loop-less c = omega (arith, c .pass-whole .ensures .quiet .low)
 
 loop-again : tie.Need-loop-again Inv-loop μ-loop
 loop-again c = going-pass _ _ _ _ _ _ _ _ _ _ _ (took (c .before .before)) _ _ (c .pass-whole .ensures)
