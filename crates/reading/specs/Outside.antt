@@ -8,7 +8,8 @@ use Rattle.matching.specs.Words.{Word}
 use Rattle.matching.specs.Table.{slotsIn}
 use Rattle.matching.specs.Occurrence.{flat}
 use Rattle.matching.specs.Limits.{largest}
-use Rattle.matching.specs.Reading.{Outcome, read, allBelow}
+use Rattle.matching.specs.Reading.{read, allBelow}
+use Rattle.matching.specs.Stepping.{OutcomeOf}
 use Rattle.reading.specs.declared.ReadRefusal.{ReadRefusal}
 use Rattle.reading.specs.declared.ReadRefusal.the-variants.{Place, Long}
 use Rattle.reading.specs.declared.Ending.the-variants.{Stopped, Refused}
@@ -16,13 +17,17 @@ use Rattle.reading.specs.declared.SplitAnswer.{SplitAnswer}
 use Rattle.reading.specs.declared.WholeAnswer.{WholeAnswer}
 use mathlib.Core.Path.{_≡_}
 
--- a read is refused, or it comes to an outcome
-pub data ReadOf : Type 0 where
-  refusedRead : ReadRefusal → ReadOf
-  readTo : Outcome → ReadOf
+-- a read is refused, or it comes to an outcome, whose place is of type P
+pub data ReadAt (P : Type 0) : Type 0 where
+  refusedRead : ReadRefusal → ReadAt P
+  readTo : OutcomeOf P → ReadAt P
+
+-- over a table, whose places are a state for each machine
+abbrev pub ReadOf : Type 0
+ReadOf = ReadAt (List ℕ)
 
 -- by whether each state is below s, and whether the bytes taken and the piece pass the largest count
-abbrev pub readBy : Outcome → Bool → Bool → ReadOf
+abbrev pub readBy : {P : Type 0} → OutcomeOf P → Bool → Bool → ReadAt P
 readBy r false long = refusedRead Place
 readBy r true true = refusedRead Long
 readBy r true false = readTo r
@@ -35,7 +40,7 @@ readOf n k table place count piece len =
     (ltb largest (count + length piece))
 
 -- the list after a read: the records at its front, and the rest as it was
-abbrev pub listBy : List ℕ → ReadOf → List ℕ
+abbrev pub listBy : {P : Type 0} → List ℕ → ReadAt P → List ℕ
 listBy list (refusedRead why) = list
 listBy list (readTo r) = flat (r .found) ++ drop (length (flat (r .found))) list
 

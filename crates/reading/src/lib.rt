@@ -1,6 +1,6 @@
 // Reading a piece over any table (docs/RULES.md, 4).
-mod records;
-mod refusals;
+pub mod records;
+pub mod refusals;
 mod walks;
 
 use crate::refusals::Verdict;

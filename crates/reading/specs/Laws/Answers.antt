@@ -11,6 +11,7 @@ use Rattle.matching.specs.Laws.AnyTable.{read-kept}
 use Rattle.matching.specs.Laws.Bools.{both-ways}
 use Rattle.matching.specs.Reading.{Outcome, allBelow, read}
 use Rattle.matching.specs.Refusal.{firstOf}
+use Rattle.matching.specs.Stepping.{OutcomeOf}
 use Rattle.matching.specs.Table.{slotsIn}
 use Rattle.passing.specs.Laws.Below.{below-at}
 use Rattle.reading.specs.Laws.Records.{flat-length}
@@ -47,7 +48,7 @@ module _ (n k : ℕ) (table place : List ℕ) (count : ℕ) (piece : List ℕ) (
   read-goes b h = rw (← e, b, h)
 
 -- by the number of the code's verdict
-first-refused : (r : Outcome) (sound long : Bool) (why : ReadRefusal) → readNumber why ≡ firstOf (readGrounds sound long)
+pub first-refused : {P : Type 0} (r : OutcomeOf P) (sound long : Bool) (why : ReadRefusal) → readNumber why ≡ firstOf (readGrounds sound long)
     → readBy r sound long ≡ refusedRead why
 unfolding firstOf
 first-refused r false long Place e = refl

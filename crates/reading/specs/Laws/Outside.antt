@@ -6,14 +6,17 @@ use mathlib.Core.Logic.{_↔_, _⊎_, inl, inr}
 use mathlib.Core.Path.{_∙_, _≡_, ap, refl, sym}
 use native.Mathlib.Omega.{arith}
 use lib.Dec.{ltb}
-use lib.ListN.{drop, getD, length}
+use lib.ListN.{drop, getD, length, length-append, length-drop}
 use lib.Seq.{getD-append-add, getD-drop}
 use borrow.Author.Tests.{ltb-false, ltb-true}
 use Rattle.matching.specs.Laws.AnyTable.{read-kept}
 use Rattle.matching.specs.Laws.Bools.{decided, not-both}
+use Rattle.matching.specs.Laws.Stepping.{went}
 use Rattle.matching.specs.Occurrence.{Occurrence, flat}
-use Rattle.matching.specs.Reading.{Outcome, allBelow, read}
+use Rattle.matching.specs.Reading.{allBelow, read, tableStep}
 use Rattle.matching.specs.Refusal.{firstOf}
+use Rattle.matching.specs.Stepping.{OutcomeOf, Step}
+use Rattle.matching.specs.Stepping as stepping
 use Rattle.matching.specs.Table.{slotsIn}
 use Rattle.matching.specs.Words.{Word}
 use Rattle.matching.specs.declared.Stop.{Stop}
@@ -21,7 +24,7 @@ use Rattle.matching.specs.declared.Stop.the-variants.{All}
 use Rattle.passing.specs.Laws.Below.{below-at}
 use Rattle.reading.specs.Laws.Answers.{list-long, read-goes, read-long, read-place}
 use Rattle.reading.specs.Laws.Records.{flat-length}
-use Rattle.reading.specs.Outside.{ReadOf, listBy, readBy, readNumber, readOf, readTo, refusedRead, splitBy, wholeBy}
+use Rattle.reading.specs.Outside.{ReadAt, ReadOf, listBy, readBy, readNumber, readOf, readTo, refusedRead, splitBy, wholeBy}
 use Rattle.reading.specs.Refusals.{RefusedWith, endingNumber, readGrounds}
 use Rattle.reading.specs.declared.Ending.{Ending}
 use Rattle.reading.specs.declared.Ending.the-variants.{Refused, Stopped}
@@ -120,21 +123,22 @@ module _ (n k : ℕ) (table place : List ℕ) (count : ℕ) (piece : Word) (len 
       back r (is-read f h) w = refl
 
 -- the number of a read, 0 where it is not refused
-abbrev pub numberBy : ReadOf → ℕ
+abbrev pub numberBy : {P : Type 0} → ReadAt P → ℕ
 numberBy (refusedRead why) = readNumber why
 numberBy (readTo r) = 0
 
 -- PLACE, then LONG: the number is that of the first ground that holds
+pub by-grounds : {P : Type 0} (r : OutcomeOf P) (sound long : Bool) → numberBy (readBy r sound long) ≡ firstOf (readGrounds sound long)
+unfolding firstOf
+by-grounds r false long = refl
+by-grounds r true true = refl
+by-grounds r true false = refl
+
 pub read-refusals : (n k : ℕ) (table place : List ℕ) (count : ℕ) (piece : Word) (len : ℕ)
     → numberBy (readOf n k table place count piece len) ≡ firstOf
     (readGrounds (allBelow (slotsIn n k (length table)) place) (ltb 4294967295 (count + length piece)))
-unfolding readOf firstOf
-read-refusals n k table place count piece len = go _ (allBelow (slotsIn n k (length table)) place) (ltb 4294967295 (count + length piece))
-  where
-    go : (r : Outcome) (sound long : Bool) → numberBy (readBy r sound long) ≡ firstOf (readGrounds sound long)
-    go r false long = refl
-    go r true true = refl
-    go r true false = refl
+unfolding readOf
+read-refusals n k table place count piece len = by-grounds _ (allBelow (slotsIn n k (length table)) place) (ltb 4294967295 (count + length piece))
 
 split-number : (place : List ℕ) (r : ReadOf) → endingNumber (splitBy place r .ending) ≡ numberBy r
 split-number place (refusedRead why) = refl
@@ -224,20 +228,20 @@ module _ (table : List ℕ) (place count : ℕ) (piece : Word) (len : ℕ) where
 
 -- ---- what it keeps
 
--- an answer, whatever the slicing
-abbrev pub takenBy : ReadOf → ℕ
+-- an answer, whatever its places are
+abbrev pub takenBy : {P : Type 0} → ReadAt P → ℕ
 takenBy (refusedRead why) = 0
 takenBy (readTo r) = r .taken
 
-abbrev pub placeBy : List ℕ → ReadOf → List ℕ
+abbrev pub placeBy : {P : Type 0} → P → ReadAt P → P
 placeBy place (refusedRead why) = place
 placeBy place (readTo r) = r .place
 
-abbrev pub recordsBy : ReadOf → ℕ
+abbrev pub recordsBy : {P : Type 0} → ReadAt P → ℕ
 recordsBy (refusedRead why) = 0
 recordsBy (readTo r) = length (r .found)
 
-abbrev pub endingBy : ReadOf → Ending
+abbrev pub endingBy : {P : Type 0} → ReadAt P → Ending
 endingBy (refusedRead why) = Refused why
 endingBy (readTo r) = Stopped (r .stop)
 
@@ -252,25 +256,13 @@ whole-is place (refusedRead why) = refl
 whole-is place (readTo r) = refl
 
 -- what every read has done to its list and place
-pub record ReadKept (place : List ℕ) (piece : Word) (list : List ℕ) (r : ReadOf) : Type 0 where
+pub record KeptBy {P : Type 0} (place : P) (piece : Word) (list : List ℕ) (r : ReadAt P) : Type 0 where
   pub part : takenBy r ≤ length piece
   pub fits : recordsBy r ≤ length list / 2
-  pub wide : length (placeBy place r) ≡ length place
   pub long : length (listBy list r) ≡ length list
   pub unused : (i : ℕ) → 2 * recordsBy r ≤ i → getD (listBy list r) i 0 ≡ getD list i 0
   pub idle : takenBy r ≡ 0 → (placeBy place r ≡ place) × (recordsBy r ≡ 0) × (listBy list r ≡ list)
   pub whole : (endingBy r ≡ Stopped All) → takenBy r ≡ length piece
-
-pub kept-refused : (place : List ℕ) (piece : Word) (list : List ℕ) (why : ReadRefusal) → ReadKept place piece list (refusedRead why)
-kept-refused place piece list why = record {
-  part = zero-le;
-  fits = zero-le;
-  wide = refl;
-  long = refl;
-  unused = λ i h. refl;
-  idle = λ e. (refl, refl, refl);
-  whole = λ e. let z : _≡_ {A = ℕ} 0 1 = cc in absurd (omega arith);
-}
 
 behind : (xs l : List ℕ) (i : ℕ) → length xs ≤ i → length xs ≤ length l → getD (xs ++ drop (length xs) l) i 0 ≡ getD l i 0
 behind xs l i h fits =
@@ -278,48 +270,76 @@ behind xs l i h fits =
     ap (λ (j : ℕ). getD (xs ++ drop (length xs) l) j 0) z
     ∙ getD-append-add xs (drop (length xs) l) (i - length xs) 0 ∙ getD-drop (length xs) l (i - length xs) 0 ∙ ap (λ (j : ℕ). getD l j 0) (sym z)
 
-pub kept-read : (n s : ℕ) (table place : List ℕ) (count : ℕ) (piece : Word) (list : List ℕ)
-    → ReadKept place piece list (readTo (read n s table place count (length list / 2) piece))
-unfolding flat
-kept-read n s table place count piece list =
-    let o = read n s table place count (length list / 2) piece in
-    let k = read-kept n s table place count (length list / 2) piece in
-    let room : length (flat (o .found)) ≤ length list = omega (arith, flat-length (o .found), k .fits) in
-    record {
-      part = k .part;
-      fits = k .fits;
-      wide = k .long;
-      long = list-long n s table place count piece list _ refl;
-      unused = λ i h. behind (flat (o .found)) list i (omega (arith, flat-length (o .found))) room;
-      idle = λ e. (k .idle e .0, ap length (k .idle e .1), none (o .found) list (k .idle e .1));
-      whole = λ e. k .whole .0 (stopped-is (o .stop) All e);
-    }
-  where
-    none : (os : List Occurrence) (l : List ℕ) → os ≡ [] → flat os ++ drop (length (flat os)) l ≡ l
-    none [] l e = refl
-    none (x ∷ os) l e = let z : _≡_ {A = ℕ} 0 1 = cc in absurd (omega arith)
+module _ {P : Type 0} (place : P) (piece : Word) (list : List ℕ) where
+  refused-keeps : (why : ReadRefusal) → KeptBy place piece list (refusedRead why)
+  refused-keeps why = record {
+    part = zero-le;
+    fits = zero-le;
+    long = refl;
+    unused = λ i h. refl;
+    idle = λ e. (refl, refl, refl);
+    whole = λ e. let z : _≡_ {A = ℕ} 0 1 = cc in absurd (omega arith);
+  }
 
-    stopped-is : (a b : Stop) → Stopped a ≡ Stopped b → a ≡ b
-    stopped-is a b e = cc
+  module _ (step : Step P) (count : ℕ) where
+    step-keeps : KeptBy place piece list (readTo (stepping.readBy step place count (length list / 2) piece))
+    unfolding flat
+    step-keeps =
+        let o = stepping.readBy step place count (length list / 2) piece in
+        let k = went step piece place count (length list / 2) in
+        let room : length (flat (o .found)) ≤ length list = omega (arith, flat-length (o .found), k .fits) in
+        record {
+          part = k .part;
+          fits = k .fits;
+          long = simp (length-append, length-drop) (omega (arith, room));
+          unused = λ i h. behind (flat (o .found)) list i (omega (arith, flat-length (o .found))) room;
+          idle = λ e. (k .idle e .0, ap length (k .idle e .1), none (o .found) list (k .idle e .1));
+          whole = λ e. k .whole .0 (stopped-is (o .stop) All e);
+        }
+      where
+        none : (os : List Occurrence) (l : List ℕ) → os ≡ [] → flat os ++ drop (length (flat os)) l ≡ l
+        none [] l e = refl
+        none (x ∷ os) l e = let z : _≡_ {A = ℕ} 0 1 = cc in absurd (omega arith)
+
+        stopped-is : (a b : Stop) → Stopped a ≡ Stopped b → a ≡ b
+        stopped-is a b e = cc
+
+    -- by any step, refused or not
+    pub by-keeps : (sound long : Bool) → KeptBy place piece list (readBy (stepping.readBy step place count (length list / 2) piece) sound long)
+    by-keeps false long = refused-keeps Place
+    by-keeps true true = refused-keeps Long
+    by-keeps true false = step-keeps
+
+-- over a table a place has as many states as it had
+pub record ReadKept (place : List ℕ) (piece : Word) (list : List ℕ) (r : ReadOf) : Type 0 where
+  pub kept : KeptBy place piece list r
+  pub wide : length (placeBy place r) ≡ length place
 
 pub read-keeps : (n k : ℕ) (table place : List ℕ) (count : ℕ) (piece : Word) (list : List ℕ)
     → ReadKept place piece list (readOf n k table place count piece (length list))
-read-keeps n k table place count piece list = go _ (judged n k table place count piece (length list))
+unfolding readOf read
+read-keeps n k table place count piece list = record {
+  kept = by-keeps place piece list (tableStep n s table) count (allBelow s place) (ltb 4294967295 (count + length piece));
+  wide = go (allBelow s place) (ltb 4294967295 (count + length piece));
+}
   where
-    go : (r : ReadOf) → Judged n k table place count piece (length list) r → ReadKept place piece list r
-    go r (not-a-state i l h) = kept-refused place piece list Place
-    go r (too-many-bytes f h) = kept-refused place piece list Long
-    go r (is-read f h) = kept-read n (slotsIn n k (length table)) table place count piece list
+    s : ℕ
+    s = slotsIn n k (length table)
+
+    go : (sound long : Bool) → length (placeBy place (readBy (read n s table place count (length list / 2) piece) sound long)) ≡ length place
+    go false long = refl
+    go true true = refl
+    go true false = read-kept n s table place count (length list / 2) piece .long
 
 -- an odd last number is never used
 pub odd-kept : (n k : ℕ) (table place : List ℕ) (count : ℕ) (piece : Word) (list : List ℕ) (i : ℕ) → 2 * (length list / 2) ≤ i
     → getD (listBy list (readOf n k table place count piece (length list))) i 0 ≡ getD list i 0
 odd-kept n k table place count piece list i h =
-    let g = read-keeps n k table place count piece list in
+    let g = read-keeps n k table place count piece list .kept in
     g .unused i (omega (arith, g .fits))
 
 -- refused: nothing is taken, nothing written, and place and list are what they were
-pub refused-same : (place list : List ℕ) (r : ReadOf) (why : ReadRefusal) → r ≡ refusedRead why
+pub refused-same : {P : Type 0} (place : P) (list : List ℕ) (r : ReadAt P) (why : ReadRefusal) → r ≡ refusedRead why
     → (takenBy r ≡ 0) × ((recordsBy r ≡ 0) × ((placeBy place r ≡ place) × (listBy list r ≡ list)))
 refused-same place list r why e = rw e (refl, (refl, (refl, refl)))
 
@@ -335,7 +355,7 @@ module _ (table : List ℕ) (count : ℕ) (piece : Word) (list : List ℕ) where
       go : (r : ReadOf) → ReadKept place piece list r → splitBy place r .taken ≡ 0
           → (splitBy place r .place ≡ place) × (splitBy place r .records ≡ 0) × (listBy list r ≡ list)
       go (refusedRead why) k e = (refl, refl, refl)
-      go (readTo o) k e = k .idle e
+      go (readTo o) k e = k .kept .idle e
 
   pub whole-idle : (place : ℕ) → wholeBy place (readOf 8 1 table (place ∷ []) count piece (length list)) .taken ≡ 0
       → (wholeBy place (readOf 8 1 table (place ∷ []) count piece (length list)) .place ≡ place)
@@ -346,4 +366,4 @@ module _ (table : List ℕ) (count : ℕ) (piece : Word) (list : List ℕ) where
       go : (r : ReadOf) → ReadKept (place ∷ []) piece list r → wholeBy place r .taken ≡ 0
           → (wholeBy place r .place ≡ place) × (wholeBy place r .records ≡ 0) × (listBy list r ≡ list)
       go (refusedRead why) k e = (refl, refl, refl)
-      go (readTo o) k e = (ap (λ (l : List ℕ). getD l 0 0) (k .idle e .0), k .idle e .1, k .idle e .2)
+      go (readTo o) k e = (ap (λ (l : List ℕ). getD l 0 0) (k .kept .idle e .0), k .kept .idle e .1, k .kept .idle e .2)
