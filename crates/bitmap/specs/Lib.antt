@@ -2,4 +2,5 @@
 pub mod Levels
 pub mod Slots
 pub mod Steps
+pub mod Moves
 pub mod Laws
