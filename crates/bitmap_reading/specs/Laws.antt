@@ -3,3 +3,4 @@ pub mod Steps
 pub mod Rows
 pub mod Walks
 pub mod Outside
+pub mod Readings

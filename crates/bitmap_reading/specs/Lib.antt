@@ -4,3 +4,4 @@ pub mod Outside
 pub mod Rows
 pub mod Walks
 pub mod Laws
+pub mod Exact

@@ -122,6 +122,18 @@ module _ (n k : ℕ) (table place : List ℕ) (count : ℕ) (piece : Word) (len 
       back r (too-many-bytes f h) w = absurd (omega (arith, w .1, h))
       back r (is-read f h) w = refl
 
+-- by the two tests: PLACE exactly if the first fails, LONG exactly if the first holds and the second too
+module _ {P : Type 0} (r : OutcomeOf P) where
+  pub by-place-iff : (sound long : Bool) → (readBy r sound long ≡ refusedRead Place) ↔ (sound ≡ false)
+  by-place-iff false long = (λ e. refl, λ e. refl)
+  by-place-iff true true = (λ e. let z : _≡_ {A = ℕ} 0 1 = cc in absurd (omega arith), λ e. absurd (not-both refl e))
+  by-place-iff true false = (λ e. let z : _≡_ {A = ℕ} 0 1 = cc in absurd (omega arith), λ e. absurd (not-both refl e))
+
+  pub by-long-iff : (sound long : Bool) → (readBy r sound long ≡ refusedRead Long) ↔ ((sound ≡ true) × (long ≡ true))
+  by-long-iff false long = (λ e. let z : _≡_ {A = ℕ} 0 1 = cc in absurd (omega arith), λ e. absurd (not-both (e .0) refl))
+  by-long-iff true true = (λ e. (refl, refl), λ e. refl)
+  by-long-iff true false = (λ e. let z : _≡_ {A = ℕ} 0 1 = cc in absurd (omega arith), λ e. absurd (not-both (e .1) refl))
+
 -- the number of a read, 0 where it is not refused
 abbrev pub numberBy : {P : Type 0} → ReadAt P → ℕ
 numberBy (refusedRead why) = readNumber why
@@ -158,7 +170,7 @@ whole-refused place (refusedRead w) why = (λ e. cc, λ e. cc)
 whole-refused place (readTo o) why = (λ e. let z : _≡_ {A = ℕ} 0 1 = cc in absurd (omega arith), λ e. let z : _≡_ {A = ℕ} 0 1 = cc in absurd (omega arith))
 
 -- a number is one refusal's
-by-number : (why : ReadRefusal) (ending : Ending) → RefusedWith ending (readNumber why) [] ↔ (ending ≡ Refused why)
+pub by-number : (why : ReadRefusal) (ending : Ending) → RefusedWith ending (readNumber why) [] ↔ (ending ≡ Refused why)
 by-number why ending =
     (λ w. w .refused ∙ ap Refused (same (w .why) why (w .number-is)), λ e. record { why = why; refused = e; number-is = refl; values-are = refl })
   where

@@ -1,0 +1,109 @@
+-- WHAT A READ OVER ANY RUN OF NUMBERS PROMISES: when it is refused, exactly; that a refused one changes nothing; and what every one keeps.
+use Prim.Native.Nat.{_*_, _+_, _/_, _<_, _≤_, ℕ}
+use mathlib.Core.Bool.{Bool, false, true}
+use mathlib.Core.List.{List, []}
+use mathlib.Core.Logic.{_↔_}
+use mathlib.Core.Path.{_∙_, _≡_, ap, refl, sym}
+use native.Mathlib.Omega.{arith}
+use lib.Dec.{ltb}
+use lib.ListN.{getD, length}
+use borrow.Author.Tests.{le-ltb, lt-ltb, ltb-false, ltb-true}
+use Rattle.matching.specs.Refusal.{firstOf}
+use Rattle.matching.specs.Stepping.{OutcomeOf}
+use Rattle.matching.specs.Words.{Word}
+use Rattle.reading.specs.Laws.Outside.{KeptBy, by-grounds, by-keeps, by-long-iff, by-number, by-place-iff, numberBy, placeBy, recordsBy, takenBy}
+use Rattle.reading.specs.Outside.{ReadAt, listBy, readTo, refusedRead}
+use Rattle.reading.specs.Refusals.{RefusedWith, endingNumber, readGrounds}
+use Rattle.reading.specs.declared.Ending.{Ending}
+use Rattle.reading.specs.declared.Ending.the-variants.{Refused, Stopped}
+use Rattle.reading.specs.declared.ReadRefusal.{ReadRefusal}
+use Rattle.reading.specs.declared.ReadRefusal.the-variants.{Long, Place}
+use Rattle.bitmap.specs.Slots.{slotsOf}
+use Rattle.bitmap_reading.specs.Outside.{mapBy, readMapOf}
+use Rattle.bitmap_reading.specs.Reading.{Standing, mapStep, readMap}
+
+-- the answer names the refusal
+map-refused-iff : (place : ℕ) (r : ReadAt Standing) (why : ReadRefusal) → (mapBy place r .ending ≡ Refused why) ↔ (r ≡ refusedRead why)
+map-refused-iff place (refusedRead w) why = (λ e. cc, λ e. cc)
+map-refused-iff place (readTo o) why =
+    (λ e. let z : _≡_ {A = ℕ} 0 1 = cc in absurd (omega arith), λ e. let z : _≡_ {A = ℕ} 0 1 = cc in absurd (omega arith))
+
+map-number : (place : ℕ) (r : ReadAt Standing) → endingNumber (mapBy place r .ending) ≡ numberBy r
+map-number place (refusedRead why) = refl
+map-number place (readTo o) = refl
+
+module _ (table : List ℕ) (place count : ℕ) (piece : Word) (len : ℕ) where
+  abbrev slots : ℕ
+  slots = slotsOf (length table)
+
+  abbrev answer : ReadAt Standing
+  answer = readMapOf table place count piece len
+
+  abbrev ending : Ending
+  ending = mapBy place answer .ending
+
+  -- 15, PLACE, with nothing returned, exactly if the state is not below s
+  pub map-place-iff : RefusedWith ending 15 [] ↔ (slots ≤ place)
+  unfolding readMapOf
+  map-place-iff = (
+    λ w. ltb-false place slots (by-place-iff read sound long .0 (map-refused-iff place answer Place .0 (by-number Place ending .0 w))),
+    λ h. by-number Place ending .1 (map-refused-iff place answer Place .1 (by-place-iff read sound long .1 (le-ltb place slots h))),
+  )
+    where
+      read : OutcomeOf Standing
+      read = readMap slots table place count (len / 2) piece
+
+      sound : Bool
+      sound = ltb place slots
+
+      long : Bool
+      long = ltb 4294967295 (count + length piece)
+
+  -- 14, LONG, exactly if it is, and the bytes taken and the piece pass 4,294,967,295
+  pub map-long-iff : RefusedWith ending 14 [] ↔ ((place < slots) × (4294967295 < count + length piece))
+  unfolding readMapOf
+  map-long-iff = (
+    λ w.
+        let e = by-long-iff read sound long .0 (map-refused-iff place answer Long .0 (by-number Long ending .0 w)) in
+        (ltb-true place slots (e .0), ltb-true 4294967295 (count + length piece) (e .1)),
+    λ h. by-number Long ending .1
+        (map-refused-iff place answer Long .1 (by-long-iff read sound long .1 (lt-ltb place slots (h .0), lt-ltb 4294967295 (count + length piece) (h .1)))),
+  )
+    where
+      read : OutcomeOf Standing
+      read = readMap slots table place count (len / 2) piece
+
+      sound : Bool
+      sound = ltb place slots
+
+      long : Bool
+      long = ltb 4294967295 (count + length piece)
+
+  -- the same in order: the number is that of the first ground that holds
+  pub map-refusals : endingNumber ending ≡ firstOf (readGrounds (ltb place slots) (ltb 4294967295 (count + length piece)))
+  unfolding readMapOf
+  map-refusals = map-number place answer ∙ by-grounds (readMap slots table place count (len / 2) piece) (ltb place slots) (ltb 4294967295 (count + length piece))
+
+-- what every read keeps: it takes no more than the piece, writes no more than the room, keeps the list's length and the room that it does not use; with
+-- 0 taken the place, the list and the moves are what they were; and it stops ALL only if the piece is taken
+pub map-keeps : (table : List ℕ) (place count : ℕ) (piece : Word) (list : List ℕ)
+    → KeptBy (record { state = place; moves = 0 }) piece list (readMapOf table place count piece (length list))
+unfolding readMapOf readMap
+map-keeps table place count piece list =
+    by-keeps (record { state = place; moves = 0 }) piece list (mapStep (slotsOf (length table)) table) count (ltb place (slotsOf (length table)))
+    (ltb 4294967295 (count + length piece))
+
+-- NOTHING TAKEN, over any run of numbers: refused, or stopped before the first byte, or an empty piece; place and list are what they were, and no
+-- record and no move is told of
+pub map-idle : (table : List ℕ) (place count : ℕ) (piece : Word) (list : List ℕ)
+    → mapBy place (readMapOf table place count piece (length list)) .taken ≡ 0
+    → (mapBy place (readMapOf table place count piece (length list)) .place ≡ place)
+    × (mapBy place (readMapOf table place count piece (length list)) .records ≡ 0)
+    × (mapBy place (readMapOf table place count piece (length list)) .moves ≡ 0)
+    × (listBy list (readMapOf table place count piece (length list)) ≡ list)
+map-idle table place count piece list e = go _ (map-keeps table place count piece list) e
+  where
+    go : (r : ReadAt Standing) → KeptBy (record { state = place; moves = 0 }) piece list r → mapBy place r .taken ≡ 0
+        → (mapBy place r .place ≡ place) × (mapBy place r .records ≡ 0) × (mapBy place r .moves ≡ 0) × (listBy list r ≡ list)
+    go (refusedRead why) k e = (refl, refl, refl, refl)
+    go (readTo o) k e = let i = k .idle e in (ap (λ (x : Standing). x .state) (i .0), i .1, ap (λ (x : Standing). x .moves) (i .0), i .2)
