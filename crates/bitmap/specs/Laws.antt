@@ -3,6 +3,7 @@ pub mod Levels
 pub mod Maps
 pub mod Children
 pub mod Steps
+pub mod Ways
 pub mod Moves
 pub mod Built
 pub mod States

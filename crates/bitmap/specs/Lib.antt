@@ -2,5 +2,6 @@
 pub mod Levels
 pub mod Slots
 pub mod Steps
+pub mod Ways
 pub mod Moves
 pub mod Laws
