@@ -1,0 +1,2 @@
+// Masks of tags and maps of states, for building a bitmap table (docs/RULES.md, 2 and 3).
+pub mod masks;
