@@ -1,4 +1,6 @@
 -- The laws, each file by what it speaks of.
+pub mod Bits
 pub mod Masks
 pub mod Vectors
-pub mod Bits
+pub mod Laying
+pub mod Laid

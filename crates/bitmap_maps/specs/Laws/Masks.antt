@@ -13,13 +13,10 @@ use Rattle.matching.specs.Laws.Bools.{both-ways}
 use Rattle.matching.specs.Laws.Vectors.{vectorBy-bit, vectorBy-lt}
 use Rattle.matching.specs.Machine.{vectorBy}
 use Rattle.matching.specs.Words.{Word, begins}
+use Rattle.bitmap_maps.specs.Laws.Bits.{bit-is}
 use Rattle.bitmap_maps.specs.Through.{through}
 
 -- ---- a bit of a mask
-
-bit-is : (b : Bool) (x : ℕ) → x ≡ cond b 1 0 → eqb x 1 ≡ b
-bit-is true x e = rw e refl
-bit-is false x e = rw e refl
 
 -- bit u says whether p begins tag u
 pub through-bit : (ts : List Word) (p : Word) (u : ℕ) → u < length ts → eqb (through ts p / 2 ^ u % 2) 1 ≡ begins p (getD ts u [])
