@@ -1,9 +1,10 @@
 -- A bitmap table while it grows. Its states are settled in the order of their numbers; one that is placed but not yet settled waits in its own
 -- slot: number 0 is its depth, 17 its failure state, 18 the mask of the tags that go through it.
 use Prim.Native.Nat.{_*_, _+_, _<_, _^_, _≤_, suc, zero, ℕ}
-use mathlib.Core.Bool.{true}
+use mathlib.Core.Bool.{cond, true}
 use mathlib.Core.List.{List, []}
 use mathlib.Core.Path.{_≡_}
+use lib.Dec.{eqb}
 use lib.ListN.{getD, length, set, take}
 use Rattle.matching.specs.Laws.Links.{failure}
 use Rattle.matching.specs.Machine.{vector}
@@ -12,7 +13,7 @@ use Rattle.bitmap.specs.Laws.Built.{Settled}
 use Rattle.bitmap.specs.Laws.Children.{goes}
 use Rattle.bitmap.specs.Laws.Maps.{tallyFrom}
 use Rattle.bitmap.specs.Levels.{below, byLevel}
-use Rattle.bitmap.specs.Steps.{failAt, numberAt, onesBelow, step, vectorAt}
+use Rattle.bitmap.specs.Steps.{failAt, numberAt, onesBelow, onesOver, step, vectorAt}
 use Rattle.bitmap.specs.declared.Step.{Step}
 use Rattle.bitmap.specs.declared.Step.the-variants.{To, Wrong}
 use Rattle.bitmap_maps.specs.Through.{Waits, through}
@@ -103,3 +104,23 @@ pub record Sowable (l : List ℕ) (s q f d k c u : ℕ) : Type 0 where
   pub tag : u < 16
   pub goes : failTo q (step s l f c) < 65536
   pub mask : vectorAt l (childNumber l q k c) + 2 ^ u < 65536
+
+-- what a state's vector has from its failure state
+unfoldable pub inherits : ℕ → List ℕ → ℕ → ℕ
+inherits zero l f = 0
+inherits (suc q) l f = vectorAt l f
+
+-- the first of n children behind k states
+abbrev pub firstOf : ℕ → ℕ → ℕ
+firstOf k n = cond (eqb n 0) 0 k
+
+-- a state whose map is laid, with its first child and its vector
+abbrev pub closed : List ℕ → ℕ → ℕ → ℕ → ℕ → List ℕ
+closed l q k f own = set (set l (q * 19 + 16) (firstOf k (onesOver l q 0 16))) (q * 19 + 18) (inherits q l f + own)
+
+-- what it takes to do so
+pub record Closable (l : List ℕ) (q k f own : ℕ) : Type 0 where
+  pub room : q * 19 + 18 < length l
+  pub fails : f * 19 + 18 < length l
+  pub few : k < 65536
+  pub vector : inherits q l f + own < 65536

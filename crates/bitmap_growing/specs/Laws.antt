@@ -3,3 +3,4 @@ pub mod Numbers
 pub mod Failing
 pub mod Cells
 pub mod Sowing
+pub mod Settling

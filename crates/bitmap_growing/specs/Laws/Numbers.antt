@@ -17,6 +17,7 @@ use Rattle.bitmap.specs.Laws.Levels.{Child, Under, begins-byte, below-append, b
 use Rattle.bitmap.specs.Laws.Maps.{tally-add, tally-same, tallyFrom}
 use Rattle.bitmap.specs.Levels.{below, byLevel, childrenFrom}
 use Rattle.bitmap.specs.Slots.{firstChild, forward}
+use Rattle.bitmap_maps.specs.Laws.Laid.{tally-children}
 use Rattle.bitmap_growing.specs.Growing.{kids, placedBy}
 
 -- ---- tallies
@@ -56,16 +57,6 @@ first-empty ps p (suc n) c h = go (decided (forward ps p c)) (first-empty ps p n
 -- ---- children and the states placed
 
 module _ (ts : List Word) where
-  pub children-length : (n : ℕ) (p : Word) (c : ℕ) → length (childrenFrom ts p c n) ≡ tallyFrom (goes ts p) c n
-  unfolding childrenFrom tallyFrom
-  children-length zero p c = refl
-  children-length (suc n) p c = go (decided (goes ts p c)) (children-length n p (suc c))
-    where
-      go : (goes ts p c ≡ true) ⊎ (goes ts p c ≡ false) → length (childrenFrom ts p (suc c) n) ≡ tallyFrom (goes ts p) (suc c) n
-          → length (childrenFrom ts p c (suc n)) ≡ cond (goes ts p c) 1 0 + tallyFrom (goes ts p) (suc c) n
-      go (inl e) ih = ap {B = ℕ} length (children-hit ts p c n e) ∙ omega (arith, ih, ap {B = ℕ} (λ (b : Bool). cond b 1 0) e)
-      go (inr e) ih = ap {B = ℕ} length (children-miss ts p c n e) ∙ omega (arith, ih, ap {B = ℕ} (λ (b : Bool). cond b 1 0) e)
-
   pub below-at : (ps : List Word) (q : ℕ) → q < length ps → below ts ps ≡ below ts (take q ps) ++ (childrenFrom ts (getD ps q []) 0 256 ++ below ts (drop (suc q) ps))
   unfolding below
   below-at [] q h = absurd (not-suc-le-zero h)
@@ -86,7 +77,7 @@ module _ (ts : List Word) where
         ap {B = ℕ} length a,
         length-append (below ts (take q (byLevel ts))) (childrenFrom ts p 0 256 ++ []),
         ap {B = ℕ} length (append-nil (childrenFrom ts p 0 256)),
-        children-length 256 p 0,
+        tally-children ts p 256 0,
       )
 
 -- a word is not among those before it
@@ -125,7 +116,7 @@ module _ (ts : List Word) (l : Lawful ts) where
           ap {B = ℕ} length split,
           length-append ([] ∷ below ts (take q all)) (childrenFrom ts p 0 256 ++ rest),
           length-append (childrenFrom ts p 0 256) rest,
-          children-length ts 256 p 0,
+          tally-children ts p 256 0,
         )
 
     -- the states behind those placed are the children of q
@@ -133,7 +124,7 @@ module _ (ts : List Word) (l : Lawful ts) where
     child-word r lo hi =
         let i : ℕ = r - placedBy ts q in
         let z : placedBy ts q + i ≡ r = omega arith in
-        let few : i < length (childrenFrom ts p 0 256) = omega (arith, children-length ts 256 p 0) in
+        let few : i < length (childrenFrom ts p 0 256) = omega (arith, tally-children ts p 256 0) in
         let at : getD all r [] ≡ getD (childrenFrom ts p 0 256) i [] =
         ap (λ (x : ℕ). getD all x []) (sym z) ∙ ap (λ (x : List Word). getD x (placedBy ts q + i) []) split
         ∙ getD-append-add ([] ∷ below ts (take q all)) (childrenFrom ts p 0 256 ++ rest) i []
