@@ -4,3 +4,5 @@ pub mod Masks
 pub mod Vectors
 pub mod Laying
 pub mod Laid
+pub mod Own
+pub mod Counting

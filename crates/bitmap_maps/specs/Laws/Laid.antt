@@ -1,13 +1,13 @@
 -- A laid map is that of the state in the machine, and its ones are the state's children.
 use Prim.Native.Nat.{_*_, _<_, suc, zero, ℕ}
 use mathlib.Core.Bool.{Bool, cond, false, true}
-use mathlib.Core.List.{List, [], _++_, _∷_}
+use mathlib.Core.List.{List}
 use mathlib.Core.Logic.{_⊎_, inl, inr}
 use mathlib.Core.Path.{_∙_, _≡_, ap, refl, sym}
 use native.Mathlib.Omega.{arith}
 use lib.ListN.{length}
 use Rattle.matching.specs.Laws.Bools.{decided}
-use Rattle.matching.specs.Words.{Lawful, Word, beginsOne}
+use Rattle.matching.specs.Words.{Lawful, Word}
 use Rattle.bitmap.specs.Laws.Children.{forward-goes, goes}
 use Rattle.bitmap.specs.Laws.Levels.{children-hit, children-miss}
 use Rattle.bitmap.specs.Laws.Maps.{onesOver-is, tallyFrom}

@@ -3,7 +3,7 @@ use Prim.Native.Nat.{_%_, _*_, _+_, _/_, _<_, _^_, _≤_, ℕ}
 use mathlib.Core.Bool.{Bool, _&&_, _||_, false, or-assoc, or-false, true}
 use mathlib.Core.List.{List, [], _++_, _∷_}
 use mathlib.Core.Logic.{_⊎_, inl, inr}
-use mathlib.Core.Path.{_∙_, _≡_, ap, ap₂, subst, sym}
+use mathlib.Core.Path.{_∙_, _≡_, ap, ap₂, refl, subst, sym}
 use native.Mathlib.Nat.{div-add-mod', div-lt-iff-lt-mul, mod-lt}
 use native.Mathlib.Numerals.{add-one}
 use native.Mathlib.Omega.{arith}
@@ -11,8 +11,8 @@ use lib.Bits.{bitOr}
 use lib.Dec.{eqb, lit<, ltb}
 use lib.ListN.{getD, length, length-set, set, take}
 use lib.Seq.{getD-set-other, getD-set-same, take-all, take-suc}
-use borrow.Author.Tests.{eqb-false, eqb-true, ne-eqb}
-use Rattle.matching.specs.Laws.Bools.{decided}
+use borrow.Author.Tests.{eqb-false, eqb-true, le-ltb, lt-ltb, ne-eqb}
+use Rattle.matching.specs.Laws.Bools.{and-both, and-l, and-r, decided, not-both}
 use Rattle.matching.specs.Words.{Word, begins, beginsOne}
 use Rattle.bitmap.specs.Slots.{bitsFrom}
 use Rattle.bitmap.specs.Steps.{numberAt}
@@ -26,26 +26,34 @@ beginsOne-snoc [] v t = or-false (begins v t)
 beginsOne-snoc (u ∷ us) v t = ap (λ (b : Bool). begins v u || b) (beginsOne-snoc us v t) ∙ sym (or-assoc (begins v u) (beginsOne v us) (begins v t))
 
 -- no tag yet: a map of zeros
-pub laid-none : (ts : List Word) (p : Word) (n q : ℕ) (table : List ℕ) → Unlaid ts n q table → MapLaid [] p q table (set table (q * 19) 0)
-unfolding numberAt beginsOne
-laid-none ts p n q table u =
-    record {
-      map = λ j h. zero-at j h ∙ sym (bits-none 16 (j * 16));
-      low = λ i h. getD-set-other table (q * 19) i 0 0 (λ z. omega arith);
-      high = λ i h. getD-set-other table (q * 19) i 0 0 (λ z. omega arith);
-      long = length-set table (q * 19) 0;
-    }
-  where
-    zero-at : (j : ℕ) → j < 16 → getD (set table (q * 19) 0) (q * 19 + j) 0 ≡ 0
-    zero-at j h = go (decided (eqb j 0))
-      where
-        go : (eqb j 0 ≡ true) ⊎ (eqb j 0 ≡ false) → getD (set table (q * 19) 0) (q * 19 + j) 0 ≡ 0
-        go (inl e) =
-            let z : q * 19 + j ≡ q * 19 = omega (arith, eqb-true j 0 e) in
-            ap (λ (i : ℕ). getD (set table (q * 19) 0) i 0) z ∙ getD-set-same table (q * 19) 0 0 (omega (arith, u .room))
-        go (inr e) =
-            let some : 0 < j = (let ne = eqb-false j 0 e in omega arith) in
-            getD-set-other table (q * 19) (q * 19 + j) 0 0 (λ z. omega arith) ∙ u .bare j some h
+module _ (ts : List Word) (p : Word) (n q : ℕ) (table : List ℕ) (u : Unlaid ts n q table) where
+  abbrev bare : List ℕ
+  bare = set table (q * 19) 0
+
+  zero-at : (j : ℕ) → j < 16 → numberAt bare q j ≡ 0
+  unfolding numberAt
+  zero-at j h = go (decided (eqb j 0))
+    where
+      go : (eqb j 0 ≡ true) ⊎ (eqb j 0 ≡ false) → getD bare (q * 19 + j) 0 ≡ 0
+      go (inl e) =
+          let z : q * 19 + j ≡ q * 19 = omega (arith, eqb-true j 0 e) in
+          ap (λ (i : ℕ). getD bare i 0) z ∙ getD-set-same table (q * 19) 0 0 (omega (arith, u .room))
+      go (inr e) =
+          let some : 0 < j = (let ne = eqb-false j 0 e in omega arith) in
+          getD-set-other table (q * 19) (q * 19 + j) 0 0 (λ z. omega arith) ∙ u .bare j some h
+
+  pub laid-none : MapLaid [] p q bare bare
+  unfolding beginsOne
+  laid-none = record { map = λ j h. zero-at j h ∙ sym (bits-none 16 (j * 16)); low = λ i h. refl; high = λ i h. refl; long = refl }
+
+  -- what is laid over the cleared number is laid over the table
+  pub laid-over : (us : List Word) (after : List ℕ) → MapLaid us p q bare after → MapLaid us p q table after
+  laid-over us after laid = record {
+    map = laid .map;
+    low = λ i h. laid .low i h ∙ getD-set-other table (q * 19) i 0 0 (λ z. omega arith);
+    high = λ i h. laid .high i h ∙ getD-set-other table (q * 19) i 0 0 (λ z. omega arith);
+    long = laid .long ∙ length-set table (q * 19) 0;
+  }
 
 -- ---- one tag more
 
@@ -130,6 +138,18 @@ module _ (us : List Word) (p : Word) (q : ℕ) (before mid : List ℕ) (laid : M
             long = laid .long;
           }
 
+-- the ways of one tag: it does not go through, it is no longer, or it leads on
+pub tag-aside : (tag : Word) (q d : ℕ) (goes : Bool) (table : List ℕ) → goes ≡ false → TagLaid tag q d goes table table
+tag-aside tag q d goes table e = record { on = λ i. absurd (not-both (and-l goes (ltb d (length tag)) i) e); off = λ i. refl }
+
+pub tag-over : (tag : Word) (q d : ℕ) (goes : Bool) (table : List ℕ) → length tag ≤ d → TagLaid tag q d goes table table
+tag-over tag q d goes table h = record { on = λ i. absurd (not-both (and-r goes (ltb d (length tag)) i) (le-ltb d (length tag) h)); off = λ i. refl }
+
+pub tag-leads : (tag : Word) (q d : ℕ) (goes : Bool) (before after : List ℕ) → goes ≡ true → d < length tag → getD tag d 0 < 256
+    → after ≡ withByte before q (getD tag d 0) → TagLaid tag q d goes before after
+tag-leads tag q d goes before after e h byte is =
+    record { on = λ i. (byte, is); off = λ i. absurd (not-both (and-both goes (ltb d (length tag)) e (lt-ltb d (length tag) h)) i) }
+
 -- as the loop goes on, from tag u to the next, and to the end
 pub laid-more : (ts : List Word) (p : Word) (q u : ℕ) (before mid after : List ℕ) (d : ℕ) (goes : Bool) (tag : Word)
     → MapLaid (take u ts) p q before mid → q * 19 + 18 < length mid → u < length ts → tag ≡ getD ts u [] → d ≡ length p → goes ≡ begins p (getD ts u [])
@@ -139,5 +159,6 @@ laid-more ts p q u before mid after d goes tag laid room h et ed eg t =
     (ap {B = List Word} (λ (w : Word). take u ts ++ w ∷ []) et ∙ sym (take-suc ts u [] h) ∙ ap (λ (n : ℕ). take n ts) (sym (add-one u)))
     (laid-tag (take u ts) p q before mid laid room tag d goes after ed (eg ∙ ap (begins p) (sym et)) t)
 
-pub laid-all : (ts : List Word) (p : Word) (q u : ℕ) (before after : List ℕ) → MapLaid (take u ts) p q before after → length ts ≤ u → MapLaid ts p q before after
+pub laid-all : (ts : List Word) (p : Word) (q u : ℕ) (before after : List ℕ) → MapLaid (take u ts) p q before after → length ts ≤ u
+    → MapLaid ts p q before after
 laid-all ts p q u before after laid h = subst (λ (vs : List Word). MapLaid vs p q before after) (take-all u ts h) laid

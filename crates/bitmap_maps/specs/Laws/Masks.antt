@@ -58,7 +58,7 @@ vector-take g [] u h = absurd (not-suc-le-zero h)
 vector-take g (t ∷ ts) zero h = omega arith
 vector-take g (t ∷ ts) (suc u) h = omega (arith, vector-take g ts u (omega arith), doubled (g (getD ts u [])) u)
 
-eqb-swap : (m n : ℕ) → eqb m n ≡ eqb n m
+pub eqb-swap : (m n : ℕ) → eqb m n ≡ eqb n m
 eqb-swap m n = both-ways (eqb m n) (eqb n m) (λ e. eq-eqb n m (sym (eqb-true m n e))) (λ e. eq-eqb m n (sym (eqb-true n m e)))
 
 ltb-suc : (m n : ℕ) → ltb (suc m) (suc n) ≡ ltb m n

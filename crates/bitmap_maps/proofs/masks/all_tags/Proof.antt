@@ -7,8 +7,6 @@ use lib.Pow.{pow-lt, pow-mono, pow-pos}
 use borrow.Author.Needs.{needs}
 use Rattle.bitmap_maps.proofs.masks.all_tags.Statement.{statement}
 use Rattle.bitmap_maps.proofs.masks.all_tags.Tie as tie
-use Rattle.bitmap_maps.proofs.masks.all_tags.Reads as reads
-use Rattle.bitmap_maps.proofs.masks.all_tags.Lts as lts
 
 -- a power of two in 32 bits
 shifted : (n : ℕ) → n ≤ 16 → 1 * 2 ^ n % 2 ^ 32 ≡ 2 ^ n
