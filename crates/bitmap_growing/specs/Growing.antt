@@ -124,3 +124,9 @@ pub record Closable (l : List ℕ) (q k f own : ℕ) : Type 0 where
   pub fails : f * 19 + 18 < length l
   pub few : k < 65536
   pub vector : inherits q l f + own < 65536
+
+-- a run of so many numbers, all zeros but for the mask of the start state: all of so many tags
+pub record Begun (tags : ℕ) (table : List ℕ) (len : ℕ) : Type 0 where
+  pub long : length table ≡ len
+  pub blank : (j : ℕ) → (j ≡ 18 → ⊥) → getD table j 0 ≡ 0
+  pub mask : getD table 18 0 + 1 ≡ 2 ^ tags

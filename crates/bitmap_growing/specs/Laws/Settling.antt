@@ -1,6 +1,6 @@
 -- A state is settled when its turn comes; when all are, the table is built.
 use Prim.Native.Nat.{_*_, _+_, _<_, _^_, _≤_, suc, zero, ℕ}
-use mathlib.Core.Bool.{Bool, cond, false≢true}
+use mathlib.Core.Bool.{Bool, cond, false, false≢true, true}
 use mathlib.Core.List.{List, []}
 use mathlib.Core.Logic.{_⊎_, inl, inr}
 use mathlib.Core.Path.{_∙_, _≡_, ap, ap₂, refl, subst, sym}
@@ -28,7 +28,7 @@ use Rattle.bitmap_maps.specs.Laws.Laid.{laid-map}
 use Rattle.bitmap_maps.specs.Laws.Masks.{through-root}
 use Rattle.bitmap_maps.specs.Laws.Vectors.{vector-first, vector-later}
 use Rattle.bitmap_maps.specs.Through.{Waits, ownTags, through}
-use Rattle.bitmap_growing.specs.Growing.{Closable, Found, Growing, Sowing, Sown, Waiting, closed, firstOf, inherits, kids, placedBy, wordOf}
+use Rattle.bitmap_growing.specs.Growing.{Begun, Closable, Found, Growing, Sowing, Sown, Waiting, closed, firstOf, inherits, kids, placedBy, wordOf}
 use Rattle.bitmap_growing.specs.Laws.Failing.{failure-state, fails-first, fails-lower}
 use Rattle.bitmap_growing.specs.Laws.Numbers.{first-none, first-some, placed-all, placed-few, reached}
 
@@ -191,47 +191,86 @@ module _ {ts : List Word} {s : ℕ} {table : List ℕ} {q k : ℕ} (g : Growing 
       blank = λ j h. after-blank j (omega (arith, h));
     }
 
+    -- ---- as the code has it
+
+    pub turn-sowing : (l : List ℕ) → l ≡ after → Sowing ts s l q k 0
+    turn-sowing l e = subst (λ (x : List ℕ). Sowing ts s x q k 0) (sym e) turn-closed
+
+    pub turn-done : (n : ℕ) → n ≡ onesOver mid q 0 16 → (l : List ℕ) → Growing ts s l (q + 1) (k + kids ts q) → Growing ts s l (q + 1) (k + n)
+    turn-done n e l h = subst (λ (x : ℕ). Growing ts s l (q + 1) (k + x)) (sym (e ∙ turn-kids)) h
+
+module _ (k n : ℕ) where
+  pub first-zero : n ≡ 0 → 0 ≡ firstOf k n
+  first-zero e = sym (ap (λ (t : Bool). cond t 0 k) (eq-eqb n 0 e))
+
+  pub first-more : (n ≡ 0 → ⊥) → k ≡ firstOf k n
+  first-more h = sym (ap (λ (t : Bool). cond t 0 k) (ne-eqb n 0 h))
+
+  pub first-le : firstOf k n ≤ k
+  first-le = go (eqb n 0)
+    where
+      go : (b : Bool) → cond b 0 k ≤ k
+      go true = omega arith
+      go false = omega arith
+
+module _ (q : ℕ) (l : List ℕ) (f : ℕ) where
+  pub inherits-none : q ≡ 0 → 0 ≡ inherits q l f
+  unfolding inherits
+  inherits-none e = rw e refl
+
+  pub inherits-some : (q ≡ 0 → ⊥) → vectorAt l f ≡ inherits q l f
+  unfolding inherits
+  inherits-some h = go q h
+    where
+      go : (n : ℕ) → (n ≡ 0 → ⊥) → vectorAt l f ≡ inherits n l f
+      go zero h = absurd (h refl)
+      go (suc n) h = refl
+
+pub closed-is : (l : List ℕ) (q k f own n x v : ℕ) → n ≡ onesOver l q 0 16 → x ≡ firstOf k n → v ≡ inherits q l f
+    → set (set l (q * 19 + 16) x) (q * 19 + 18) (v + own) ≡ closed l q k f own
+closed-is l q k f own n x v en ex ev = ap₂ (λ (a b : ℕ). set (set l (q * 19 + 16) a) (q * 19 + 18) (b + own)) (ex ∙ ap (firstOf k) en) ev
+
 -- ---- the first state, over zeros
 
-module _ (ts : List Word) (s : ℕ) (zeros : List ℕ) (l : Lawful ts) (room : length (byLevel ts) ≤ s) (slots : s * 19 ≡ length zeros)
-    (blank : (j : ℕ) → getD zeros j 0 ≡ 0) (mask : ℕ) (all : mask + 1 ≡ 2 ^ length ts) where
-  some : 0 < s
-  some = omega (arith, room, placed-all ts l)
+pub begun-is : (tags : ℕ) (before zeros : List ℕ) (mask : ℕ) → 18 < length before → length zeros ≡ length before → ((j : ℕ) → getD zeros j 0 ≡ 0)
+    → mask + 1 ≡ 2 ^ tags → Begun tags (set zeros 18 mask) (length before)
+begun-is tags before zeros mask h long all e = record {
+  long = length-set zeros 18 mask ∙ long;
+  blank = λ j n. getD-set-other zeros 18 j mask 0 n ∙ all j;
+  mask = ap (λ (x : ℕ). x + 1) (getD-set-same zeros 18 mask 0 (omega (arith, h, long))) ∙ e;
+}
 
-  pub first-fits : 18 < length zeros
-  first-fits = omega (arith, some, slots)
+module _ {ts : List Word} (l : Lawful ts) {s : ℕ} (room : length (byLevel ts) ≤ s) {len : ℕ} (slots : s * 19 ≡ len) where
+  pub begin-fits : 18 < len
+  begin-fits = omega (arith, room, slots, placed-all ts l)
 
-  rest : (j : ℕ) → (j ≡ 18 → ⊥) → getD (set zeros 18 mask) j 0 ≡ 0
-  rest j n = getD-set-other zeros 18 j mask 0 n ∙ blank j
+  module _ {tags : ℕ} (many : length ts ≡ tags) {table : List ℕ} (b : Begun tags table len) where
+    root : Waiting ts table 0
+    unfolding numberAt
+    root = record {
+      depth = b .blank 0 (λ e. omega arith) ∙ sym (ap {B = ℕ} length (word-zero ts l));
+      bare = λ j a h. b .blank (0 * 19 + j) (λ e. omega arith);
+      fail = b .blank 17 (λ e. omega arith) ∙ sym (fails-first ts l);
+      mask = omega (arith, b .mask, through-root ts, ap (λ (w : Word). through ts w) (word-zero ts l), ap (λ (x : ℕ). 2 ^ x) many);
+    }
 
-  root : Waiting ts (set zeros 18 mask) 0
-  unfolding numberAt
-  root = record {
-    depth = rest 0 (λ e. omega arith) ∙ sym (ap {B = ℕ} length (word-zero ts l));
-    bare = λ j a b. rest (0 * 19 + j) (λ e. omega arith);
-    fail = rest 17 (λ e. omega arith) ∙ sym (fails-first ts l);
-    mask =
-        getD-set-same zeros 18 mask 0 first-fits
-        ∙ omega (arith, all, through-root ts, ap (λ (w : Word). through ts w) (word-zero ts l));
-  }
-
-  pub first-growing : Growing ts s (set zeros 18 mask) 0 1
-  unfolding below
-  first-growing = record {
-    lawful = l;
-    room = room;
-    slots = omega (arith, slots, length-set zeros 18 mask);
-    settled = record {
-      few = omega arith;
-      maps = λ q h. absurd (not-suc-le-zero h);
-      child = λ q h. absurd (not-suc-le-zero h);
-      fail = λ q h. absurd (not-suc-le-zero h);
-    };
-    marks = λ r h. absurd (not-suc-le-zero h);
-    waiting = λ r lo hi. let z : r ≡ 0 = omega arith in subst (Waiting ts (set zeros 18 mask)) (sym z) root;
-    counted = refl;
-    blank = λ j h. rest j (λ e. omega arith);
-  }
+    pub begun-growing : Growing ts s table 0 1
+    unfolding below
+    begun-growing = record {
+      lawful = l;
+      room = room;
+      slots = omega (arith, slots, b .long);
+      settled = record {
+        few = omega arith;
+        maps = λ q h. absurd (not-suc-le-zero h);
+        child = λ q h. absurd (not-suc-le-zero h);
+        fail = λ q h. absurd (not-suc-le-zero h);
+      };
+      marks = λ r h. absurd (not-suc-le-zero h);
+      waiting = λ r lo hi. let z : r ≡ 0 = omega arith in subst (Waiting ts table) (sym z) root;
+      counted = refl;
+      blank = λ j h. b .blank j (λ e. omega arith);
+    }
 
 -- ---- all states are settled
 
