@@ -16,7 +16,7 @@ use tagset::tag_bytes;
 
 mod counting;
 mod filling;
-mod planting;
+pub mod planting;
 mod words;
 
 // What a machine sees of a byte.

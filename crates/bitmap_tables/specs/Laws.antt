@@ -1,0 +1,3 @@
+-- The laws of building a bitmap table.
+pub mod Exact
+pub mod Left

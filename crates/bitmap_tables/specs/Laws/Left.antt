@@ -1,0 +1,71 @@
+-- What building a bitmap table leaves in the lent run.
+use Rattle.tables.specs.declared.Built.the-variants as B
+use Prim.Native.Nat.{_*_, _+_, _<_, _≤_, ℕ}
+use mathlib.Core.List.{List, _++_}
+use mathlib.Core.Path.{_∙_, _≡_, ap, refl, sym}
+use native.Mathlib.Nat.{div-mul-le-self}
+use native.Mathlib.Omega.{arith}
+use lib.ListN.{drop, getD, length, length-append, length-drop}
+use lib.Seq.{drop-at}
+use Rattle.matching.specs.Table.{Room, enoughSlots, shortOfSlots}
+use Rattle.matching.specs.Words.{Below, Word}
+use Rattle.tagset.specs.Grammar.{SetOf, badSet, goodSet, setOf}
+use Rattle.tagset.specs.Laws.Exact.{accepted-iff}
+use Rattle.tagset.specs.Laws.Places.{tags-accepted}
+use Rattle.tables.specs.Building.{builtNumber}
+use Rattle.bitmap.specs.Laws.Built.{built-length}
+use Rattle.bitmap.specs.Slots.{built, roomIn, slotsOf}
+use Rattle.bitmap_tables.specs.Building.{mapBuiltBy, mapBuiltOf, mapTableBy, mapTableOf, onMapSet, onMapSetTable, withMapTable}
+use Rattle.bitmap_tables.specs.Laws.Exact.{room-enough}
+use Rattle.bitmap_tables.specs.Refusals.{MapBuilds}
+
+-- the slots are there
+pub slots-fit : (len : ℕ) → slotsOf len * 19 ≤ len
+slots-fit len = omega arith
+
+pub map-table-length : (ts : List Word) (run : List ℕ) → length (withMapTable ts run) ≡ length run
+map-table-length ts run =
+    let s = slotsOf (length run) in
+    omega (arith, length-append (built s ts) (drop (s * 19) run), built-length s ts, length-drop (s * 19) run, slots-fit (length run))
+
+module _ (bytes run : List ℕ) where
+  -- refused: the run holds what it held
+  pub map-refused-kept : 0 < builtNumber (mapBuiltOf bytes (length run)) → mapTableOf bytes run ≡ run
+  unfolding mapBuiltOf mapTableOf
+  map-refused-kept h = go (setOf bytes) h
+    where
+      room : (ts : List Word) (r : Room) → 0 < builtNumber (mapBuiltBy ts r) → mapTableBy ts run r ≡ run
+      room ts enoughSlots i = absurd (omega arith)
+      room ts (shortOfSlots m needs) i = refl
+
+      go : (s : SetOf) → 0 < builtNumber (onMapSet (slotsOf (length run)) s) → onMapSetTable run s ≡ run
+      go (badSet fault) i = refl
+      go (goodSet ts) i = room ts (roomIn (slotsOf (length run)) ts) i
+
+  -- done: the table of the tags stands at its front
+  pub map-built-left : Below 256 bytes → {count : ℕ} (b : MapBuilds bytes (length run) count) → mapTableOf bytes run ≡ withMapTable (b .tags) run
+  unfolding mapTableOf
+  map-built-left small b =
+      rw (accepted-iff bytes (b .tags) .1 (b .set), room-enough (b .tags) (tags-accepted (b .set) .lawful small) (slotsOf (length run)) (b .enough))
+
+  either : (P : List ℕ → Type 0) → P run → ((ts : List Word) → P (withMapTable ts run)) → P (mapTableOf bytes run)
+  unfolding mapTableOf
+  either P kept made = go (setOf bytes)
+    where
+      room : (ts : List Word) (r : Room) → P (mapTableBy ts run r)
+      room ts enoughSlots = made ts
+      room ts (shortOfSlots m needs) = kept
+
+      go : (s : SetOf) → P (onMapSetTable run s)
+      go (badSet fault) = kept
+      go (goodSet ts) = room ts (roomIn (slotsOf (length run)) ts)
+
+  -- the run keeps its length
+  pub map-left-length : length (mapTableOf bytes run) ≡ length run
+  map-left-length = either (λ (l : List ℕ). length l ≡ length run) refl (λ ts. map-table-length ts run)
+
+  -- and the numbers behind the last slot
+  pub map-left-behind : drop (slotsOf (length run) * 19) (mapTableOf bytes run) ≡ drop (slotsOf (length run) * 19) run
+  map-left-behind =
+      either (λ (l : List ℕ). drop (slotsOf (length run) * 19) l ≡ drop (slotsOf (length run) * 19) run) refl
+      (λ ts. drop-at (built (slotsOf (length run)) ts) (drop (slotsOf (length run) * 19) run) (slotsOf (length run) * 19) (built-length (slotsOf (length run)) ts))
