@@ -175,7 +175,8 @@ impl Generator {
     fn needed(&self, layout: Layout) -> usize {
         match layout {
             Layout::Split => self.needed[0],
-            Layout::Whole => self.needed[1],
+            // As many states, in another order.
+            Layout::Whole | Layout::Bitmap => self.needed[1],
         }
     }
 

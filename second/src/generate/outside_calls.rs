@@ -167,13 +167,13 @@ impl Generator {
         let few = self.rng.between(1, 6);
         let state = self.rng.below(s.min(few));
         let byte = self.tags[0][0] as usize;
-        let any = self.rng.below(layout.nexts());
+        let any = self.rng.below(layout.before_vector());
         let column = self
             .rng
-            .one_of(&[byte % layout.nexts(), any, layout.nexts()]);
+            .one_of(&[byte % layout.before_vector(), any, layout.before_vector()]);
         let random = self.rng.below(65_536);
         let below_s = self.rng.below(s);
-        let value = match column == layout.nexts() {
+        let value = match column == layout.before_vector() {
             true => self.rng.one_of(&[0xffff, 0x8000, 0x7fff, 0xff00, random]),
             false => {
                 let choices = [s.saturating_sub(1), s, s + 1, 65_535, below_s, random];
@@ -206,6 +206,7 @@ fn name_of(layout: Layout) -> &'static str {
     match layout {
         Layout::Split => "split",
         Layout::Whole => "whole",
+        Layout::Bitmap => "bitmap",
     }
 }
 
