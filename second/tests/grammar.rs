@@ -195,7 +195,8 @@ fn calls_with_words_too_few_or_too_many() {
     ];
     for line in whole
         .iter()
-        .chain(&["feed 1 -", "peek 1 2", "build split", "set -"])
+        .chain(&["feed 1 -", "peek 1 2", "build split", "build bitmap"])
+        .chain(&["set -"])
     {
         assert!(parse(line.as_bytes()).is_some(), "{line}");
         let (fewer, _) = line.rsplit_once(' ').unwrap_or(("", ""));
@@ -241,6 +242,8 @@ fn reads() {
     assert_eq!(split, Some(read(Layout::Split, 2_048, place)));
     let whole = parse(b"read whole 5 0 65535 x");
     assert_eq!(whole, Some(read(Layout::Whole, 0, vec![65_535])));
+    let bitmap = parse(b"read bitmap 0005 0 007 \"\"");
+    assert_eq!(bitmap, Some(read(Layout::Bitmap, 0, vec![7])));
     let none = [
         "read whole 5 2049 0 -",
         "read whole 5 0 65536 -",
@@ -252,6 +255,15 @@ fn reads() {
         "read split 5 0 0 0 0 0 0 0 0 -",
         "read split 5 0 0 0 0 0 0 0 0 0 0 -",
         "read split 5 0 -",
+        "read bitmap 5 2049 0 -",
+        "read bitmap 5 0 65536 -",
+        "read bitmap 5 0 -",
+        "read bitmap 5 0 0 0 -",
+        "read bitmap 5 0 0 0 0 0 0 0 0 -",
+        "read bitmap 5 0 0",
+        "read bitmap 4294967296 0 0 -",
+        "read bitmaps 5 0 0 -",
+        "read Bitmap 5 0 0 -",
         "read",
     ];
     for line in none {
