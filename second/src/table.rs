@@ -184,7 +184,7 @@ impl<'a> Table<'a> {
     }
 
     /// By the map of the first state on the failure way that has the byte;
-    /// from state 0 it leads nowhere else. Each move goes down, so that the
+    /// where none has it, state 0 keeps it. Each move goes down, so that the
     /// way has an end whatever the numbers are.
     fn next_by_map(&self, mut state: u16, byte: u8) -> Option<Next> {
         let mut moves = 0;

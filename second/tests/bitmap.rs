@@ -243,6 +243,29 @@ fn a_next_number_not_below_s_is_damage() {
 }
 
 #[test]
+fn numbers_behind_513_slots_are_no_slot() {
+    // There is room for 600 slots, of which 513 are used.
+    let last = "taken 1 stop ALL records 0 moves 0 place 512|list 7 7";
+    check(&[
+        ("set \"a\"", "set 5"),
+        ("lend 11400", "lent 11400"),
+        ("poke 9746 5", "poked 9746"),
+        ("poke 9747 5", "poked 9747"),
+        ("build bitmap", "tags 1"),
+        ("peek 9746 2", "numbers 0 5"),
+        ("poke 16 512", "poked 16"),
+        (A, last),
+        ("poke 16 513", "poked 16"),
+        (A, DAMAGED),
+        (
+            "read bitmap 0 0 512 \"b\"",
+            "taken 1 stop ALL records 0 moves 1 place 0|list",
+        ),
+        ("read bitmap 0 0 513 \"b\"", "refused 15"),
+    ]);
+}
+
+#[test]
 fn the_ones_below_count_and_the_others_do_not() {
     check_a(&[
         // Bit 0 of number 6 is the byte before a.

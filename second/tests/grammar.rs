@@ -242,8 +242,6 @@ fn reads() {
     assert_eq!(split, Some(read(Layout::Split, 2_048, place)));
     let whole = parse(b"read whole 5 0 65535 x");
     assert_eq!(whole, Some(read(Layout::Whole, 0, vec![65_535])));
-    let bitmap = parse(b"read bitmap 0005 0 007 \"\"");
-    assert_eq!(bitmap, Some(read(Layout::Bitmap, 0, vec![7])));
     let none = [
         "read whole 5 2049 0 -",
         "read whole 5 0 65536 -",
@@ -255,16 +253,36 @@ fn reads() {
         "read split 5 0 0 0 0 0 0 0 0 -",
         "read split 5 0 0 0 0 0 0 0 0 0 0 -",
         "read split 5 0 -",
+        "read",
+    ];
+    for line in none {
+        assert_eq!(parse(line.as_bytes()), None, "{line}");
+    }
+}
+
+#[test]
+fn reads_in_the_bitmap_layout() {
+    let bitmap = Call::Read {
+        layout: Layout::Bitmap,
+        count: 5,
+        room: 2_048,
+        place: vec![65_535],
+        piece: vec![0x61],
+    };
+    let line = b"read bitmap 0005 2048 65535 \"a\"";
+    assert_eq!(parse(line), Some(bitmap));
+    let none = [
         "read bitmap 5 2049 0 -",
         "read bitmap 5 0 65536 -",
         "read bitmap 5 0 -",
         "read bitmap 5 0 0 0 -",
-        "read bitmap 5 0 0 0 0 0 0 0 0 -",
+        "read bitmap 5 0 0 0 0 0 0 0 0 0 -",
         "read bitmap 5 0 0",
+        "read bitmap 5 0 0 - -",
         "read bitmap 4294967296 0 0 -",
         "read bitmaps 5 0 0 -",
         "read Bitmap 5 0 0 -",
-        "read",
+        "read \"bitmap\" 5 0 0 -",
     ];
     for line in none {
         assert_eq!(parse(line.as_bytes()), None, "{line}");
