@@ -5,6 +5,7 @@
 //! Refusals 8 (EDITION) and 10 (SERIAL) can't be reached by a script: they
 //! need 4,294,967,295 replacements or openings.
 
+mod bitmap_calls;
 mod desk_calls;
 mod odd;
 mod outside_calls;
@@ -52,9 +53,14 @@ struct Generator {
     most: usize,
     /// The tags of the last good set, of which pieces are made.
     tags: Vec<Vec<u8>>,
-    /// The slots they need, split and whole.
+    /// The slots they need, split and whole (bitmap as many).
     needed: [usize; 2],
 }
+
+/// Lengths about the edges of one slot and of 513, in each layout.
+const LENGTHS: &[usize] = &[
+    0, 1, 18, 19, 20, 23, 24, 25, 256, 257, 258, 9_746, 9_747, 9_766, 12_311, 12_312, 12_336,
+];
 
 type Action = fn(&mut Generator);
 
@@ -75,6 +81,9 @@ const ACTIONS: &[(usize, Action)] = &[
     (4, Generator::build_and_read),
     (4, Generator::read_anywhere),
     (1, Generator::read_at_brink),
+    (1, Generator::bitmap_short),
+    (2, Generator::bitmap_damage),
+    (1, Generator::read_across),
     (3, Generator::peek),
     (5, Generator::odd_line),
     (1, Generator::silent_line),
@@ -175,7 +184,8 @@ impl Generator {
     fn needed(&self, layout: Layout) -> usize {
         match layout {
             Layout::Split => self.needed[0],
-            Layout::Whole => self.needed[1],
+            // As many states, in another order.
+            Layout::Whole | Layout::Bitmap => self.needed[1],
         }
     }
 
@@ -196,22 +206,24 @@ impl Generator {
     fn lend(&mut self) {
         let split = 24 * self.needed(Layout::Split);
         let whole = 257 * self.needed(Layout::Whole);
+        let bitmap = 19 * self.needed(Layout::Bitmap);
         let some = 24 * self.rng.between(0, split / 24);
         let any = self.rng.below(131_842);
-        let edges = [0, 1, 23, 24, 25, 256, 257, 258, 12_311, 12_312, 12_336];
-        let lent = match self.rng.below(8) {
-            0 => self.rng.one_of(&edges),
+        let lent = match self.rng.below(9) {
+            0 => self.rng.one_of(LENGTHS),
             1 => self.rng.one_of(&[131_583, 131_584, 131_840, 131_841]),
             2 => any,
             3 => some,
             4 => self.rng.one_of(&[whole, whole - 1, whole + 256]),
+            5 => self.rng.one_of(&[bitmap, bitmap - 1, bitmap + 18]),
             _ => self.rng.one_of(&[split, split - 1, split + 23, split - 24]),
         };
         self.say(&format!("lend {lent}"));
-        match self.rng.below(4) {
+        match self.rng.below(5) {
             0 => self.say("build split"),
             1 => self.say("build whole"),
-            2 => self.say("replace"),
+            2 => self.say("build bitmap"),
+            3 => self.say("replace"),
             _ => vec![],
         };
     }
@@ -243,8 +255,11 @@ impl Generator {
             }
         }
         for _ in 0..self.rng.between(1, 2) {
-            let calls = ["replace", "replace", "build split", "build whole"];
-            let call = self.rng.pick(&calls).unwrap_or("replace");
+            let builds = ["build split", "build whole", "build bitmap"];
+            let call = match self.rng.once_in(2) {
+                true => "replace",
+                false => self.rng.pick(&builds).unwrap_or("replace"),
+            };
             self.say(call);
         }
         if self.rng.once_in(2) {

@@ -4,6 +4,7 @@
 //! replay script, the third the comparison with another replay program, the
 //! fourth histories of a gate.
 
+pub mod bitmap;
 pub mod desk;
 pub mod machine;
 pub mod occurrences;

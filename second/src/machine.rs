@@ -63,7 +63,7 @@ pub fn bit_of(byte: u8, b: usize) -> u8 {
 }
 
 /// Bit i set exactly if tag i is a suffix of p.
-fn vector_of(p: &[u8], tags: &[Vec<u8>]) -> u16 {
+pub fn vector_of(p: &[u8], tags: &[Vec<u8>]) -> u16 {
     let mut vector = 0u16;
     for (i, tag) in tags.iter().enumerate() {
         if p.ends_with(tag) {

@@ -12,14 +12,22 @@ const NUMBERS: &[&str] = &[
     "2",
     "16",
     "17",
+    "18",
+    "19",
+    "20",
     "23",
     "24",
     "25",
     "256",
     "257",
+    "512",
+    "513",
     "2047",
     "2048",
     "2049",
+    "9746",
+    "9747",
+    "9748",
     "11496",
     "12312",
     "65535",
@@ -33,16 +41,20 @@ const NUMBERS: &[&str] = &[
     "00000000000000000001",
 ];
 
+/// The names of the layouts.
+const LAYOUTS: &[&str] = &["split", "whole", "bitmap"];
+
 /// The script with one to six changes; `other` is a script to take lines from.
 pub fn mutant(rng: &mut Rng, script: &[u8], other: &[u8]) -> Vec<u8> {
     let mut lines = lines_of(script);
     for _ in 0..rng.between(1, 6) {
-        match rng.below(9) {
+        match rng.below(10) {
             0 => spliced(rng, &mut lines, &lines_of(other)),
             1 => doubled(rng, &mut lines),
             2 => swapped(rng, &mut lines),
             3 => dropped(rng, &mut lines),
             4 => joined(rng, &mut lines),
+            5 => laid_out_anew(rng, &mut lines),
             _ => changed_line(rng, &mut lines, other),
         }
     }
@@ -94,6 +106,19 @@ fn joined(rng: &mut Rng, lines: &mut Vec<Vec<u8>>) {
         let next = lines.remove(at + 1);
         lines[at].extend(next);
     }
+}
+
+/// A building or a reading goes in any layout: over the same numbers, and for a
+/// reading of one place from the same place.
+fn laid_out_anew(rng: &mut Rng, lines: &mut [Vec<u8>]) {
+    let has_one = |line: &Vec<u8>| line.starts_with(b"build ") || line.starts_with(b"read ");
+    let at: Vec<usize> = (0..lines.len()).filter(|at| has_one(&lines[*at])).collect();
+    let Some(at) = rng.pick(&at) else {
+        return;
+    };
+    let mut words: Vec<&[u8]> = lines[at].split(|byte| *byte == b' ').collect();
+    words[1] = rng.pick(LAYOUTS).unwrap_or("split").as_bytes();
+    lines[at] = words.join(&b' ');
 }
 
 fn changed_line(rng: &mut Rng, lines: &mut [Vec<u8>], other: &[u8]) {

@@ -32,6 +32,9 @@ pub struct Reading {
     pub stop: Stop,
     /// The number of records written.
     pub records: usize,
+    /// The failure moves of the bytes taken; only over a bitmap table are
+    /// there any.
+    pub moves: u64,
 }
 
 /// A read outside the desk: PLACE, then LONG, then the reading.
@@ -72,8 +75,9 @@ fn walk(table: Table, place: &[u16], count: u32, piece: &[u8], list: &mut [u32])
     let mut stop = Stop::All;
     let mut taken = 0usize;
     let mut records = 0usize;
+    let mut moves = 0u64;
     for byte in piece {
-        let Some(matches) = step(table, &place, *byte, &mut ahead) else {
+        let Some((matches, moves_here)) = step(table, &place, *byte, &mut ahead) else {
             stop = Stop::Damaged;
             break;
         };
@@ -82,6 +86,7 @@ fn walk(table: Table, place: &[u16], count: u32, piece: &[u8], list: &mut [u32])
             break;
         }
         taken += 1;
+        moves += moves_here;
         let end = count + taken as u32;
         // By tag number: each of the 16 bits, the least first. A bit at or
         // above the number of tags is reported as the numbers say.
@@ -98,16 +103,21 @@ fn walk(table: Table, place: &[u16], count: u32, piece: &[u8], list: &mut [u32])
         place,
         stop,
         records,
+        moves,
     }
 }
 
 /// One byte on: `ahead` becomes the place after it, and the answer is the AND
-/// of the vectors there; nothing where a next number read is not below s.
-fn step(table: Table, place: &[u16], byte: u8, ahead: &mut [u16]) -> Option<u16> {
+/// of the vectors there and the failure moves made; nothing where a number read
+/// is not below what it must be below.
+fn step(table: Table, place: &[u16], byte: u8, ahead: &mut [u16]) -> Option<(u16, u64)> {
     let mut matches = u16::MAX;
+    let mut moves = 0;
     for (machine, (state, new)) in place.iter().zip(ahead).enumerate() {
-        *new = table.next(machine, *state, byte)?;
-        matches &= table.vector(machine, *new)?;
+        let next = table.next(machine, *state, byte)?;
+        *new = next.state;
+        matches &= table.vector(machine, next.state)?;
+        moves += next.moves;
     }
-    Some(matches)
+    Some((matches, moves))
 }

@@ -4,6 +4,8 @@ use crate::desk::Edition;
 
 /// The machine number that TABLE names for the whole-byte machine.
 pub const WHOLE_BYTE_MACHINE: usize = 254;
+/// The one that it names for the bitmap machine.
+pub const BITMAP_MACHINE: usize = 253;
 
 /// One refusal, with the values returned with it.
 #[derive(Clone, Copy, Debug, PartialEq, Eq)]

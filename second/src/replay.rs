@@ -53,6 +53,11 @@ impl Replay {
         self.lent
     }
 
+    /// The lent numbers.
+    pub fn lent_table(&self) -> &[u16] {
+        &self.table[..self.lent]
+    }
+
     /// Makes the call of one line (without its end); gives the answer's lines.
     ///
     /// A line that is too long is no call even where it begins with `#`
@@ -179,8 +184,12 @@ impl Replay {
         let reading = read_outside(table, place, count, piece, &mut list)?;
         let (taken, stop) = (reading.taken, reading.stop.name());
         let (records, place) = (reading.records, numbers("place", &reading.place));
+        let moves = match layout {
+            Layout::Bitmap => format!(" moves {}", reading.moves),
+            Layout::Split | Layout::Whole => String::new(),
+        };
         Ok(vec![
-            format!("taken {taken} stop {stop} records {records} {place}"),
+            format!("taken {taken} stop {stop} records {records}{moves} {place}"),
             numbers("list", &list),
         ])
     }

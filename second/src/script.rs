@@ -166,6 +166,7 @@ fn layout(word: Word) -> Option<Layout> {
     match word {
         Word::Plain(b"split") => Some(Layout::Split),
         Word::Plain(b"whole") => Some(Layout::Whole),
+        Word::Plain(b"bitmap") => Some(Layout::Bitmap),
         _ => None,
     }
 }

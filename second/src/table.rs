@@ -1,19 +1,23 @@
 //! The tables: docs/RULES.md, 3.
 
+use crate::bitmap;
 use crate::machine::{bit_of, Machine};
-use crate::refusal::{Refusal, WHOLE_BYTE_MACHINE};
+use crate::refusal::{Refusal, BITMAP_MACHINE, WHOLE_BYTE_MACHINE};
 use crate::set::{read_set, TagSet};
 
-/// s is at most 513 in either layout.
+/// s is at most 513 in every layout.
 pub const MOST_SLOTS: usize = 513;
 
-/// The two layouts of a lent run of 16-bit numbers.
+/// The layouts of a lent run of 16-bit numbers.
 #[derive(Clone, Copy, Debug, PartialEq, Eq)]
 pub enum Layout {
     /// Machines 0 to 7, each with s slots of next on 0, next on 1, vector.
     Split,
     /// One machine with s slots of 256 nexts, then the vector.
     Whole,
+    /// One machine with s slots of 16 numbers of map, the first child, the
+    /// failure state, then the vector.
+    Bitmap,
 }
 
 impl Layout {
@@ -21,34 +25,27 @@ impl Layout {
     pub fn machines(self) -> usize {
         match self {
             Layout::Split => 8,
-            Layout::Whole => 1,
+            Layout::Whole | Layout::Bitmap => 1,
         }
     }
 
-    /// How many nexts a slot has; the vector follows them.
-    pub fn nexts(self) -> usize {
+    /// How many numbers of a slot stand before its vector, which is the last.
+    pub fn before_vector(self) -> usize {
         match self {
             Layout::Split => 2,
             Layout::Whole => 256,
+            Layout::Bitmap => bitmap::VECTOR,
         }
     }
 
     /// How many numbers a slot has.
     pub fn slot_length(self) -> usize {
-        self.nexts() + 1
+        self.before_vector() + 1
     }
 
-    /// s: the length divided by 24 (or 257), rounded down, at most 513.
+    /// s: the length divided by 24 (or 257, or 19), rounded down, at most 513.
     pub fn slots(self, length: usize) -> usize {
         (length / (self.machines() * self.slot_length())).min(MOST_SLOTS)
-    }
-
-    /// Which of the nexts a byte leads to in a machine.
-    fn symbol(self, machine: usize, byte: u8) -> usize {
-        match self {
-            Layout::Split => usize::from(bit_of(byte, machine)),
-            Layout::Whole => usize::from(byte),
-        }
     }
 
     /// Where the slot of a state begins in a table of s slots a machine.
@@ -56,20 +53,41 @@ impl Layout {
         (machine * s + state) * self.slot_length()
     }
 
-    /// The layout's machines of a set.
-    fn machines_of(self, set: &TagSet) -> Vec<Machine> {
+    /// The slots of the layout's machines of a set.
+    fn machines_of(self, set: &TagSet) -> Vec<Slots> {
         match self {
-            Layout::Split => (0..8).map(|b| Machine::bit(set, b)).collect(),
-            Layout::Whole => vec![Machine::whole_byte(set)],
+            Layout::Split => (0..8).map(|b| slots_of(&Machine::bit(set, b))).collect(),
+            Layout::Whole => vec![slots_of(&Machine::whole_byte(set))],
+            Layout::Bitmap => vec![bitmap::slots(set)],
         }
     }
+
+    /// The number by which TABLE names a machine.
+    fn name_of(self, machine: usize) -> usize {
+        match self {
+            Layout::Split => machine,
+            Layout::Whole => WHOLE_BYTE_MACHINE,
+            Layout::Bitmap => BITMAP_MACHINE,
+        }
+    }
+}
+
+/// The numbers of a machine's slots, a slot for each state.
+type Slots = Vec<Vec<u16>>;
+
+/// A slot of a machine of next states is these, then the vector.
+fn slots_of(machine: &Machine) -> Slots {
+    let slots = machine.slots();
+    slots
+        .map(|(next, vector)| [next, &[vector]].concat())
+        .collect()
 }
 
 /// What a building would write: every question that refuses is answered, and
 /// nothing is written yet.
 pub struct Plan {
     layout: Layout,
-    machines: Vec<Machine>,
+    machines: Vec<Slots>,
     tags: usize,
 }
 
@@ -80,14 +98,10 @@ impl Plan {
         let s = layout.slots(table_length);
         let machines = layout.machines_of(&set);
         for (number, machine) in machines.iter().enumerate() {
-            if machine.states() > s {
-                let machine_named = match layout {
-                    Layout::Split => number,
-                    Layout::Whole => WHOLE_BYTE_MACHINE,
-                };
+            if machine.len() > s {
                 return Err(Refusal::Table {
-                    machine: machine_named,
-                    states: machine.states(),
+                    machine: layout.name_of(number),
+                    states: machine.len(),
                 });
             }
         }
@@ -111,11 +125,9 @@ impl Plan {
         let (slots, _beyond) = table.split_at_mut(self.layout.slot_at(s, self.machines.len(), 0));
         slots.fill(0);
         for (number, machine) in self.machines.iter().enumerate() {
-            for (state, (next, vector)) in machine.slots().enumerate() {
+            for (state, slot) in machine.iter().enumerate() {
                 let at = self.layout.slot_at(s, number, state);
-                let slot = &mut slots[at..at + self.layout.slot_length()];
-                slot[..next.len()].copy_from_slice(next);
-                slot[next.len()] = vector;
+                slots[at..at + slot.len()].copy_from_slice(slot);
             }
         }
     }
@@ -126,6 +138,14 @@ pub fn build(layout: Layout, set: &[u8], table: &mut [u16]) -> Result<usize, Ref
     let plan = Plan::new(layout, set, table.len())?;
     plan.write(table);
     Ok(plan.tags())
+}
+
+/// Where a byte leads.
+#[derive(Clone, Copy, Debug, PartialEq, Eq)]
+pub struct Next {
+    pub state: u16,
+    /// The failure moves made on the way; only a bitmap table has any.
+    pub moves: u64,
 }
 
 /// A lent table of any origin, to be walked exactly as its numbers say.
@@ -147,21 +167,56 @@ impl<'a> Table<'a> {
         usize::from(state) < self.s
     }
 
-    /// The next number read in a machine, or nothing where it isn't below s.
-    pub fn next(&self, machine: usize, state: u16, byte: u8) -> Option<u16> {
-        let symbol = self.layout.symbol(machine, byte);
-        let next = self.number(machine, state, symbol)?;
-        self.has(next).then_some(next)
+    /// Where a byte leads in a machine, or nothing where a number read on the
+    /// way isn't below what it must be below.
+    pub fn next(&self, machine: usize, state: u16, byte: u8) -> Option<Next> {
+        match self.layout {
+            Layout::Split => self.next_at(machine, state, bit_of(byte, machine)),
+            Layout::Whole => self.next_at(machine, state, byte),
+            Layout::Bitmap => self.next_by_map(state, byte),
+        }
+    }
+
+    /// The next number that stands in a slot for a byte or a bit.
+    fn next_at(&self, machine: usize, state: u16, symbol: u8) -> Option<Next> {
+        let state = self.slot(machine, state)?[usize::from(symbol)];
+        self.has(state).then_some(Next { state, moves: 0 })
+    }
+
+    /// By the map of the first state on the failure way that has the byte;
+    /// where none has it, state 0 keeps it. Each move goes down, so that the
+    /// way has an end whatever the numbers are.
+    fn next_by_map(&self, mut state: u16, byte: u8) -> Option<Next> {
+        let mut moves = 0;
+        loop {
+            let slot = self.slot(0, state)?;
+            if bitmap::has(slot, byte) {
+                // Not in 16 bits, for the sum may pass what they hold.
+                let first = usize::from(slot[bitmap::FIRST_CHILD]);
+                let next = first + bitmap::ones_below(slot, byte);
+                let state = u16::try_from(next).ok().filter(|next| self.has(*next))?;
+                return Some(Next { state, moves });
+            }
+            if state == 0 {
+                return Some(Next { state, moves });
+            }
+            let failure = slot[bitmap::FAILURE];
+            if failure >= state {
+                return None;
+            }
+            state = failure;
+            moves += 1;
+        }
     }
 
     /// The vector of a state.
     pub fn vector(&self, machine: usize, state: u16) -> Option<u16> {
-        self.number(machine, state, self.layout.nexts())
+        self.slot(machine, state)?.last().copied()
     }
 
-    /// One number of a slot; always there for a state below s.
-    fn number(&self, machine: usize, state: u16, column: usize) -> Option<u16> {
+    /// The numbers of a slot; always there for a state below s.
+    fn slot(&self, machine: usize, state: u16) -> Option<&'a [u16]> {
         let at = self.layout.slot_at(self.s, machine, usize::from(state));
-        self.numbers.get(at + column).copied()
+        self.numbers.get(at..at + self.layout.slot_length())
     }
 }

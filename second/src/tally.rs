@@ -21,9 +21,12 @@ impl Tally {
         self.seen(&format!("refused {number}"))
     }
 
-    /// How often this reason for stopping was seen, in feeds and reads.
+    /// How often this reason for stopping was seen, in feeds and reads, with
+    /// moves told or not.
     pub fn stopped(&self, stop: Stop) -> u64 {
-        self.seen(&format!("stop {}", stop.name()))
+        let kind = format!("stop {}", stop.name());
+        let told = ["", " still", " moved"].map(|moves| self.seen(&format!("{kind}{moves}")));
+        told.iter().sum()
     }
 
     /// How many lines were no call.
@@ -36,13 +39,15 @@ impl Tally {
     }
 }
 
-/// The refusal's number, the reason for stopping, a ticket's state, or the first
-/// word.
+/// The refusal's number, the reason for stopping (and of a bitmap reading
+/// whether it made failure moves), a ticket's state, or the first word.
 pub fn kind_of(answer: &str) -> String {
-    let words: Vec<&str> = answer.split(' ').take(4).collect();
+    let words: Vec<&str> = answer.split(' ').take(8).collect();
     match words[..] {
         ["refused", number, ..] => format!("refused {number}"),
-        ["taken", _, "stop", why] => format!("stop {why}"),
+        ["taken", _, "stop", why, _, _, "moves", "0"] => format!("stop {why} still"),
+        ["taken", _, "stop", why, _, _, "moves", _] => format!("stop {why} moved"),
+        ["taken", _, "stop", why, ..] => format!("stop {why}"),
         ["state", _, state, ..] => format!("state {state}"),
         ["line", ..] => "not a call".to_string(),
         [word, ..] => word.to_string(),

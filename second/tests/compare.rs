@@ -118,6 +118,8 @@ fn other_faults_are_found() {
         "s/^refused 15$/refused 14/",
         "s/^list$/list /",
         "s/254/8/",
+        "s/^refused 7 253 /refused 7 254 /",
+        "s/ moves 1 / moves 0 /",
     ] {
         let program = broken(&folder, sed);
         let (code, said) = compare(&folder, &program, &["--scripts", "20"]);

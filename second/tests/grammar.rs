@@ -195,7 +195,8 @@ fn calls_with_words_too_few_or_too_many() {
     ];
     for line in whole
         .iter()
-        .chain(&["feed 1 -", "peek 1 2", "build split", "set -"])
+        .chain(&["feed 1 -", "peek 1 2", "build split", "build bitmap"])
+        .chain(&["set -"])
     {
         assert!(parse(line.as_bytes()).is_some(), "{line}");
         let (fewer, _) = line.rsplit_once(' ').unwrap_or(("", ""));
@@ -253,6 +254,35 @@ fn reads() {
         "read split 5 0 0 0 0 0 0 0 0 0 0 -",
         "read split 5 0 -",
         "read",
+    ];
+    for line in none {
+        assert_eq!(parse(line.as_bytes()), None, "{line}");
+    }
+}
+
+#[test]
+fn reads_in_the_bitmap_layout() {
+    let bitmap = Call::Read {
+        layout: Layout::Bitmap,
+        count: 5,
+        room: 2_048,
+        place: vec![65_535],
+        piece: vec![0x61],
+    };
+    let line = b"read bitmap 0005 2048 65535 \"a\"";
+    assert_eq!(parse(line), Some(bitmap));
+    let none = [
+        "read bitmap 5 2049 0 -",
+        "read bitmap 5 0 65536 -",
+        "read bitmap 5 0 -",
+        "read bitmap 5 0 0 0 -",
+        "read bitmap 5 0 0 0 0 0 0 0 0 0 -",
+        "read bitmap 5 0 0",
+        "read bitmap 5 0 0 - -",
+        "read bitmap 4294967296 0 0 -",
+        "read bitmaps 5 0 0 -",
+        "read Bitmap 5 0 0 -",
+        "read \"bitmap\" 5 0 0 -",
     ];
     for line in none {
         assert_eq!(parse(line.as_bytes()), None, "{line}");

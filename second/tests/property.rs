@@ -1,6 +1,9 @@
 //! Readings over built tables are the occurrences, for random sets over small
 //! alphabets, random cuts and room limits.
 
+mod helpers;
+
+use helpers::random::*;
 use second::desk::{Desk, Record, Serial, MOST_RECORDS};
 use second::machine::{bit_of, Machine};
 use second::occurrences::occurrences;
@@ -9,38 +12,6 @@ use second::replay::Replay;
 use second::rng::Rng;
 use second::set::{read_set, write_set};
 use second::table::{build, Layout, Table};
-
-/// Letters that differ in few bits.
-const LETTERS: [u8; 3] = [0x61, 0x63, 0xe1];
-
-fn random_bytes(rng: &mut Rng, letters: usize, length: usize) -> Vec<u8> {
-    (0..length).map(|_| LETTERS[rng.below(letters)]).collect()
-}
-
-/// Distinct tags over an alphabet of so many letters.
-fn random_tags(rng: &mut Rng, letters: usize) -> Vec<Vec<u8>> {
-    let mut tags: Vec<Vec<u8>> = Vec::new();
-    for _ in 0..rng.between(1, 16) {
-        let longest = rng.one_of(&[2, 4, 8, 32]);
-        let length = rng.between(1, longest);
-        let tag = random_bytes(rng, letters, length);
-        if !tags.contains(&tag) {
-            tags.push(tag);
-        }
-    }
-    tags
-}
-
-/// Bytes in which whole tags stand among random letters.
-fn random_input(rng: &mut Rng, letters: usize, tags: &[Vec<u8>]) -> Vec<u8> {
-    let mut input = Vec::new();
-    for _ in 0..rng.between(1, 12) {
-        input.extend(rng.pick(tags).unwrap_or_default());
-        let length = rng.below(4);
-        input.extend(random_bytes(rng, letters, length));
-    }
-    input
-}
 
 /// A built table, its tags, and the input read over it.
 struct Case {
@@ -119,6 +90,11 @@ fn split_readings_are_the_occurrences() {
 #[test]
 fn whole_byte_readings_are_the_occurrences() {
     check_layout(Layout::Whole, 150);
+}
+
+#[test]
+fn bitmap_readings_are_the_occurrences() {
+    check_layout(Layout::Bitmap, 300);
 }
 
 /// The next state by the words of the definition and nothing else.
@@ -207,7 +183,7 @@ fn desk_records_are_the_occurrences() {
 /// Lines of random pieces of calls: each is answered, and none does harm.
 #[test]
 fn any_line_is_answered() {
-    let parts: [&[u8]; 20] = [
+    let parts: [&[u8]; 21] = [
         b" ",
         b" ",
         b" ",
@@ -216,6 +192,7 @@ fn any_line_is_answered() {
         b"read",
         b"split",
         b"whole",
+        b"bitmap",
         b"peek",
         b"poke",
         b"lend",

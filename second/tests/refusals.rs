@@ -101,6 +101,7 @@ fn empty_5() {
         ("replace", "refused 5 0"),
         ("build split", "refused 5 0"),
         ("build whole", "refused 5 0"),
+        ("build bitmap", "refused 5 0"),
         ("set \"\"", "set 4"),
         ("replace", "refused 4 0"),
     ]);
@@ -141,6 +142,7 @@ fn check_table(layout: Layout, tags: &[&str], slots: usize, machine: u64) {
 fn table_7() {
     check_table(Layout::Split, &HERS, 10, 3);
     check_table(Layout::Whole, &HERS, 10, 254);
+    check_table(Layout::Bitmap, &HERS, 10, 253);
     check_table(Layout::Split, &["a"], 2, 0);
     check(&[
         ("set \"he\" \"she\" \"his\" \"hers\"", "set 28"),

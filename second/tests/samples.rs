@@ -3,6 +3,7 @@
 mod helpers;
 
 use helpers::*;
+use second::bitmap;
 use second::machine::Machine;
 use second::reading::Stop;
 use second::set::{read_set, write_set};
@@ -62,7 +63,7 @@ fn sample_6_overlapping_ends() {
 
 #[test]
 fn sample_7_an_empty_piece() {
-    for layout in [Layout::Split, Layout::Whole] {
+    for layout in LAYOUTS {
         let table = table_of(layout, &HERS, 10);
         let (reading, records) = read_from_start(layout, &table, b"");
         assert_eq!((reading.taken, reading.stop), (0, Stop::All));
@@ -201,6 +202,26 @@ fn sample_14_a_closed_serial() {
         ("take", "record 17 1 2 0"),
     ]);
     check(&calls);
+}
+
+#[test]
+fn sample_15_bitmap_machine() {
+    let set = read_set(&write_set(&HERS)).expect("a good set");
+    let states = ["", "h", "s", "he", "hi", "sh", "her", "his", "she", "hers"];
+    assert_eq!(bitmap::prefixes(&set), states.map(str::as_bytes));
+    let table = table_of(Layout::Bitmap, &HERS, 10);
+    let paths: [(&[u8], &[u16]); 2] = [
+        (b"hxhe", &[0, 1, 0, 1, 3]),
+        (b"ushers", &[0, 0, 2, 5, 8, 6, 9]),
+    ];
+    for (input, path) in paths {
+        for (n, state) in path.iter().enumerate() {
+            let (reading, _) = read_from_start(Layout::Bitmap, &table, &input[..n]);
+            assert_eq!((reading.taken, reading.place), (n, vec![*state]));
+        }
+        let (reading, _) = read_from_start(Layout::Bitmap, &table, input);
+        assert_eq!(reading.moves, 1);
+    }
 }
 
 #[test]

@@ -7,10 +7,11 @@ use crate::table::Layout;
 const LARGEST: u64 = 4_294_967_295;
 
 impl Generator {
-    fn layout(&mut self) -> Layout {
-        match self.rng.once_in(2) {
-            true => Layout::Split,
-            false => Layout::Whole,
+    pub(super) fn layout(&mut self) -> Layout {
+        match self.rng.below(3) {
+            0 => Layout::Split,
+            1 => Layout::Whole,
+            _ => Layout::Bitmap,
         }
     }
 
@@ -26,7 +27,7 @@ impl Generator {
 
     /// A count of bytes already taken: small, or at the very edge of LONG for
     /// a piece of this length.
-    fn count(&mut self, length: usize) -> u64 {
+    pub(super) fn count(&mut self, length: usize) -> u64 {
         let edge = LARGEST - length as u64;
         match self.rng.below(8) {
             0 => edge,
@@ -38,7 +39,13 @@ impl Generator {
         }
     }
 
-    fn read(&mut self, layout: Layout, count: u64, place: &[usize], piece: &[u8]) -> Vec<String> {
+    pub(super) fn read(
+        &mut self,
+        layout: Layout,
+        count: u64,
+        place: &[usize],
+        piece: &[u8],
+    ) -> Vec<String> {
         let room = self.room();
         self.read_into(room, layout, count, place, piece)
     }
@@ -75,7 +82,7 @@ impl Generator {
         }
         self.say(&format!("build {}", name_of(layout)));
         if self.rng.once_in(3) {
-            self.peek();
+            self.peek_at(layout);
         }
         let length = self.rng.between(1, 120);
         let run = pieces::of_length(&mut self.rng, &self.tags, length);
@@ -140,7 +147,10 @@ impl Generator {
         let layout = self.layout();
         let s = layout.slots(self.replay.lent());
         for _ in 0..self.rng.between(1, 4) {
-            self.poke(layout, s);
+            match layout {
+                Layout::Bitmap => self.poke_bitmap(s),
+                Layout::Split | Layout::Whole => self.poke(layout, s),
+            }
         }
         for _ in 0..self.rng.between(1, 3) {
             match (layout, self.rng.below(3)) {
@@ -167,13 +177,13 @@ impl Generator {
         let few = self.rng.between(1, 6);
         let state = self.rng.below(s.min(few));
         let byte = self.tags[0][0] as usize;
-        let any = self.rng.below(layout.nexts());
+        let any = self.rng.below(layout.before_vector());
         let column = self
             .rng
-            .one_of(&[byte % layout.nexts(), any, layout.nexts()]);
+            .one_of(&[byte % layout.before_vector(), any, layout.before_vector()]);
         let random = self.rng.below(65_536);
         let below_s = self.rng.below(s);
-        let value = match column == layout.nexts() {
+        let value = match column == layout.before_vector() {
             true => self.rng.one_of(&[0xffff, 0x8000, 0x7fff, 0xff00, random]),
             false => {
                 let choices = [s.saturating_sub(1), s, s + 1, 65_535, below_s, random];
@@ -185,11 +195,15 @@ impl Generator {
         self.say(&format!("poke {at} {value}"));
     }
 
+    pub(super) fn peek(&mut self) {
+        let layout = self.layout();
+        self.peek_at(layout);
+    }
+
     /// Shows some of the table: slots that are likely used, the end of the lent
     /// run, anywhere.
-    pub(super) fn peek(&mut self) {
+    pub(super) fn peek_at(&mut self, layout: Layout) {
         let lent = self.replay.lent();
-        let layout = self.layout();
         let machine = self.rng.below(layout.machines());
         let state = self.rng.below(self.needed(layout));
         let used = layout.slot_at(layout.slots(lent), machine, state);
@@ -202,10 +216,11 @@ impl Generator {
     }
 }
 
-fn name_of(layout: Layout) -> &'static str {
+pub(super) fn name_of(layout: Layout) -> &'static str {
     match layout {
         Layout::Split => "split",
         Layout::Whole => "whole",
+        Layout::Bitmap => "bitmap",
     }
 }
 

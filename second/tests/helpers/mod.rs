@@ -1,6 +1,8 @@
 //! What several tests share.
 #![allow(dead_code)]
 
+pub mod random;
+
 use second::reading::{read_outside, Reading, Stop};
 use second::replay::{run, Replay};
 use second::set::write_set;
@@ -44,15 +46,19 @@ pub fn read_from_start(layout: Layout, table: &[u16], input: &[u8]) -> (Reading,
     (reading, records)
 }
 
-/// The records of an input that is taken whole, the same in both layouts.
+/// Every layout.
+pub const LAYOUTS: [Layout; 3] = [Layout::Split, Layout::Whole, Layout::Bitmap];
+
+/// The records of an input that is taken whole, the same in every layout.
 pub fn records_of(tags: &[&str], input: &str) -> Vec<(u32, u32)> {
-    let mut both = Vec::new();
-    for layout in [Layout::Split, Layout::Whole] {
+    let mut every = Vec::new();
+    for layout in LAYOUTS {
         let table = table_of(layout, tags, 513);
         let (reading, records) = read_from_start(layout, &table, input.as_bytes());
         assert_eq!((reading.taken, reading.stop), (input.len(), Stop::All));
-        both.push(records);
+        every.push(records);
     }
-    assert_eq!(both[0], both[1]);
-    both.remove(0)
+    every.dedup();
+    assert_eq!(every.len(), 1);
+    every.remove(0)
 }
