@@ -1,0 +1,2 @@
+-- How the theorems are shown.
+pub mod Rows

@@ -1,0 +1,4 @@
+-- Readings one after another over a bitmap table, and that they are those of the whole-byte machine.
+pub mod Readings
+pub mod Laws
+pub mod AsWhole

@@ -1,0 +1,1 @@
+// Theorems alone: over built tables the bitmap machine reads as the whole-byte machine does.
