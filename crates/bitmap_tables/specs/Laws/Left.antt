@@ -38,7 +38,7 @@ module _ (bytes run : List ℕ) where
       room ts enoughSlots i = absurd (omega arith)
       room ts (shortOfSlots m needs) i = refl
 
-      go : (s : SetOf) → 0 < builtNumber (onMapSet (slotsOf (length run)) s) → onMapSetTable run s ≡ run
+      go : (s : SetOf) → 0 < builtNumber (onMapSet (length run) s) → onMapSetTable run s ≡ run
       go (badSet fault) i = refl
       go (goodSet ts) i = room ts (roomIn (slotsOf (length run)) ts) i
 
