@@ -2,7 +2,7 @@
 use Rattle.tables.specs.declared.Built.the-variants as B
 use Prim.Native.Nat.{_*_, _<_, _≤_, ℕ}
 use mathlib.Core.List.{List, _++_}
-use mathlib.Core.Path.{_∙_, _≡_, ap, ap₂, subst, sym}
+use mathlib.Core.Path.{_∙_, _≡_, ap, subst, sym}
 use native.Mathlib.Omega.{arith}
 use lib.ListN.{drop, length, take}
 use lib.Seq.{length-take-le}

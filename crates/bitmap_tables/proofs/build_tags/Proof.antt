@@ -1,73 +1,76 @@
-use native.Mathlib.Omega.{arith}
+-- `bitmap_tables::build_tags` meets its contract.
 use Rattle.bitmap_tables.proofs.Answers.{done-answer, done-table, short-answer, short-table, slots-lent, states-are}
 use borrow.Author.Needs.{needs}
 use Rattle.bitmap_tables.proofs.build_tags.Statement.{statement}
 use Rattle.bitmap_tables.proofs.build_tags.Tie as tie
-use Rattle.bitmap_tables.proofs.build_tags.Reads as reads
-use Rattle.bitmap_tables.proofs.build_tags.Lts as lts
-use Rattle.bitmap.proofs.map_slots.Reads as map-slots-reads
-use Rattle.bitmap_growing.proofs.make_bitmap.Reads as make-bitmap-reads
-use Rattle.machines.proofs.count_states.Reads as count-states-reads
 
--- src/lib.rt:27:9
 map-slots-requires : tie.Need-map-slots-requires
 map-slots-requires c κs = search needs
 
--- src/lib.rt:28:9
 count-states-requires : tie.Need-count-states-requires
 count-states-requires c κs = search needs
 
--- src/lib.rt:30:9
 returns : tie.Need-returns
 returns c =
-    let p = c .before .before .before .before .before .before .before .pre in
-    let t = c .before .before .before .before .before .before .before .args .table .now in
-    let s = c .before .before .map-slots in
-    let n = c .before .count-states in
-    (short-answer (p .1) t (s .result) (s .ensures) (n .result) (n .ensures) (c .if1 .taken), short-table (p .1) t (s .result) (s .ensures) (n .result) (n .ensures) (c .if1 .taken))
+    let c1 = c .before in
+    let c2 = c1 .before in
+    let c7 = c2 .before .before .before .before .before in
+    let p = c7 .pre in
+    let t = c7 .args .table .now in
+    let s = c2 .map-slots in
+    let n = c1 .count-states in (
+      short-answer (p .1) t (s .result) (s .ensures) (n .result) (n .ensures) (c .if1 .taken),
+      short-table (p .1) t (s .result) (s .ensures) (n .result) (n .ensures) (c .if1 .taken),
+    )
 
--- src/lib.rt:32:15
 mul-end : tie.Need-mul-end
 mul-end c = search needs
 
--- src/lib.rt:33:32
 slice-relend-prefix-make-bitmap : tie.Need-slice-relend-prefix-make-bitmap
 slice-relend-prefix-make-bitmap c = search needs
 
--- src/lib.rt:33:32
 slice-aggregate-make-bitmap : tie.Need-slice-aggregate-make-bitmap
 slice-aggregate-make-bitmap c =
-    let s = c .before .before .before .map-slots in
-    let n = c .before .before .count-states in
-    slots-lent (c .before .before .before .before .before .before .before .before .pre .1) (c .before .before .before .before .before .before .before .before .args .table .now) (s .result) (s .ensures) (n .result) (n .ensures)
+    let c2 = c .before .before in
+    let c3 = c2 .before in
+    let c8 = c3 .before .before .before .before .before in
+    let s = c3 .map-slots in
+    let n = c2 .count-states in
+    slots-lent (c8 .pre .1) (c8 .args .table .now) (s .result) (s .ensures) (n .result) (n .ensures)
 
--- src/lib.rt:33:5
 make-bitmap-requires : tie.Need-make-bitmap-requires
 make-bitmap-requires c κs =
-    let p = c .before .before .before .before .before .before .before .before .pre in
-    let t = c .before .before .before .before .before .before .before .before .args .table .now in
-    let s = c .before .before .before .map-slots in
-    let n = c .before .before .count-states in (
+    let c1 = c .before in
+    let c2 = c1 .before in
+    let c3 = c2 .before in
+    let c8 = c3 .before .before .before .before .before in
+    let p = c8 .pre in
+    let t = c8 .args .table .now in
+    let s = c3 .map-slots in
+    let n = c2 .count-states in (
       p .0 .many,
       p .1,
       states-are (p .1) t (s .result) (s .ensures) (n .result) (n .ensures),
-      c .before .if1 .left,
+      c1 .if1 .left,
       slots-lent (p .1) t (s .result) (s .ensures) (n .result) (n .ensures),
     )
 
--- src/lib.rt:20:1
 same-length : tie.Need-same-length
 same-length c = search needs
 
--- src/lib.rt:20:1
 returns-2 : tie.Need-returns-2
 returns-2 c =
-    let p = c .before .before .before .before .before .before .before .before .before .before .before .pre in
-    let t = c .before .before .before .before .before .before .before .before .before .before .before .args .table .now in
-    let s = c .before .before .before .before .before .before .map-slots in
-    let n = c .before .before .before .before .before .count-states in (
-      done-answer (p .1) t (s .result) (s .ensures) (n .result) (n .ensures) (c .before .before .before .before .if1 .left) _ (p .0 .many),
-      done-table (p .1) t (s .result) (s .ensures) (n .result) (n .ensures) (c .before .before .before .before .if1 .left) _ (c .before .before .make-bitmap .ensures),
+    let c2 = c .before .before in
+    let c4 = c2 .before .before in
+    let c5 = c4 .before in
+    let c6 = c5 .before in
+    let c11 = c6 .before .before .before .before .before in
+    let p = c11 .pre in
+    let t = c11 .args .table .now in
+    let s = c6 .map-slots in
+    let n = c5 .count-states in (
+      done-answer (p .1) t (s .result) (s .ensures) (n .result) (n .ensures) (c4 .if1 .left) _ (p .0 .many),
+      done-table (p .1) t (s .result) (s .ensures) (n .result) (n .ensures) (c4 .if1 .left) _ (c2 .make-bitmap .ensures),
     )
 
 pub build-tags-spec : {M : Type 1} → statement M

@@ -12,7 +12,7 @@ use lib.ListN.{getD, length}
 use borrow.Author.Tests.{le-ltb, lt-ltb}
 use Rattle.matching.specs.Laws.Slices.{reduced-byte}
 use Rattle.matching.specs.Machine.{states}
-use Rattle.matching.specs.Table.{Room, enoughSlots, shortOfSlots}
+use Rattle.matching.specs.Table.{enoughSlots, shortOfSlots}
 use Rattle.matching.specs.Words.{Below, Lawful, Word}
 use Rattle.tagset.specs.Grammar.{SetOf, setOf}
 use Rattle.tagset.specs.Laws.Exact.{SetCase, accepted-iff, as-fault, isBad, isGood, numbered-as, refused-iff, set-case}
