@@ -26,14 +26,7 @@ fn begin(tags: usize, table: &mut [u16])
 }
 
 // The n states, each in its turn.
-fn grow(
-    letters: &[u8],
-    from: &[usize],
-    to: &[usize],
-    table: &mut [u16],
-    s: usize,
-    n: usize,
-)
+fn grow(letters: &[u8], from: &[usize], to: &[usize], table: &mut [u16], s: usize, n: usize)
     ghost { List Word }
     requires { λ ts. ⌜ cutAt (now letters) (now from) (now to) ≡ ts ⌝ }
     requires { λ ts. ⌜ (length ts ≡ length (now from)) × (n ≡ length (byLevel ts)) × (Growing ts s (now table) 0 1) ⌝ }

@@ -1,11 +1,11 @@
 // A state's turn: its map, its first child and its vector into its slot, and its children behind the states placed before.
+use super::sowing::sow;
 use bitmap::steps::number;
 use bitmap::steps::vector_of;
 use bitmap_maps::counting::children;
 use bitmap_maps::laying::lay_map;
 use bitmap_maps::own::own_tags;
 use passing::places::wide;
-use super::sowing::sow;
 ghost use mathlib.Core.Path.{_≡_};
 ghost use mathlib.Core.List.{List};
 ghost use Prim.Native.Nat.{_+_, _*_, _<_, _≤_};

@@ -40,16 +40,7 @@ fn place(table: &mut [u16], r: usize, d: usize, f: usize, u: usize)
 }
 
 // The child of state q on a byte, marked by tag u.
-fn sow_one(
-    table: &mut [u16],
-    s: usize,
-    q: usize,
-    f: usize,
-    d: usize,
-    k: usize,
-    c: u8,
-    u: usize,
-)
+fn sow_one(table: &mut [u16], s: usize, q: usize, f: usize, d: usize, k: usize, c: u8, u: usize)
     requires { ⌜ Sowable (now table) s q f d k c u ⌝ }
     ensures { λ _. ⌜ now (table .exit) ≡ sownBy (now (table .entry)) s q f d k c u ⌝ }
 {

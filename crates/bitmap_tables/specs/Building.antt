@@ -13,13 +13,17 @@ abbrev pub mapBuiltBy : List Word → Room → Built
 mapBuiltBy ts enoughSlots = B.Tags (length ts)
 mapBuiltBy ts (shortOfSlots machine needs) = B.Table machine needs
 
-abbrev pub onMapSet : ℕ → SetOf → Built
-onMapSet s (badSet fault) = B.Fault fault
-onMapSet s (goodSet ts) = mapBuiltBy ts (roomIn s ts)
+-- the answer for tags, over a run of so many numbers
+abbrev pub mapBuiltTags : List Word → ℕ → Built
+mapBuiltTags ts len = mapBuiltBy ts (roomIn (slotsOf len) ts)
 
--- the answer, for a run of so many numbers: set faults, then TABLE
+abbrev pub onMapSet : ℕ → SetOf → Built
+onMapSet len (badSet fault) = B.Fault fault
+onMapSet len (goodSet ts) = mapBuiltTags ts len
+
+-- the answer: set faults, then TABLE
 unfoldable pub mapBuiltOf : List ℕ → ℕ → Built
-mapBuiltOf bytes len = onMapSet (slotsOf len) (setOf bytes)
+mapBuiltOf bytes len = onMapSet len (setOf bytes)
 
 -- a run of numbers with the table of the tags at its front: the numbers beyond the last slot are unchanged
 abbrev pub withMapTable : List Word → List ℕ → List ℕ
@@ -29,9 +33,13 @@ abbrev pub mapTableBy : List Word → List ℕ → Room → List ℕ
 mapTableBy ts run enoughSlots = withMapTable ts run
 mapTableBy ts run (shortOfSlots machine needs) = run
 
+-- the run then, for tags
+abbrev pub mapTableTags : List Word → List ℕ → List ℕ
+mapTableTags ts run = mapTableBy ts run (roomIn (slotsOf (length run)) ts)
+
 abbrev pub onMapSetTable : List ℕ → SetOf → List ℕ
 onMapSetTable run (badSet fault) = run
-onMapSetTable run (goodSet ts) = mapTableBy ts run (roomIn (slotsOf (length run)) ts)
+onMapSetTable run (goodSet ts) = mapTableTags ts run
 
 -- the run after building: the table where it is accepted, what it was where it is refused
 unfoldable pub mapTableOf : List ℕ → List ℕ → List ℕ

@@ -28,7 +28,9 @@ module _ (ts : List Word) (l : Lawful ts) where
   -- any other state than the start's has a word that is not empty
   pub some-word : (q : ℕ) → q < length ps → 0 < q → (x : ℕ) × (w : Word) × (wordOf ts q ≡ x ∷ w)
   some-word q hq h =
-      nonempty (wordOf ts q) (λ z. omega (arith, h, sym (indexOf-getD ps q (level-tree ts l .distinct) hq) ∙ ap (λ (w : Word). indexOf w ps) z ∙ level-first ts l))
+      let first : wordOf ts q ≡ [] → q ≡ 0 =
+      λ z. sym (indexOf-getD ps q (level-tree ts l .distinct) hq) ∙ ap (λ (w : Word). indexOf w ps) z ∙ level-first ts l in
+      nonempty (wordOf ts q) (λ z. omega (arith, h, first z))
 
   -- it fails to a lower one
   pub fails-lower : (q : ℕ) → q < length ps → 0 < q → failure ps q < q

@@ -3,17 +3,19 @@ use Prim.Native.Nat.{_+_, _-_, _<_, _≤_, suc, zero, ℕ}
 use mathlib.Core.Bool.{Bool, cond, false, true}
 use mathlib.Core.List.{List, [], _++_, _∷_, append-assoc, append-nil, concat-ne-nil}
 use mathlib.Core.Logic.{_⊎_, inl, inr}
-use mathlib.Core.Path.{_∙_, _≡_, ap, ap₂, refl, subst, sym}
-use native.Mathlib.Nat.{add-zero, not-suc-le-zero, zero-add}
+use mathlib.Core.Path.{_∙_, _≡_, ap, refl, subst, sym}
+use native.Mathlib.Nat.{not-suc-le-zero, zero-add}
 use native.Mathlib.Omega.{arith}
 use lib.ListN.{List·getD-append, getD, length, length-append, take, drop}
-use lib.Seq.{getD-append-add, getD-take, length-take-le, take-all, take-suc, take-take}
+use lib.Seq.{getD-append-add, take-all, take-suc}
 use Rattle.matching.specs.Laws.Bools.{decided, is-false, not-both, or-false}
-use Rattle.matching.specs.Laws.Words.{Distinct, among-cases, among-getD, getD-indexOf, indexOf-append, indexOf-getD, indexOf-lt, indexOf-miss, ne-same, same-eq, snoc-inj}
+use Rattle.matching.specs.Laws.Words.{Distinct, among-cases, among-getD, getD-indexOf, indexOf-append, indexOf-getD, indexOf-lt, indexOf-miss}
+use Rattle.matching.specs.Laws.Words.{ne-same, same-eq, snoc-inj}
 use Rattle.matching.specs.Words.{Lawful, Word, among, beginsOne, indexOf, same}
 use Rattle.bitmap.specs.Laws.Built.{level-first}
 use Rattle.bitmap.specs.Laws.Children.{child-number, children-index, forward-goes, goes}
-use Rattle.bitmap.specs.Laws.Levels.{Child, Under, begins-byte, below-append, below-only, byLevel-distinct, byLevel-is, byLevel-order, children-byte, children-hit, children-miss, children-only, indexOf-after}
+use Rattle.bitmap.specs.Laws.Levels.{Child, Under, begins-byte, below-append, below-only, byLevel-distinct, byLevel-is, byLevel-order}
+use Rattle.bitmap.specs.Laws.Levels.{children-byte, children-only, indexOf-after}
 use Rattle.bitmap.specs.Laws.Maps.{tally-add, tally-same, tallyFrom}
 use Rattle.bitmap.specs.Levels.{below, byLevel, childrenFrom}
 use Rattle.bitmap.specs.Slots.{firstChild, forward}
@@ -50,14 +52,17 @@ unfolding firstChild tallyFrom
 first-empty ps p zero c h = refl
 first-empty ps p (suc n) c h = go (decided (forward ps p c)) (first-empty ps p n (suc c))
   where
-    go : (forward ps p c ≡ true) ⊎ (forward ps p c ≡ false) → (tallyFrom (forward ps p) (suc c) n ≡ 0 → firstChild ps p (suc c) n ≡ 0) → firstChild ps p c (suc n) ≡ 0
+    go : (forward ps p c ≡ true) ⊎ (forward ps p c ≡ false) → (tallyFrom (forward ps p) (suc c) n ≡ 0 → firstChild ps p (suc c) n ≡ 0)
+        → firstChild ps p c (suc n) ≡ 0
     go (inl e) ih = absurd (omega (arith, h, ap {B = ℕ} (λ (b : Bool). cond b 1 0) e))
     go (inr e) ih = rw (e, firstChild) (ih (omega (arith, h)))
 
 -- ---- children and the states placed
 
 module _ (ts : List Word) where
-  pub below-at : (ps : List Word) (q : ℕ) → q < length ps → below ts ps ≡ below ts (take q ps) ++ (childrenFrom ts (getD ps q []) 0 256 ++ below ts (drop (suc q) ps))
+  -- behind the level below the first q of ps, the children of the next
+  below-at : (ps : List Word) (q : ℕ) → q < length ps
+      → below ts ps ≡ below ts (take q ps) ++ (childrenFrom ts (getD ps q []) 0 256 ++ below ts (drop (suc q) ps))
   unfolding below
   below-at [] q h = absurd (not-suc-le-zero h)
   below-at (p ∷ ps) zero h = refl
@@ -138,7 +143,8 @@ module _ (ts : List Word) (l : Lawful ts) where
       new : among v (below ts (take q all)) ≡ false
       new = is-false (among v (below ts (take q all))) (λ a.
           let u = below-only ts (take q all) v a in
-          not-both (subst (λ (w : Word). among w (take q all) ≡ true) (snoc-inj (u .parent) p (u .byte) c (sym (u .is))) (u .among-is)) (before all q (byLevel-distinct ts (l .short)) hq))
+          not-both (subst (λ (w : Word). among w (take q all) ≡ true) (snoc-inj (u .parent) p (u .byte) c (sym (u .is))) (u .among-is))
+          (before all q (byLevel-distinct ts (l .short)) hq))
 
       inside : indexOf v (childrenFrom ts p 0 256) ≡ tallyFrom (goes ts p) 0 c
       inside = subst (λ (y : ℕ). indexOf (p ++ y ∷ []) (childrenFrom ts p 0 256) ≡ tallyFrom (goes ts p) 0 c) (zero-add c)
@@ -180,7 +186,9 @@ module _ (ts : List Word) (l : Lawful ts) where
       w = getD all q []
 
       go : (same w [] ≡ true) ⊎ (among w (below ts all) ≡ true) → Under ts all w
-      go (inl e) = absurd (omega (arith, h, sym (indexOf-getD all q (byLevel-distinct ts (l .short)) hq) ∙ ap (λ (x : Word). indexOf x all) (same-eq w [] e) ∙ level-first ts l))
+      go (inl e) =
+          let z : q ≡ 0 = sym (indexOf-getD all q (byLevel-distinct ts (l .short)) hq) ∙ ap (λ (x : Word). indexOf x all) (same-eq w [] e) ∙ level-first ts l in
+          absurd (omega (arith, h, z))
       go (inr e) = below-only ts all w e
 
   placed-grows : (m q r : ℕ) → q + m ≡ r → r ≤ length all → placedBy ts q ≤ placedBy ts r
@@ -200,8 +208,10 @@ module _ (ts : List Word) (l : Lawful ts) where
       let wq : indexOf (getD all n []) all ≡ n = indexOf-getD all n (byLevel-distinct ts (l .short)) hq in
       let o : r < indexOf (getD all n []) all =
       byLevel-order ts (l .short) p (getD all n []) (u .among-is) (among-getD all n hq) (omega (arith, ap {B = ℕ} length (u .is), length-append p (c ∷ []))) in
-      let b : goes ts (getD all r []) c ≡ true = subst (λ (x : Word). goes ts x c ≡ true) (sym rp) (subst (λ (x : Word). beginsOne x ts ≡ true) (u .is) (u .begun)) in
+      let b : goes ts (getD all r []) c ≡ true =
+      subst (λ (x : Word). goes ts x c ≡ true) (sym rp) (subst (λ (x : Word). beginsOne x ts ≡ true) (u .is) (u .begun)) in
       let hc : c < 256 = begins-byte 256 ts (getD all r []) c (l .bytes) b in
-      let qn : indexOf (getD all r [] ++ c ∷ []) all ≡ n = ap (λ (x : Word). indexOf (x ++ c ∷ []) all) rp ∙ ap (λ (x : Word). indexOf x all) (sym (u .is)) ∙ wq in
+      let qn : indexOf (getD all r [] ++ c ∷ []) all ≡ n =
+      ap (λ (x : Word). indexOf (x ++ c ∷ []) all) rp ∙ ap (λ (x : Word). indexOf x all) (sym (u .is)) ∙ wq in
       let up = placed-grows (n - suc r) (suc r) n (omega (arith, o, wq)) (omega arith) in
       omega (arith, next-free r rl c hc b, qn, tally-lt (goes ts (getD all r [])) c 256 hc b, placed-more ts r rl, up)

@@ -1,14 +1,13 @@
 -- A state is settled when its turn comes; when all are, the table is built.
 use Prim.Native.Nat.{_*_, _+_, _<_, _^_, _≤_, suc, zero, ℕ}
 use mathlib.Core.Bool.{Bool, cond, false, false≢true, true}
-use mathlib.Core.List.{List, []}
-use mathlib.Core.Logic.{_⊎_, inl, inr}
+use mathlib.Core.List.{List}
 use mathlib.Core.Path.{_∙_, _≡_, ap, ap₂, refl, subst, sym}
 use native.Mathlib.Decide.{decLt, ℕ-discrete}
-use native.Mathlib.Nat.{add-zero, not-suc-le-zero, zero-add}
+use native.Mathlib.Nat.{not-suc-le-zero, zero-add}
 use native.Mathlib.Omega.{arith}
 use lib.Dec.{eqb}
-use lib.ListN.{getD, length, length-set, set, take}
+use lib.ListN.{getD, length, length-set, set}
 use lib.Pow.{pow-mono}
 use lib.Seq.{getD-set-other, getD-set-same, lt-length-set}
 use borrow.Author.Tests.{eq-eqb, ne-eqb}
@@ -16,7 +15,7 @@ use Rattle.matching.specs.Laws.Links.{failure}
 use Rattle.matching.specs.Laws.Vectors.{vector-lt}
 use Rattle.matching.specs.Machine.{vector, vectorBy}
 use Rattle.matching.specs.Words.{Lawful, Word, beginsOne}
-use Rattle.bitmap.specs.Laws.Built.{Settled, built-only, word-zero}
+use Rattle.bitmap.specs.Laws.Built.{built-only, word-zero}
 use Rattle.bitmap.specs.Laws.Children.{goes}
 use Rattle.bitmap.specs.Laws.Maps.{onesOver-is}
 use Rattle.bitmap.specs.Laws.States.{states-few}
@@ -27,7 +26,7 @@ use Rattle.bitmap_maps.specs.Laid.{MapLaid, Unlaid}
 use Rattle.bitmap_maps.specs.Laws.Laid.{laid-map}
 use Rattle.bitmap_maps.specs.Laws.Masks.{through-root}
 use Rattle.bitmap_maps.specs.Laws.Vectors.{vector-first, vector-later}
-use Rattle.bitmap_maps.specs.Through.{Waits, ownTags, through}
+use Rattle.bitmap_maps.specs.Through.{ownTags, through}
 use Rattle.bitmap_growing.specs.Growing.{Begun, Closable, Found, Growing, Sowing, Sown, Waiting, closed, firstOf, inherits, kids, placedBy, wordOf}
 use Rattle.bitmap_growing.specs.Laws.Failing.{failure-state, fails-first, fails-lower}
 use Rattle.bitmap_growing.specs.Laws.Numbers.{first-none, first-some, placed-all, placed-few, reached}

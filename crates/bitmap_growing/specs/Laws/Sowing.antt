@@ -16,10 +16,10 @@ use Rattle.matching.specs.Laws.Bools.{and-both, and-l, and-r, is-false, not-bot
 use Rattle.matching.specs.Laws.Links.{failure}
 use Rattle.matching.specs.Laws.Words.{getD-indexOf, indexOf-getD}
 use Rattle.matching.specs.Words.{AllShort, Word, begins, beginsOne, indexOf}
-use Rattle.bitmap.specs.Laws.Built.{Settled, level-tree}
+use Rattle.bitmap.specs.Laws.Built.{level-tree}
 use Rattle.bitmap.specs.Laws.Children.{forward-goes, goes}
 use Rattle.bitmap.specs.Laws.Levels.{Child, begins-byte}
-use Rattle.bitmap.specs.Laws.Maps.{onesBelow-is, tally-same, tallyFrom}
+use Rattle.bitmap.specs.Laws.Maps.{onesBelow-is, tally-same}
 use Rattle.bitmap.specs.Laws.States.{states-few}
 use Rattle.bitmap.specs.Levels.{byLevel}
 use Rattle.bitmap.specs.Slots.{forward}
@@ -28,7 +28,7 @@ use Rattle.bitmap.specs.declared.Step.{Step}
 use Rattle.bitmap.specs.declared.Step.the-variants.{To, Wrong}
 use Rattle.bitmap_maps.specs.Laws.Masks.{begins-child, goes-begins, through-fits, vector-take}
 use Rattle.bitmap_maps.specs.Through.{through}
-use Rattle.bitmap_growing.specs.Growing.{Found, Growing, Sowable, Sowing, Sown, Waiting, childNumber, failTo, kids, placed, placedBy, sownBy, wordOf}
+use Rattle.bitmap_growing.specs.Growing.{Found, Growing, Sowable, Sowing, Sown, Waiting, childNumber, failTo, kids, placed, sownBy, wordOf}
 use Rattle.bitmap_growing.specs.Laws.Cells.{placed-bare, placed-cell, placed-depth, placed-fail, placed-length, placed-mask, placed-other}
 use Rattle.bitmap_growing.specs.Laws.Failing.{failing, failure-state}
 use Rattle.bitmap_growing.specs.Laws.Numbers.{child-word, next-free, placed-few, placed-more, reached, tally-lt}

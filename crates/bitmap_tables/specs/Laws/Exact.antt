@@ -12,7 +12,7 @@ use lib.ListN.{getD, length}
 use borrow.Author.Tests.{le-ltb, lt-ltb}
 use Rattle.matching.specs.Laws.Slices.{reduced-byte}
 use Rattle.matching.specs.Machine.{states}
-use Rattle.matching.specs.Table.{Room, enoughSlots, shortOfSlots}
+use Rattle.matching.specs.Table.{enoughSlots, shortOfSlots}
 use Rattle.matching.specs.Words.{Below, Lawful, Word}
 use Rattle.tagset.specs.Grammar.{SetOf, setOf}
 use Rattle.tagset.specs.Laws.Exact.{SetCase, accepted-iff, as-fault, isBad, isGood, numbered-as, refused-iff, set-case}
@@ -78,7 +78,7 @@ module _ (bytes : List ℕ) (small : Below 256 bytes) (len : ℕ) where
           let e : states ts ≤ slotsOf len = omega arith in
           rw (room-enough ts (lawful a) (slotsOf len) e) (isTags (record { tags = ts; set = a; counted = refl; enough = e }))
 
-      go : (s : SetOf) → SetCase bytes s → MapCase (onMapSet (slotsOf len) s)
+      go : (s : SetOf) → SetCase bytes s → MapCase (onMapSet len s)
       go s (isBad r) = isFault r
       go s (isGood {ts} a) = on-tags ts a (decLt (slotsOf len) (states ts))
 
@@ -202,12 +202,12 @@ needed-bitmap bytes small ts a len = (there (decLt (slotsOf len) (states ts)), b
     l : Lawful ts
     l = tags-accepted a .lawful small
 
-    there : Dec (slotsOf len < states ts) → onMapSet (slotsOf len) (setOf bytes) ≡ B.Tags (length ts) → mostStates 8 ts 0 1 ≤ slotsOf len
+    there : Dec (slotsOf len < states ts) → onMapSet len (setOf bytes) ≡ B.Tags (length ts) → mostStates 8 ts 0 1 ≤ slotsOf len
     there (yes h) e =
-        let f : onMapSet (slotsOf len) (setOf bytes) ≡ B.Table 253 (states ts) = rw (accepted-iff bytes ts .1 a, room-short ts l (slotsOf len) h) in
+        let f : onMapSet len (setOf bytes) ≡ B.Table 253 (states ts) = rw (accepted-iff bytes ts .1 a, room-short ts l (slotsOf len) h) in
         let z : _≡_ {A = ℕ} 0 1 = cc in
         absurd (omega arith)
     there (no h) e = omega (arith, most-whole ts l)
 
-    back : mostStates 8 ts 0 1 ≤ slotsOf len → onMapSet (slotsOf len) (setOf bytes) ≡ B.Tags (length ts)
+    back : mostStates 8 ts 0 1 ≤ slotsOf len → onMapSet len (setOf bytes) ≡ B.Tags (length ts)
     back h = rw (accepted-iff bytes ts .1 a, room-enough ts l (slotsOf len) (omega (arith, most-whole ts l)))

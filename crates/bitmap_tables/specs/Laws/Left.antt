@@ -1,11 +1,9 @@
 -- What building a bitmap table leaves in the lent run.
-use Rattle.tables.specs.declared.Built.the-variants as B
-use Prim.Native.Nat.{_*_, _+_, _<_, _≤_, ℕ}
-use mathlib.Core.List.{List, _++_}
-use mathlib.Core.Path.{_∙_, _≡_, ap, refl, sym}
-use native.Mathlib.Nat.{div-mul-le-self}
+use Prim.Native.Nat.{_*_, _<_, _≤_, ℕ}
+use mathlib.Core.List.{List}
+use mathlib.Core.Path.{_≡_, refl}
 use native.Mathlib.Omega.{arith}
-use lib.ListN.{drop, getD, length, length-append, length-drop}
+use lib.ListN.{drop, length, length-append, length-drop}
 use lib.Seq.{drop-at}
 use Rattle.matching.specs.Table.{Room, enoughSlots, shortOfSlots}
 use Rattle.matching.specs.Words.{Below, Word}
@@ -38,7 +36,7 @@ module _ (bytes run : List ℕ) where
       room ts enoughSlots i = absurd (omega arith)
       room ts (shortOfSlots m needs) i = refl
 
-      go : (s : SetOf) → 0 < builtNumber (onMapSet (slotsOf (length run)) s) → onMapSetTable run s ≡ run
+      go : (s : SetOf) → 0 < builtNumber (onMapSet (length run) s) → onMapSetTable run s ≡ run
       go (badSet fault) i = refl
       go (goodSet ts) i = room ts (roomIn (slotsOf (length run)) ts) i
 
@@ -68,4 +66,5 @@ module _ (bytes run : List ℕ) where
   pub map-left-behind : drop (slotsOf (length run) * 19) (mapTableOf bytes run) ≡ drop (slotsOf (length run) * 19) run
   map-left-behind =
       either (λ (l : List ℕ). drop (slotsOf (length run) * 19) l ≡ drop (slotsOf (length run) * 19) run) refl
-      (λ ts. drop-at (built (slotsOf (length run)) ts) (drop (slotsOf (length run) * 19) run) (slotsOf (length run) * 19) (built-length (slotsOf (length run)) ts))
+      (λ ts. drop-at (built (slotsOf (length run)) ts) (drop (slotsOf (length run) * 19) run) (slotsOf (length run) * 19)
+      (built-length (slotsOf (length run)) ts))

@@ -1,78 +1,98 @@
+-- `bitmap_growing::settling::settle` meets its contract.
 use mathlib.Core.Path.{_∙_}
 use native.Mathlib.Omega.{arith}
 use Rattle.bitmap_growing.specs.Laws.Settling.{turn-closable, turn-done, turn-found, turn-sowing, turn-unlaid}
 use borrow.Author.Needs.{needs}
 use Rattle.bitmap_growing.proofs.settling.settle.Statement.{statement}
 use Rattle.bitmap_growing.proofs.settling.settle.Tie as tie
-use Rattle.bitmap_growing.proofs.settling.settle.Reads as reads
-use Rattle.bitmap_growing.proofs.settling.settle.Lts as lts
-use Rattle.bitmap.proofs.steps.number.Reads as number-reads
-use Rattle.bitmap_growing.proofs.settling.close.Reads as close-reads
-use Rattle.bitmap_growing.proofs.sowing.sow.Reads as sow-reads
-use Rattle.bitmap_maps.proofs.laying.lay_map.Reads as lay-map-reads
-use Rattle.bitmap_maps.proofs.own.own_tags.Reads as own-tags-reads
-use Rattle.passing.proofs.places.wide.Reads as wide-reads
 
--- src/settling.rt:65:18
 number-requires : tie.Need-number-requires
 number-requires c κs = search needs
 
--- src/settling.rt:65:9
 wide-requires : tie.Need-wide-requires
 wide-requires c κs = search needs
 
--- src/settling.rt:66:18
 number-requires-2 : tie.Need-number-requires-2
 number-requires-2 c κs = search needs
 
--- src/settling.rt:66:9
 wide-requires-2 : tie.Need-wide-requires-2
 wide-requires-2 c κs = search needs
 
--- src/settling.rt:67:9
 number-requires-3 : tie.Need-number-requires-3
 number-requires-3 c κs = search needs
 
--- src/settling.rt:68:5
 lay-map-requires : tie.Need-lay-map-requires
-lay-map-requires c κs =    let p = c .before .before .before .before .before .before .before .before .before .before .before .before .before .pre in turn-unlaid (p .2) (p .1) _ (p .0)
+lay-map-requires c κs =
+    let c13 = c .before .before .before .before .before .before .before .before .before .before .before .before .before in
+    let p = c13 .pre in turn-unlaid (p .2) (p .1) _ (p .0)
 
--- src/settling.rt:69:9
 own-tags-requires : tie.Need-own-tags-requires
 own-tags-requires c κs = search needs
 
--- src/settling.rt:70:9
 close-requires : tie.Need-close-requires
 close-requires c κs =
-    let p = c .before .before .before .before .before .before .before .before .before .before .before .before .before .before .before .before .before .before .pre in
-    let o = turn-found (p .2) (p .1) _ _ _ (c .before .before .before .before .before .before .before .before .before .before .before .wide .ensures ∙ c .before .before .before .before .before .before .before .before .before .before .before .before .number .ensures) (c .before .before .before .before .before .before .before .before .wide2 .ensures ∙ c .before .before .before .before .before .before .before .before .before .number2 .ensures) (c .before .before .before .before .before .before .number3 .ensures) in
-    turn-closable (p .2) (p .1) o (c .before .before .before .before .lay-map .ensures _ (o .waits)) (c .before .own-tags .ensures _ (o .waits))
+    let c1 = c .before in
+    let c4 = c1 .before .before .before in
+    let c6 = c4 .before .before in
+    let c8 = c6 .before .before in
+    let c9 = c8 .before in
+    let c11 = c9 .before .before in
+    let c12 = c11 .before in
+    let c18 = c12 .before .before .before .before .before .before in
+    let p = c18 .pre in
+    let o = turn-found (p .2) (p .1) _ _ _ (c11 .wide .ensures ∙ c12 .number .ensures) (c8 .wide2 .ensures ∙ c9 .number2 .ensures) (c6 .number3 .ensures) in
+    turn-closable (p .2) (p .1) o (c4 .lay-map .ensures _ (o .waits)) (c1 .own-tags .ensures _ (o .waits))
 
--- src/settling.rt:71:5
 sow-requires : tie.Need-sow-requires
 sow-requires c κs =
-    let p = c .before .before .before .before .before .before .before .before .before .before .before .before .before .before .before .before .before .before .before .before .before .before .pre in
-    let o = turn-found (p .2) (p .1) _ _ _ (c .before .before .before .before .before .before .before .before .before .before .before .before .before .before .before .wide .ensures ∙ c .before .before .before .before .before .before .before .before .before .before .before .before .before .before .before .before .number .ensures) (c .before .before .before .before .before .before .before .before .before .before .before .before .wide2 .ensures ∙ c .before .before .before .before .before .before .before .before .before .before .before .before .before .number2 .ensures) (c .before .before .before .before .before .before .before .before .before .before .number3 .ensures) in
-    (p .0, o, turn-sowing (p .2) (p .1) o (c .before .before .before .before .before .before .before .before .lay-map .ensures _ (o .waits)) (c .before .before .before .before .before .own-tags .ensures _ (o .waits)) _ (c .before .before .before .close .ensures .2))
+    let c3 = c .before .before .before in
+    let c5 = c3 .before .before in
+    let c8 = c5 .before .before .before in
+    let c10 = c8 .before .before in
+    let c12 = c10 .before .before in
+    let c13 = c12 .before in
+    let c15 = c13 .before .before in
+    let c16 = c15 .before in
+    let c22 = c16 .before .before .before .before .before .before in
+    let p = c22 .pre in
+    let o = turn-found (p .2) (p .1) _ _ _ (c15 .wide .ensures ∙ c16 .number .ensures) (c12 .wide2 .ensures ∙ c13 .number2 .ensures) (c10 .number3 .ensures) in
+    (p .0, o, turn-sowing (p .2) (p .1) o (c8 .lay-map .ensures _ (o .waits)) (c5 .own-tags .ensures _ (o .waits)) _ (c3 .close .ensures .2))
 
--- src/settling.rt:72:5
 add-result : tie.Need-add-result
 add-result c =
-    let p = c .before .before .before .before .before .before .before .before .before .before .before .before .before .before .before .before .before .before .before .before .before .before .before .before .before .pre in
-    let o = turn-found (p .2) (p .1) _ _ _ (c .before .before .before .before .before .before .before .before .before .before .before .before .before .before .before .before .before .before .wide .ensures ∙ c .before .before .before .before .before .before .before .before .before .before .before .before .before .before .before .before .before .before .before .number .ensures) (c .before .before .before .before .before .before .before .before .before .before .before .before .before .before .before .wide2 .ensures ∙ c .before .before .before .before .before .before .before .before .before .before .before .before .before .before .before .before .number2 .ensures) (c .before .before .before .before .before .before .before .before .before .before .before .before .before .number3 .ensures) in
-    let h = turn-closable (p .2) (p .1) o (c .before .before .before .before .before .before .before .before .before .before .before .lay-map .ensures _ (o .waits)) (c .before .before .before .before .before .before .before .before .own-tags .ensures _ (o .waits)) in
-    omega (arith, h .few, c .before .before .before .before .before .before .close .ensures .1)
+    let c6 = c .before .before .before .before .before .before in
+    let c8 = c6 .before .before in
+    let c11 = c8 .before .before .before in
+    let c13 = c11 .before .before in
+    let c15 = c13 .before .before in
+    let c16 = c15 .before in
+    let c18 = c16 .before .before in
+    let c19 = c18 .before in
+    let c25 = c19 .before .before .before .before .before .before in
+    let p = c25 .pre in
+    let o = turn-found (p .2) (p .1) _ _ _ (c18 .wide .ensures ∙ c19 .number .ensures) (c15 .wide2 .ensures ∙ c16 .number2 .ensures) (c13 .number3 .ensures) in
+    let h = turn-closable (p .2) (p .1) o (c11 .lay-map .ensures _ (o .waits)) (c8 .own-tags .ensures _ (o .waits)) in
+    omega (arith, h .few, c6 .close .ensures .1)
 
--- src/settling.rt:51:1
 same-length : tie.Need-same-length
 same-length c = search needs
 
--- src/settling.rt:51:1
 returns : tie.Need-returns
 returns c =
-    let p = c .before .before .before .before .before .before .before .before .before .before .before .before .before .before .before .before .before .before .before .before .before .before .before .before .before .pre in
-    let o = turn-found (p .2) (p .1) _ _ _ (c .before .before .before .before .before .before .before .before .before .before .before .before .before .before .before .before .before .before .wide .ensures ∙ c .before .before .before .before .before .before .before .before .before .before .before .before .before .before .before .before .before .before .before .number .ensures) (c .before .before .before .before .before .before .before .before .before .before .before .before .before .before .before .wide2 .ensures ∙ c .before .before .before .before .before .before .before .before .before .before .before .before .before .before .before .before .number2 .ensures) (c .before .before .before .before .before .before .before .before .before .before .before .before .before .number3 .ensures) in
-    turn-done (p .2) (p .1) o (c .before .before .before .before .before .before .before .before .before .before .before .lay-map .ensures _ (o .waits)) (c .before .before .before .before .before .before .before .before .own-tags .ensures _ (o .waits)) (c .before .before .before .before .before .before .close .result) (c .before .before .before .before .before .before .close .ensures .0) _ (c .before .before .sow .ensures)
+    let c2 = c .before .before in
+    let c6 = c2 .before .before .before .before in
+    let c8 = c6 .before .before in
+    let c11 = c8 .before .before .before in
+    let c13 = c11 .before .before in
+    let c15 = c13 .before .before in
+    let c16 = c15 .before in
+    let c18 = c16 .before .before in
+    let c19 = c18 .before in
+    let c25 = c19 .before .before .before .before .before .before in
+    let p = c25 .pre in
+    let o = turn-found (p .2) (p .1) _ _ _ (c18 .wide .ensures ∙ c19 .number .ensures) (c15 .wide2 .ensures ∙ c16 .number2 .ensures) (c13 .number3 .ensures) in
+    turn-done (p .2) (p .1) o (c11 .lay-map .ensures _ (o .waits)) (c8 .own-tags .ensures _ (o .waits)) (c6 .close .result) (c6 .close .ensures .0)
+    _ (c2 .sow .ensures)
 
 pub settle-spec : {M : Type 1} → statement M
 settle-spec =

@@ -1,35 +1,37 @@
+-- `bitmap_growing::sowing::failing` meets its contract.
 use mathlib.Core.Path.{_∙_, sym}
 use Rattle.bitmap_growing.specs.Laws.Sowing.{fail-first, fail-never, fail-there}
 use borrow.Author.Needs.{needs}
 use Rattle.bitmap_growing.proofs.sowing.failing.Statement.{statement}
 use Rattle.bitmap_growing.proofs.sowing.failing.Tie as tie
-use Rattle.bitmap_growing.proofs.sowing.failing.Reads as reads
-use Rattle.bitmap_growing.proofs.sowing.failing.Lts as lts
-use Rattle.bitmap.proofs.steps.next_state.Reads as next-state-reads
 
--- src/sowing.rt:22:9
 returns : tie.Need-returns
-returns c =    fail-first (c .before .before .args .q) _ (c .if1 .taken)
+returns c =
+    let c2 = c .before .before in
+    fail-first (c2 .args .q) _ (c .if1 .taken)
 
--- src/sowing.rt:24:26
 next-state-requires : tie.Need-next-state-requires
 next-state-requires c κs = search needs
 
--- src/sowing.rt:24:18
 enum-known-n : tie.Need-enum-known-n
 enum-known-n c = search needs
 
--- src/sowing.rt:25:9
 enum-told : tie.Need-enum-told
 enum-told c = search needs
 
--- src/sowing.rt:25:9
 returns-2 : tie.Need-returns-2
-returns-2 c =    fail-never (c .before .before .before .before .before .args .q) _ (sym (c .enum-told .given .1) ∙ c .before .before .next-state .ensures)
+returns-2 c =
+    let c2 = c .before .before in
+    let c5 = c2 .before .before .before in
+    fail-never (c5 .args .q) _ (sym (c .enum-told .given .1) ∙ c2 .next-state .ensures)
 
--- src/sowing.rt:17:1
 returns-3 : tie.Need-returns-3
-returns-3 c =    fail-there (c .before .before .before .before .before .before .args .q) _ (c .before .before .before .before .if1 .left) _ _ (sym (c .before .n .given .1) ∙ c .before .before .before .next-state .ensures)
+returns-3 c =
+    let c1 = c .before in
+    let c3 = c1 .before .before in
+    let c4 = c3 .before in
+    let c6 = c4 .before .before in
+    fail-there (c6 .args .q) _ (c4 .if1 .left) _ _ (sym (c1 .n .given .1) ∙ c3 .next-state .ensures)
 
 pub failing-spec : {M : Type 1} → statement M
 failing-spec =

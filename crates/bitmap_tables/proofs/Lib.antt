@@ -1,0 +1,2 @@
+-- What the builder answers, and what it leaves.
+pub mod Answers
