@@ -21,6 +21,7 @@ mod goals;
 mod hyperscan_peer;
 mod inputs;
 mod map_tree;
+mod memory;
 mod ours;
 mod peers;
 mod plain_loop;
