@@ -1,8 +1,8 @@
 #!/usr/bin/env bash
 # Compiles the library for this machine where rt compiles for x86-64 alone, so that figures can be had there: FOLDER/libexports.a.
-# For figures and nothing else: nothing is proved here. What is compiled is what the archive is made of, since rt's kit lowers the
-# crates, as 'rt try' does, to the module that its clang is handed for the archive; the same clang then compiles that module for
-# this machine, as it optimises the archive.
+# For figures and nothing else: nothing is proved here. rt's kit lowers the crates as 'rt try' does, to LLVM's language, and hands
+# that to its clang, which compiles for this kind of machine too: it is kept on the way, and compiled once more with the archive's
+# optimisations.
 #   measure/native.sh FOLDER
 set -euo pipefail
 cd "$(dirname "$0")/.."
