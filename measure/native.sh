@@ -26,14 +26,15 @@ chmod +x "$folder/tools/bin/clang"
 
 # exports and all that it stands on
 declare -A below seen
-while IFS=: read -r crate names; do below[$crate]=$names; done < <(grep -v '^#' crates.txt)
+while IFS=: read -r crate names; do below[$crate]=$names; done < <(sed 's/#.*//; /^ *$/d' crates.txt)
 libraries=(--lib "std=$kit/libs/std/src/lib.rt")
 reach() {
-  local crate
+  local crate names
   for crate; do
     [[ -z ${seen[$crate]-} ]] || continue
     seen[$crate]=yes
-    reach ${below[$crate]}
+    read -ra names <<<"${below[$crate]}"
+    reach "${names[@]}"
     libraries+=(--lib "$crate=$PWD/crates/$crate/src/lib.rt")
   done
 }
