@@ -1,12 +1,16 @@
 #!/usr/bin/env bash
 # The benchmark's engines give the same records on short inputs, its builders the same tables, and it finds out a wrong
-# engine. It takes the peers that are installed, judges no figure and installs nothing.
+# engine. It takes the peers that are installed, judges no figure and installs nothing. Where the archive is emulated, so does the
+# library compiled for the machine.
 set -euo pipefail
 cd "$(dirname "$0")/.."
+source tests/platform.sh
 fail() { echo "speed: $*" >&2; exit 1; }
 
 ./speed quick >target/speed-quick.txt
-grep -q '^| one-bit |' target/speed-quick.txt || fail 'the table has no figures'
+for engine in one-bit whole-byte bitmap desk; do
+  grep -q "^| $engine |" target/speed-quick.txt || fail "the table has no figures of $engine"
+done
 for file in table.md figures.csv chart.svg; do
   [[ -s target/speed/quick/$file ]] || fail "quick wrote no $file"
 done
@@ -16,4 +20,9 @@ if ./speed wrong >/dev/null 2>target/speed-wrong.txt; then
 fi
 grep -q "'direct comparison that forgets the pieces before' and 'direct comparison' give different records" target/speed-wrong.txt ||
   { cat target/speed-wrong.txt; fail 'it stopped for another reason than the wrong engine'; }
+
+if [[ $emulated ]]; then
+  ./speed native quick >target/speed-native.txt
+  grep -q '^| bitmap |' target/speed-native.txt || fail 'native has no figures'
+fi
 echo 'speed: all engines agree, and the wrong one was found out'

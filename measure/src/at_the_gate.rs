@@ -1,7 +1,7 @@
 // What the gate's calls cost beside the desk's that they are made of, each pair timed in turn in one run.
 use crate::exports::{GateImage, Image};
 use crate::inputs::{self, Kind};
-use crate::ours::{set_of, slots_of};
+use crate::ours::{set_of, slots_of, SPLIT_SLOT};
 use crate::timing::best_of;
 
 const RECORDS: usize = 256;
@@ -22,7 +22,7 @@ impl Both {
     fn new() -> Both {
         let case = inputs::case(Kind::Many, 16, 1 << 16);
         let set = set_of(&case.tags);
-        let slots = slots_of(&set).0 * 24;
+        let slots = slots_of(&set).0 * SPLIT_SLOT;
         let (mut gate_table, mut desk_table) = (vec![0; slots], vec![0; slots]);
         let (mut gate, mut desk) = (GateImage::new(), Image::new());
         let said = [

@@ -1,7 +1,7 @@
 // The desk timed call by call, as a caller has it: the desk goes in by value, and what comes back is kept.
 use crate::exports::{self, Image};
 use crate::inputs::{self, Kind};
-use crate::ours::{set_of, slots_of};
+use crate::ours::{set_of, slots_of, SPLIT_SLOT};
 use crate::timing::best_of;
 use std::hint::black_box;
 use std::time::{Duration, Instant};
@@ -34,7 +34,7 @@ impl Office {
     fn new() -> Office {
         let case = inputs::case(Kind::Many, 16, 1 << 16);
         let set = set_of(&case.tags);
-        let mut table = vec![0; slots_of(&set).0 * 24];
+        let mut table = vec![0; slots_of(&set).0 * SPLIT_SLOT];
         let mut desk = Image::new();
         assert_eq!(
             desk.replace(&set, &mut table).refusal,

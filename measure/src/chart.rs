@@ -1,5 +1,5 @@
 // The figures of reading as bars: nanoseconds a byte, on a scale on which twice as slow is always as far.
-use crate::engines::{DESK, ONE_BIT, WHOLE_BYTE};
+use crate::engines::OURS;
 use crate::figures::Figures;
 use crate::inputs::{Kind, KINDS};
 use crate::reading::TAG_COUNTS;
@@ -88,7 +88,7 @@ fn bars(figures: &Figures, tags: usize, kind: Kind, left: f64, top: f64) -> Stri
             continue;
         };
         let (y, long) = (top + HEADING + BAR * i as f64, along(timed.best()));
-        let colour = if [ONE_BIT, WHOLE_BYTE, DESK].contains(engine) {
+        let colour = if OURS.contains(engine) {
             "#2a7f4f"
         } else {
             "#8fa3b8"

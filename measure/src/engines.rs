@@ -1,18 +1,21 @@
 // All engines that there are here, in the order of the tables.
 use crate::direct::{Blind, Direct};
 use crate::engine::Engine;
-use crate::ours::{AtTheDesk, OneBit, WholeByte};
+use crate::ours::{AtTheDesk, Bitmap, OneBit, WholeByte};
 use crate::peers;
 use crate::plain_loop::{PlainOneBit, PlainWholeByte};
-use crate::same_shape::{OneBitInRust, WholeByteInRust};
+use crate::same_shape::{BitmapInRust, OneBitInRust, WholeByteInRust};
 
 pub const ONE_BIT: &str = "one-bit";
 pub const WHOLE_BYTE: &str = "whole-byte";
+pub const BITMAP: &str = "bitmap";
 pub const DESK: &str = "desk";
 pub const ONE_BIT_CHECKED: &str = "one-bit in Rust, checked";
 pub const ONE_BIT_UNCHECKED: &str = "one-bit in Rust, unchecked";
 pub const WHOLE_BYTE_CHECKED: &str = "whole-byte in Rust, checked";
 pub const WHOLE_BYTE_UNCHECKED: &str = "whole-byte in Rust, unchecked";
+pub const BITMAP_CHECKED: &str = "bitmap in Rust, checked";
+pub const BITMAP_UNCHECKED: &str = "bitmap in Rust, unchecked";
 pub const ONE_BIT_PLAIN: &str = "one-bit, plain loop";
 pub const WHOLE_BYTE_PLAIN: &str = "whole-byte, plain loop";
 pub const AHO_CORASICK: &str = "aho-corasick DFA";
@@ -21,7 +24,7 @@ pub const DIRECT: &str = "direct comparison";
 const BLIND: &str = "direct comparison that forgets the pieces before";
 
 /// The engines that the library gives, whose order of records is promised.
-pub const OURS: [&str; 3] = [ONE_BIT, WHOLE_BYTE, DESK];
+pub const OURS: [&str; 4] = [ONE_BIT, WHOLE_BYTE, BITMAP, DESK];
 
 /// An engine's name, and how it is made for some tags.
 pub struct Maker {
@@ -40,13 +43,37 @@ pub fn all() -> Vec<Maker> {
             make: |tags| Box::new(WholeByte::new(tags)),
         },
         Maker {
+            name: BITMAP,
+            make: |tags| Box::new(Bitmap::new(tags)),
+        },
+        Maker {
             name: DESK,
             make: |tags| Box::new(AtTheDesk::new(tags)),
         },
     ];
     makers.extend(peers::aho_corasick());
     makers.extend(peers::hyperscan());
+    makers.extend(in_rust());
     makers.extend([
+        Maker {
+            name: ONE_BIT_PLAIN,
+            make: |tags| Box::new(PlainOneBit::new(tags)),
+        },
+        Maker {
+            name: WHOLE_BYTE_PLAIN,
+            make: |tags| Box::new(PlainWholeByte::new(tags)),
+        },
+        Maker {
+            name: DIRECT,
+            make: |tags| Box::new(Direct::new(tags)),
+        },
+    ]);
+    makers
+}
+
+/// The shapes of our engines in Rust, over tables that ours are.
+fn in_rust() -> [Maker; 6] {
+    [
         Maker {
             name: ONE_BIT_UNCHECKED,
             make: |tags| Box::new(OneBitInRust::<false>::new(tags)),
@@ -64,19 +91,14 @@ pub fn all() -> Vec<Maker> {
             make: |tags| Box::new(WholeByteInRust::<true>::new(tags)),
         },
         Maker {
-            name: ONE_BIT_PLAIN,
-            make: |tags| Box::new(PlainOneBit::new(tags)),
+            name: BITMAP_UNCHECKED,
+            make: |tags| Box::new(BitmapInRust::<false>::new(tags)),
         },
         Maker {
-            name: WHOLE_BYTE_PLAIN,
-            make: |tags| Box::new(PlainWholeByte::new(tags)),
+            name: BITMAP_CHECKED,
+            make: |tags| Box::new(BitmapInRust::<true>::new(tags)),
         },
-        Maker {
-            name: DIRECT,
-            make: |tags| Box::new(Direct::new(tags)),
-        },
-    ]);
-    makers
+    ]
 }
 
 /// A wrong engine, which the check of the records must find out.

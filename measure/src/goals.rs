@@ -1,10 +1,14 @@
 // What was to be reached, and what was.
-use crate::building::{self, DFA_BUILD, SPLIT_LINKS, SPLIT_OURS};
+use crate::building::{self, BITMAP_OURS, DFA_BUILD, SPLIT_LINKS, SPLIT_OURS, WHOLE_OURS};
 use crate::calls::{FEED_4096, FEED_NONE, READ_4096, TAKE_MANY};
 use crate::engines::*;
 use crate::figures::Figures;
 use crate::inputs::{Kind, KINDS, WITH_FEW_MATCHES};
 use crate::reading::TAG_COUNTS;
+
+// Whose speed is to be the same on every input, and far above the direct comparison's. The bitmap engine's is not: it has other
+// goals, beside whole-byte.
+const STEADY: [&str; 3] = [ONE_BIT, WHOLE_BYTE, DESK];
 
 #[derive(Clone, Copy)]
 pub enum Wanted {
@@ -56,8 +60,11 @@ pub fn goals(figures: &Figures) -> Vec<Goal> {
     beside(WHOLE_BYTE, WHOLE_BYTE_PLAIN, &WITH_FEW_MATCHES, 1.4);
     beside(ONE_BIT, ONE_BIT_UNCHECKED, &KINDS, 0.95);
     beside(WHOLE_BYTE, WHOLE_BYTE_UNCHECKED, &KINDS, 0.95);
-    goals.extend(OURS.map(|engine| steadiness(figures, engine)));
-    goals.extend(OURS.map(|engine| beside_direct(figures, engine)));
+    beside(BITMAP, WHOLE_BYTE, &[Kind::Random, Kind::English], 0.3);
+    beside(BITMAP, WHOLE_BYTE, &[Kind::Near], 0.12);
+    beside(BITMAP, WHOLE_BYTE, &[Kind::NearRuns], 0.12);
+    goals.extend(STEADY.map(|engine| steadiness(figures, engine)));
+    goals.extend(STEADY.map(|engine| beside_direct(figures, engine)));
     goals.extend(building_goals(figures));
     goals.extend(call_goals(figures));
     goals
@@ -133,10 +140,12 @@ fn steadiness(figures: &Figures, engine: &str) -> Goal {
 fn building_goals(figures: &Figures) -> Vec<Goal> {
     let sets: Vec<&str> = building::sets().iter().map(|(set, _)| *set).collect();
     let total = |set: &&str| Some((figures.build(SPLIT_OURS, set)? / 1000.0, set.to_string()));
-    let rest = |set: &&str| {
-        let ratio = figures.build(SPLIT_LINKS, set)? / figures.build(DFA_BUILD, set)?;
+    let ratio = |builder, other, set: &&str| {
+        let ratio = figures.build(builder, set)? / figures.build(other, set)?;
         Some((ratio, set.to_string()))
     };
+    let rest = |set: &&str| ratio(SPLIT_LINKS, DFA_BUILD, set);
+    let bitmap = |set: &&str| ratio(BITMAP_OURS, WHOLE_OURS, set);
     vec![
         Goal {
             what: "split table of 16 tags of 32 bytes, ms".into(),
@@ -147,6 +156,11 @@ fn building_goals(figures: &Figures) -> Vec<Goal> {
             what: format!("what is left of it without the plain test / build of {DFA_BUILD}"),
             wanted: Wanted::AtMost(0.5),
             reached: sets.iter().filter_map(rest).collect(),
+        },
+        Goal {
+            what: format!("{BITMAP_OURS} / {WHOLE_OURS}: building"),
+            wanted: Wanted::AtMost(1.5),
+            reached: sets.iter().filter_map(bitmap).collect(),
         },
     ]
 }

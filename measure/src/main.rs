@@ -20,6 +20,8 @@ mod goals;
 #[cfg(hyperscan)]
 mod hyperscan_peer;
 mod inputs;
+mod map_tree;
+mod memory;
 mod ours;
 mod peers;
 mod plain_loop;
@@ -28,6 +30,7 @@ mod random;
 mod reading;
 mod report;
 mod same_shape;
+mod same_shape_bitmap;
 mod same_shape_split;
 mod same_shape_whole;
 mod timing;

@@ -1,9 +1,69 @@
-// Our engines, as the archive gives them: one-bit and whole-byte outside the desk, and the desk.
+// Our engines, as the archive gives them: one-bit, whole-byte and bitmap outside the desk, and the desk.
 use crate::engine::{Engine, Out};
 use crate::exports::{self, Answer, Image};
 
 const FULL: u64 = 1;
 const RECORDS_OF_A_DESK: usize = 256;
+
+/// The numbers of a slot in each layout.
+pub const SPLIT_SLOT: usize = 24;
+pub const WHOLE_SLOT: usize = 257;
+pub const BITMAP_SLOT: usize = 19;
+
+#[repr(C)]
+struct BitmapReply {
+    answer: Answer,
+    place: u16,
+}
+
+extern "C" {
+    fn sleet_build_bitmap(
+        set: *const u8,
+        set_length: usize,
+        table: *mut u16,
+        table_length: usize,
+    ) -> Answer;
+    fn sleet_read_bitmap(
+        table: *const u16,
+        table_length: usize,
+        place: u16,
+        count: u32,
+        piece: *const u8,
+        piece_length: usize,
+        list: *mut u32,
+        list_length: usize,
+    ) -> BitmapReply;
+}
+
+pub fn build_bitmap(set: &[u8], table: &mut [u16]) -> Answer {
+    let (at, length) = (table.as_mut_ptr(), table.len());
+    // Sound as the other calls of the archive are: slices are just the runs that it asks for.
+    unsafe { sleet_build_bitmap(set.as_ptr(), set.len(), at, length) }
+}
+
+fn read_bitmap(
+    table: &[u16],
+    place: &mut u16,
+    count: u32,
+    piece: &[u8],
+    list: &mut [u32],
+) -> Answer {
+    // Sound as building is.
+    let reply = unsafe {
+        sleet_read_bitmap(
+            table.as_ptr(),
+            table.len(),
+            *place,
+            count,
+            piece.as_ptr(),
+            piece.len(),
+            list.as_mut_ptr(),
+            list.len(),
+        )
+    };
+    *place = reply.place;
+    reply.answer
+}
 
 /// The bytes of a set: for each tag its length, its kind 1, and the tag.
 pub fn set_of(tags: &[Vec<u8>]) -> Vec<u8> {
@@ -11,7 +71,7 @@ pub fn set_of(tags: &[Vec<u8>]) -> Vec<u8> {
     tags.iter().flat_map(entry).collect()
 }
 
-/// The slots that the split and the whole-byte table of a set need.
+/// The slots that the split and the whole-byte table of a set need; the bitmap table needs as many as the whole-byte one.
 pub fn slots_of(set: &[u8]) -> (usize, usize) {
     let needed = exports::slots_needed(set);
     assert_eq!(needed.refusal, 0, "the tags of a benchmark make a good set");
@@ -20,7 +80,7 @@ pub fn slots_of(set: &[u8]) -> (usize, usize) {
 
 pub fn split_table(tags: &[Vec<u8>]) -> Vec<u16> {
     let set = set_of(tags);
-    let mut table = vec![0; slots_of(&set).0 * 24];
+    let mut table = vec![0; slots_of(&set).0 * SPLIT_SLOT];
     assert_eq!(
         exports::build_split(&set, &mut table).refusal,
         0,
@@ -31,9 +91,20 @@ pub fn split_table(tags: &[Vec<u8>]) -> Vec<u16> {
 
 pub fn whole_table(tags: &[Vec<u8>]) -> Vec<u16> {
     let set = set_of(tags);
-    let mut table = vec![0; slots_of(&set).1 * 257];
+    let mut table = vec![0; slots_of(&set).1 * WHOLE_SLOT];
     assert_eq!(
         exports::build_whole(&set, &mut table).refusal,
+        0,
+        "the table has the slots that the set needs"
+    );
+    table
+}
+
+pub fn bitmap_table(tags: &[Vec<u8>]) -> Vec<u16> {
+    let set = set_of(tags);
+    let mut table = vec![0; slots_of(&set).1 * BITMAP_SLOT];
+    assert_eq!(
+        build_bitmap(&set, &mut table).refusal,
         0,
         "the table has the slots that the set needs"
     );
@@ -114,6 +185,42 @@ impl Engine for WholeByte {
     }
 }
 
+pub struct Bitmap {
+    table: Vec<u16>,
+    place: u16,
+    moves: u64,
+}
+
+impl Bitmap {
+    pub fn new(tags: &[Vec<u8>]) -> Bitmap {
+        Bitmap {
+            table: bitmap_table(tags),
+            place: 0,
+            moves: 0,
+        }
+    }
+}
+
+impl Engine for Bitmap {
+    fn begin(&mut self) {
+        self.place = 0;
+        self.moves = 0;
+    }
+
+    fn piece(&mut self, input: &[u8], from: usize, to: usize, out: &mut Out) {
+        let (table, place, moves) = (&self.table, &mut self.place, &mut self.moves);
+        read_on(input, from, to, out, |count, piece, list| {
+            let answer = read_bitmap(table, place, count, piece, list);
+            *moves += answer.d;
+            answer
+        });
+        assert!(
+            self.moves <= to as u64,
+            "from state 0 there are no more failure moves than bytes"
+        );
+    }
+}
+
 /// A ticket that is fed, and all records taken after each feed.
 pub struct AtTheDesk {
     table: Vec<u16>,
@@ -125,7 +232,7 @@ pub struct AtTheDesk {
 impl AtTheDesk {
     pub fn new(tags: &[Vec<u8>]) -> AtTheDesk {
         let set = set_of(tags);
-        let mut table = vec![0; slots_of(&set).0 * 24];
+        let mut table = vec![0; slots_of(&set).0 * SPLIT_SLOT];
         let mut desk = Image::new();
         assert_eq!(
             desk.replace(&set, &mut table).refusal,

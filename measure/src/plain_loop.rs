@@ -1,6 +1,6 @@
 // The plain loops over an array of states: what the engines would be without passing over quiet bytes.
 use crate::engine::{Engine, Out};
-use crate::ours;
+use crate::ours::{self, SPLIT_SLOT, WHOLE_SLOT};
 
 pub struct PlainOneBit {
     table: Vec<u16>,
@@ -34,7 +34,7 @@ impl Engine for PlainOneBit {
     }
 
     fn piece(&mut self, input: &[u8], from: usize, to: usize, out: &mut Out) {
-        let s = self.table.len() / 24;
+        let s = self.table.len() / SPLIT_SLOT;
         for i in from..to {
             let hits = self.step(s, input[i]);
             if hits != 0 {
@@ -65,7 +65,7 @@ impl Engine for PlainWholeByte {
     }
 
     fn piece(&mut self, input: &[u8], from: usize, to: usize, out: &mut Out) {
-        let s = self.table.len() / 257;
+        let s = self.table.len() / WHOLE_SLOT;
         for i in from..to {
             self.state = usize::from(self.table[self.state * 257 + usize::from(input[i])]);
             assert!(self.state < s, "the table was built");

@@ -1,4 +1,5 @@
 // What a run is asked to do, and on what machine.
+use std::env::consts::ARCH;
 use std::fs;
 use std::io::{self, IsTerminal, Write};
 use std::thread;
@@ -53,12 +54,11 @@ fn machine() -> String {
     let model = info
         .lines()
         .find_map(|line| line.strip_prefix("model name"))
-        .unwrap_or(": processor of unknown model");
+        .map_or(format!("{ARCH} of unknown model"), |model| {
+            model.trim_start_matches([' ', '\t', ':']).to_string()
+        });
     let cores = thread::available_parallelism().map_or(1, usize::from);
     let load = fs::read_to_string("/proc/loadavg").unwrap_or_default();
     let load = load.split(' ').next().unwrap_or("unknown");
-    format!(
-        "{}, {cores} cores, load {load} at the start",
-        model.trim_start_matches([' ', '\t', ':'])
-    )
+    format!("{model}, {cores} cores, load {load} at the start")
 }

@@ -5,6 +5,7 @@ use crate::english;
 use crate::figures::Figures;
 use crate::goals::{goals, Wanted};
 use crate::inputs::{Kind, KINDS};
+use crate::memory;
 use crate::peers;
 use crate::plan::Plan;
 use crate::reading::TAG_COUNTS;
@@ -29,6 +30,7 @@ pub fn page(figures: &Figures, plan: &Plan) -> String {
         "\n## Building 16 tags of 32 bytes: microseconds\n\n{}",
         builds(figures)
     );
+    page += &format!("\n## Memory of a set: numbers / bytes\n\n{}", needs());
     page += &format!("\n## The desk: nanoseconds a call\n\n{}", calls(figures));
     if plan.judged {
         page += &format!("\n## Goals\n\n{}", judged(figures));
@@ -53,6 +55,9 @@ fn facts(plan: &Plan) -> String {
          All engines gave the same records before they were timed.\n",
         plan.machine, plan.rounds
     );
+    if cfg!(native) {
+        facts += "\nThe library was compiled for this machine, with no proof: the archive is for x86-64.\n";
+    }
     for peer in peers::missing() {
         facts += &format!("\nMissing here, and left out: {peer}.\n");
     }
@@ -131,6 +136,37 @@ fn builds(figures: &Figures) -> String {
     table
 }
 
+/// A row for each layout, and for a peer that tells its heap; a column for each number of tags.
+fn needs() -> String {
+    let needs = memory::needs();
+    let (mut titles, mut named): (Vec<&str>, Vec<&str>) = (vec![""], Vec::new());
+    for need in &needs {
+        if !titles.contains(&need.tags.as_str()) {
+            titles.push(&need.tags);
+        }
+        if !named.contains(&need.what) {
+            named.push(need.what);
+        }
+    }
+    let cell = |what: &str, tags: &str| {
+        let need = needs
+            .iter()
+            .find(|need| need.what == what && need.tags == tags)?;
+        Some(match need.numbers {
+            Some(numbers) => format!("{numbers} / {}", need.bytes),
+            None => format!("{} bytes", need.bytes),
+        })
+    };
+    let mut table = head(&titles);
+    for what in named {
+        let cells = titles[1..]
+            .iter()
+            .map(|tags| cell(what, tags).unwrap_or_default());
+        table += &row(std::iter::once(what.to_string()).chain(cells));
+    }
+    table
+}
+
 fn calls(figures: &Figures) -> String {
     let rows = figures
         .calls
@@ -174,6 +210,12 @@ pub fn lines(figures: &Figures) -> String {
             build.builder.replace(',', ""),
             build.set,
             build.micros
+        );
+    }
+    for need in memory::needs() {
+        lines += &format!(
+            "memory,{},{},,,bytes,{},\n",
+            need.what, need.tags, need.bytes
         );
     }
     for call in &figures.calls {

@@ -1,7 +1,8 @@
 // Our engines' shapes written in Rust, function for function: what the proved code is held against. CHECKED says whether each
 // index is tested, as Rust's own indexing does, or not, as the proved code need not.
 use crate::engine::{Engine, Out};
-use crate::ours;
+use crate::ours::{self, BITMAP_SLOT, SPLIT_SLOT, WHOLE_SLOT};
+use crate::same_shape_bitmap::on_bitmap;
 use crate::same_shape_split::on_split;
 use crate::same_shape_whole::on_whole;
 
@@ -107,7 +108,7 @@ impl<const CHECKED: bool> Engine for OneBitInRust<CHECKED> {
     }
 
     fn piece(&mut self, input: &[u8], from: usize, to: usize, out: &mut Out) {
-        let s = self.table.len() / 24;
+        let s = self.table.len() / SPLIT_SLOT;
         let mut at = from;
         while at < to {
             let went = on_split::<CHECKED>(
@@ -146,7 +147,7 @@ impl<const CHECKED: bool> Engine for WholeByteInRust<CHECKED> {
     }
 
     fn piece(&mut self, input: &[u8], from: usize, to: usize, out: &mut Out) {
-        let s = self.table.len() / 257;
+        let s = self.table.len() / WHOLE_SLOT;
         let mut at = from;
         while at < to {
             let went = on_whole::<CHECKED>(
@@ -162,5 +163,52 @@ impl<const CHECKED: bool> Engine for WholeByteInRust<CHECKED> {
             at += went.taken;
             out.take(went.records);
         }
+    }
+}
+
+pub struct BitmapInRust<const CHECKED: bool> {
+    table: Vec<u16>,
+    place: usize,
+    moves: usize,
+}
+
+impl<const CHECKED: bool> BitmapInRust<CHECKED> {
+    pub fn new(tags: &[Vec<u8>]) -> Self {
+        BitmapInRust {
+            table: ours::bitmap_table(tags),
+            place: 0,
+            moves: 0,
+        }
+    }
+}
+
+impl<const CHECKED: bool> Engine for BitmapInRust<CHECKED> {
+    fn begin(&mut self) {
+        self.place = 0;
+        self.moves = 0;
+    }
+
+    fn piece(&mut self, input: &[u8], from: usize, to: usize, out: &mut Out) {
+        let s = self.table.len() / BITMAP_SLOT;
+        let mut at = from;
+        while at < to {
+            let (went, moves) = on_bitmap::<CHECKED>(
+                &self.table,
+                s,
+                self.place,
+                at as u32,
+                &input[at..to],
+                &mut out.list,
+            );
+            assert!(went.stop != Stop::Damaged, "the table was built");
+            self.place = went.place;
+            self.moves += moves;
+            at += went.taken;
+            out.take(went.records);
+        }
+        assert!(
+            self.moves <= to,
+            "from state 0 there are no more failure moves than bytes"
+        );
     }
 }
