@@ -2,3 +2,4 @@
 pub mod Readings
 pub mod Laws
 pub mod AsWhole
+pub mod Sample
