@@ -1,8 +1,7 @@
 -- OVER BUILT TABLES THE BITMAP MACHINE READS AS THE WHOLE-BYTE MACHINE DOES: the same records, bytes taken and stops on every piece, however cut, and
 -- places of the same prefixes; its failure moves are those of the definition, and from the start no more than the bytes taken.
 use Prim.Native.Nat.{ℕ}
-use mathlib.Core.List.{List, [], _∷_}
-use mathlib.Core.Path.{_≡_}
+use mathlib.Core.List.{List}
 use lib.ListN.{length}
 use Rattle.matching.specs.Machine.{walk}
 use Rattle.matching.specs.Reading.{placeAfter}

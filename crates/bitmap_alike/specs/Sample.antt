@@ -1,5 +1,4 @@
 -- Sample 15 of docs/RULES.md, 10, computed from the definitions: the bitmap machine of he, she, his, hers.
-use Prim.Native.Nat.{ℕ}
 use mathlib.Core.List.{List, [], _++_, _∷_, map}
 use mathlib.Core.Path.{_≡_, refl}
 use lib.Count.{ones, onesIn}

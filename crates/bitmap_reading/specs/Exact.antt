@@ -1,21 +1,21 @@
 -- WHAT A READ OVER ANY RUN OF NUMBERS PROMISES: when it is refused, exactly; that a refused one changes nothing; and what every one keeps.
-use Prim.Native.Nat.{_*_, _+_, _/_, _<_, _≤_, ℕ}
-use mathlib.Core.Bool.{Bool, false, true}
+use Prim.Native.Nat.{_+_, _/_, _<_, _≤_, ℕ}
+use mathlib.Core.Bool.{Bool}
 use mathlib.Core.List.{List, []}
 use mathlib.Core.Logic.{_↔_}
-use mathlib.Core.Path.{_∙_, _≡_, ap, refl, subst, sym}
+use mathlib.Core.Path.{_∙_, _≡_, ap, refl, subst}
 use native.Mathlib.Omega.{arith}
 use lib.Dec.{ltb}
-use lib.ListN.{getD, length}
+use lib.ListN.{length}
 use borrow.Author.Tests.{le-ltb, lt-ltb, ltb-false, ltb-true}
 use Rattle.matching.specs.Refusal.{firstOf}
 use Rattle.matching.specs.Stepping.{OutcomeOf, goesTo}
 use Rattle.matching.specs.Words.{Word}
-use Rattle.reading.specs.Laws.Outside.{KeptBy, by-grounds, by-keeps, by-long-iff, by-number, by-place-iff, numberBy, placeBy, recordsBy, takenBy}
+use Rattle.reading.specs.Laws.Outside.{KeptBy, by-grounds, by-keeps, by-long-iff, by-number, by-place-iff, numberBy}
 use Rattle.reading.specs.Outside.{ReadAt, listBy, readTo, refusedRead}
 use Rattle.reading.specs.Refusals.{RefusedWith, endingNumber, readGrounds}
 use Rattle.reading.specs.declared.Ending.{Ending}
-use Rattle.reading.specs.declared.Ending.the-variants.{Refused, Stopped}
+use Rattle.reading.specs.declared.Ending.the-variants.{Refused}
 use Rattle.reading.specs.declared.ReadRefusal.{ReadRefusal}
 use Rattle.reading.specs.declared.ReadRefusal.the-variants.{Long, Place}
 use Rattle.bitmap.specs.Slots.{slotsOf}
@@ -89,7 +89,8 @@ module _ (table : List ℕ) (place count : ℕ) (piece : Word) (len : ℕ) where
   -- the same in order: the number is that of the first ground that holds
   pub map-refusals : endingNumber ending ≡ firstOf (readGrounds (ltb place slots) (ltb 4294967295 (count + length piece)))
   unfolding readMapOf
-  map-refusals = map-number place answer ∙ by-grounds (readMap slots table place count (len / 2) piece) (ltb place slots) (ltb 4294967295 (count + length piece))
+  map-refusals =
+      map-number place answer ∙ by-grounds (readMap slots table place count (len / 2) piece) (ltb place slots) (ltb 4294967295 (count + length piece))
 
 -- what every read keeps: it takes no more than the piece, writes no more than the room, keeps the list's length and the room that it does not use; with
 -- 0 taken the place, the list and the moves are what they were; and it stops ALL only if the piece is taken

@@ -1,5 +1,4 @@
 -- Readings over built tables in both layouts, side by side.
-use Rattle.tables.specs.declared.Built.the-variants as B
 use Prim.Native.Nat.{_*_, _+_, _/_, _<_, _≤_, ℕ}
 use mathlib.Core.Bool.{Bool, false, true}
 use mathlib.Core.List.{List, [], _++_, _∷_, append-assoc, append-nil}
@@ -17,12 +16,11 @@ use Rattle.matching.specs.Laws.Prefixes.{tree}
 use Rattle.matching.specs.Limits.{largest}
 use Rattle.matching.specs.Machine.{prefixes, states, walk}
 use Rattle.matching.specs.Occurrence.{Occurrence, tagsEnding}
-use Rattle.matching.specs.Reading.{Outcome, expected, placeAfter}
-use Rattle.matching.specs.Slicing.{reduced}
+use Rattle.matching.specs.Reading.{expected, placeAfter}
 use Rattle.matching.specs.Stepping.{OutcomeOf, onPlace}
 use Rattle.matching.specs.Words.{AllBelow, Below, Lawful, Word}
 use Rattle.matching.specs.declared.Stop.{Stop}
-use Rattle.reading.specs.Outside.{ReadAt, ReadOf, readBy, readOf}
+use Rattle.reading.specs.Outside.{ReadAt, readBy, readOf}
 use Rattle.tables.specs.Building.{tableOf}
 use Rattle.tagset.specs.Grammar.{goodSet}
 use Rattle.tagset.specs.Laws.Places.{tags-of}
