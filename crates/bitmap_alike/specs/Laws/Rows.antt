@@ -1,11 +1,11 @@
 -- Readings over built tables in both layouts, side by side.
-use Prim.Native.Nat.{_*_, _+_, _/_, _<_, _≤_, ℕ}
+use Prim.Native.Nat.{_+_, _/_, _<_, _≤_, ℕ}
 use mathlib.Core.Bool.{Bool, false, true}
 use mathlib.Core.List.{List, [], _++_, _∷_, append-assoc, append-nil}
-use mathlib.Core.Path.{_∙_, _≡_, ap, ap₂, refl, subst, sym}
+use mathlib.Core.Path.{_∙_, _≡_, ap, ap₂, refl, subst, subst₂, sym}
 use native.Mathlib.Omega.{arith}
 use lib.Dec.{ltb}
-use lib.ListN.{drop, getD, length, length-append, take}
+use lib.ListN.{getD, length, length-append, take}
 use lib.Seq.{length-take-le}
 use borrow.Author.Tests.{lt-ltb, ltb-false, ltb-true}
 use Rattle.matching.specs.Laws.Built.{placeAfter-start}
@@ -14,7 +14,7 @@ use Rattle.matching.specs.Laws.Prefixes.{lt-tree}
 use Rattle.matching.specs.Laws.Slices.{map-byte, reduced-byte}
 use Rattle.matching.specs.Laws.Prefixes.{tree}
 use Rattle.matching.specs.Limits.{largest}
-use Rattle.matching.specs.Machine.{prefixes, states, walk}
+use Rattle.matching.specs.Machine.{prefixes, walk}
 use Rattle.matching.specs.Occurrence.{Occurrence, tagsEnding}
 use Rattle.matching.specs.Reading.{expected, placeAfter}
 use Rattle.matching.specs.Stepping.{OutcomeOf, onPlace}
@@ -27,7 +27,7 @@ use Rattle.tagset.specs.Laws.Places.{tags-of}
 use Rattle.history.specs.Laws.Fed.{below-append, below-take}
 use Rattle.history.specs.Laws.Rows.{RowBy, read-is, row-by, row-done, row-long, row-read, rowAfter, turnOf}
 use Rattle.history.specs.Readings.{AsBuilt, Row, Turn, TurnsOfBytes, inTurn, rowThen, startPlace}
-use Rattle.bitmap.specs.Laws.Built.{Holds, built-holds, level-first, level-tree, same-word}
+use Rattle.bitmap.specs.Laws.Built.{Holds, level-first, level-tree, same-word}
 use Rattle.bitmap.specs.Laws.Moves.{movesIn-append, movesIn-few}
 use Rattle.bitmap.specs.Levels.{byLevel}
 use Rattle.bitmap.specs.Moves.{movesIn}
@@ -39,9 +39,8 @@ use Rattle.bitmap_tables.specs.Building.{mapTableOf}
 use Rattle.bitmap_alike.specs.Readings.{AlikeReads, AlikeToWhole, MapAsBuilt, MapRow, bothLong, bothRead, mapInTurn, mapRowThen, onMapTurn}
 use Rattle.bitmap_tables.specs.Refusals.{MapBuilds}
 use Rattle.bitmap_tables.specs.Laws.Exact.{map-tags-iff}
-use Rattle.bitmap_tables.specs.Laws.Left.{map-built-left, map-left-length}
+use Rattle.bitmap_tables.specs.Laws.Left.{map-left-holds, map-left-length}
 use Rattle.tagset.specs.Laws.Exact.{accepted-iff}
-use Rattle.bitmap.specs.Laws.States.{states-same}
 use Rattle.matching.specs.Laws.Inputs.{done-by}
 
 -- the whole-byte machine's place is one state
@@ -76,12 +75,7 @@ module _ (set run : List ℕ) (ts : List Word) (b : MapAsBuilt set run ts) where
   size = ap slotsOf (map-left-length set run)
 
   held : Holds slots ts table
-  held =
-      let table-is : table ≡ built (slotsOf (length run)) ts ++ drop (slotsOf (length run) * 19) run =
-      map-built-left set run (b .bytes) builds ∙ ap (λ (l : List Word). built (slotsOf (length run)) l ++ drop (slotsOf (length run) * 19) run) tags-are in
-      let enough : length (byLevel ts) ≤ slotsOf (length run) = omega (arith, states-same ts lawful, ap states tags-are, builds .enough) in
-      subst (λ (s : ℕ). Holds s ts table) (sym size)
-      (subst (Holds (slotsOf (length run)) ts) (sym table-is) (built-holds (slotsOf (length run)) ts (drop (slotsOf (length run) * 19) run) enough))
+  held = subst₂ (λ (s : ℕ) (l : List Word). Holds s l table) (sym size) tags-are (map-left-holds set run (b .bytes) builds)
 
   state-below : (v : Word) → ltb (after v) slots ≡ true
   state-below v = lt-ltb (after v) slots (omega (arith, lt-tree (byLevel ts) (level-tree ts lawful) (level-first ts lawful) v, held .fits))
