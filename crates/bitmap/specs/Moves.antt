@@ -3,7 +3,7 @@ use Prim.Native.Nat.{_+_, ℕ}
 use mathlib.Core.Bool.{cond, false, true}
 use mathlib.Core.List.{List, [], _++_, _∷_}
 use Rattle.matching.specs.Words.{Word, among}
-use Rattle.bitmap.specs.Slots.{forward}
+use Rattle.bitmap.specs.Levels.{forward}
 
 -- the moves of byte c after the input v, where the states are the words ps: going from v to its shorter suffixes, up to the first from which c leads
 -- forward or the empty one, each that is a state is one to move on from

@@ -2,10 +2,9 @@
 use mathlib.Core.List.{List, [], _++_, _∷_, map}
 use mathlib.Core.Path.{_≡_, refl}
 use lib.Count.{ones, onesIn}
-use lib.ListN.{replicate}
+use lib.ListN.{replicate, take}
 use Rattle.matching.specs.declared.Stop.the-variants.{All}
-use Rattle.matching.specs.Laws.Links.{failure}
-use Rattle.matching.specs.Machine.{longest, next, prefixes, vector, vectorBy, walk, withPrefixes, withTags, withWord}
+use Rattle.matching.specs.Machine.{failure, longest, next, prefixes, vector, vectorBy, walk, withPrefixes, withTags, withWord}
 use Rattle.matching.specs.Occurrence.{occurAt}
 use Rattle.matching.specs.Reading.{onesOf}
 use Rattle.matching.specs.Stepping.{halted, readBy, stepped, tookByte}
@@ -32,11 +31,14 @@ pub record OfBitmaps : Type 0 where
   pub states-are : byLevel tags
       ≡ [] ∷ (104 ∷ []) ∷ (115 ∷ []) ∷ (104 ∷ 101 ∷ []) ∷ (104 ∷ 105 ∷ []) ∷ (115 ∷ 104 ∷ []) ∷ (104 ∷ 101 ∷ 114 ∷ []) ∷ (104 ∷ 105 ∷ 115 ∷ [])
       ∷ (115 ∷ 104 ∷ 101 ∷ []) ∷ (104 ∷ 101 ∷ 114 ∷ 115 ∷ []) ∷ []
-  -- slot 1, of h: e and i in number 6 of its map, first child 3, failure state 0, no tag; slot 8, of she: it fails to he, and ends she and he
+  -- slot 0: h is bit 8 of number 6 and s bit 3 of number 7, first child 1; slot 1, of h: e and i in number 6 of its map, first child 3, failure state 0, no
+  -- tag; slot 8, of she: it fails to he, and ends she and he
+  pub slot-0 : slot tags (byLevel tags) 0 ≡ replicate 6 0 ++ 256 ∷ 8 ∷ replicate 8 0 ++ 1 ∷ 0 ∷ 0 ∷ []
   pub slot-1 : slot tags (byLevel tags) 1 ≡ replicate 6 0 ++ 544 ∷ replicate 9 0 ++ 3 ∷ 0 ∷ 0 ∷ []
   pub slot-8 : slot tags (byLevel tags) 8 ≡ replicate 16 0 ++ 0 ∷ 3 ∷ 3 ∷ []
   -- "hxhe" goes 0, 1, 0, 1, 3, and "ushers" 0, 0, 2, 5, 8, 6, 9; one failure move each
   pub hxhe-goes : map (walk (byLevel tags) 0) ([] ∷ (104 ∷ []) ∷ (104 ∷ 120 ∷ []) ∷ (104 ∷ 120 ∷ 104 ∷ []) ∷ hxhe ∷ []) ≡ 0 ∷ 1 ∷ 0 ∷ 1 ∷ 3 ∷ []
+  pub ushers-goes : map (λ n. walk (byLevel tags) 0 (take n ushers)) (0 ∷ 1 ∷ 2 ∷ 3 ∷ 4 ∷ 5 ∷ 6 ∷ []) ≡ 0 ∷ 0 ∷ 2 ∷ 5 ∷ 8 ∷ 6 ∷ 9 ∷ []
   pub hxhe-moves : movesIn (prefixes tags) [] hxhe ≡ 1
   pub ushers-moves : movesIn (prefixes tags) [] ushers ≡ 1
   -- reading says so: the states and moves, and of "ushers" the records 4, 0; 4, 1; 6, 3
@@ -55,9 +57,11 @@ unfolding byLevel levels below childrenFrom among begins beginsOne same indexOf 
     onesOver arrived numberAt onesOf occurAt ones onesIn
 sample-15 = record {
   states-are = refl;
+  slot-0 = refl;
   slot-1 = refl;
   slot-8 = refl;
   hxhe-goes = refl;
+  ushers-goes = refl;
   hxhe-moves = refl;
   ushers-moves = refl;
   hxhe-read = refl;

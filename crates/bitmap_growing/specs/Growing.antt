@@ -111,12 +111,12 @@ inherits zero l f = 0
 inherits (suc q) l f = vectorAt l f
 
 -- the first of n children behind k states
-abbrev pub firstOf : ℕ → ℕ → ℕ
-firstOf k n = cond (eqb n 0) 0 k
+abbrev pub firstBehind : ℕ → ℕ → ℕ
+firstBehind k n = cond (eqb n 0) 0 k
 
 -- a state whose map is laid, with its first child and its vector
 abbrev pub closed : List ℕ → ℕ → ℕ → ℕ → ℕ → List ℕ
-closed l q k f own = set (set l (q * 19 + 16) (firstOf k (onesOver l q 0 16))) (q * 19 + 18) (inherits q l f + own)
+closed l q k f own = set (set l (q * 19 + 16) (firstBehind k (onesOver l q 0 16))) (q * 19 + 18) (inherits q l f + own)
 
 -- what it takes to do so
 pub record Closable (l : List ℕ) (q k f own : ℕ) : Type 0 where

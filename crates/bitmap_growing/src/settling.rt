@@ -14,7 +14,7 @@ ghost use Rattle.matching.specs.Words.{Word};
 ghost use Rattle.tagset.specs.Answer.{cutAt};
 ghost use Rattle.bitmap.specs.Levels.{byLevel};
 ghost use Rattle.bitmap.specs.Steps.{onesOver};
-ghost use Rattle.bitmap_growing.specs.Growing.{Closable, Growing, closed, firstOf, inherits};
+ghost use Rattle.bitmap_growing.specs.Growing.{Closable, Growing, closed, firstBehind, inherits};
 
 // The vector of the state that q fails to; none for the start state.
 fn inherited(table: &[u16], q: usize, f: usize) -> u16
@@ -29,7 +29,7 @@ fn inherited(table: &[u16], q: usize, f: usize) -> u16
 
 // The first of n children behind k states.
 fn first(k: usize, n: usize) -> usize
-    ensures { λ r. ⌜ r ≡ firstOf k n ⌝ }
+    ensures { λ r. ⌜ r ≡ firstBehind k n ⌝ }
 {
     if n == 0 { 0 } else { k }
 }

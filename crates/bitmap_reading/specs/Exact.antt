@@ -1,12 +1,12 @@
 -- WHAT A READ OVER ANY RUN OF NUMBERS PROMISES: when it is refused, exactly; that a refused one changes nothing; and what every one keeps.
-use Prim.Native.Nat.{_+_, _/_, _<_, _≤_, ℕ}
+use Prim.Native.Nat.{_*_, _+_, _/_, _<_, _≤_, ℕ}
 use mathlib.Core.Bool.{Bool}
 use mathlib.Core.List.{List, []}
 use mathlib.Core.Logic.{_↔_}
 use mathlib.Core.Path.{_∙_, _≡_, ap, refl, subst}
 use native.Mathlib.Omega.{arith}
 use lib.Dec.{ltb}
-use lib.ListN.{length}
+use lib.ListN.{getD, length}
 use borrow.Author.Tests.{le-ltb, lt-ltb, ltb-false, ltb-true}
 use Rattle.matching.specs.Refusal.{firstOf}
 use Rattle.matching.specs.Stepping.{OutcomeOf, goesTo}
@@ -100,6 +100,17 @@ unfolding readMapOf readMap
 map-keeps table place count piece list =
     by-keeps (record { state = place; moves = 0 }) piece list (mapStep (slotsOf (length table)) table) count (ltb place (slotsOf (length table)))
     (ltb 4294967295 (count + length piece))
+
+-- REFUSED, NOTHING CHANGES: nothing is taken and nothing written, no move is told of, and place and list are what they were
+pub map-refused-same : (place : ℕ) (list : List ℕ) (r : ReadAt Standing) (why : ReadRefusal) → mapBy place r .ending ≡ Refused why
+    → (mapBy place r ≡ record { taken = 0; place = place; records = 0; moves = 0; ending = Refused why }) × (listBy list r ≡ list)
+map-refused-same place list (refusedRead w) why e = (ap (λ (x : Ending). record { taken = 0; place = place; records = 0; moves = 0; ending = x }) e, refl)
+map-refused-same place list (readTo o) why e = absurd (let z : _≡_ {A = ℕ} 0 1 = cc in omega arith)
+
+-- an odd last number is never used
+pub map-odd-kept : (table : List ℕ) (place count : ℕ) (piece : Word) (list : List ℕ) (i : ℕ) → 2 * (length list / 2) ≤ i
+    → getD (listBy list (readMapOf table place count piece (length list))) i 0 ≡ getD list i 0
+map-odd-kept table place count piece list i h = let k = map-keeps table place count piece list in k .unused i (omega (arith, k .fits))
 
 -- NOTHING TAKEN, over any run of numbers: refused, or stopped before the first byte, or an empty piece; place and list are what they were, and no
 -- record and no move is told of

@@ -8,7 +8,7 @@ use Rattle.bitmap.specs.Steps as bitmap
 use Rattle.bitmap.specs.declared.Step as one
 use Rattle.bitmap.specs.declared.Step.the-variants.{To, Wrong}
 
--- a reading's place: the state, and the failure moves made since it began
+-- where a reading stands: its place, which is one state, and the failure moves made since it began
 pub record Standing : Type 0 where
   pub state : ℕ
   pub moves : ℕ

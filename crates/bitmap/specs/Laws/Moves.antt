@@ -12,7 +12,7 @@ use Rattle.matching.specs.Laws.Machine.{Closed, longest-hit, longest-length, lo
 use Rattle.matching.specs.Machine.{longest}
 use Rattle.matching.specs.Words.{Word, among}
 use Rattle.bitmap.specs.Moves.{movesIn, movesOn}
-use Rattle.bitmap.specs.Slots.{forward}
+use Rattle.bitmap.specs.Levels.{forward}
 
 module _ (ps : List Word) (x : ℕ) (v : Word) (c : ℕ) where
   pub moves-hit : forward ps (x ∷ v) c ≡ true → movesOn ps (x ∷ v) c ≡ 0

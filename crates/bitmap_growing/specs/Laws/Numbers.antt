@@ -17,8 +17,8 @@ use Rattle.bitmap.specs.Laws.Children.{child-number, children-index, forward-go
 use Rattle.bitmap.specs.Laws.Levels.{Child, Under, begins-byte, below-append, below-only, byLevel-distinct, byLevel-is, byLevel-order}
 use Rattle.bitmap.specs.Laws.Levels.{children-byte, children-only, indexOf-after}
 use Rattle.bitmap.specs.Laws.Maps.{tally-add, tally-same, tallyFrom}
-use Rattle.bitmap.specs.Levels.{below, byLevel, childrenFrom}
-use Rattle.bitmap.specs.Slots.{firstChild, forward}
+use Rattle.bitmap.specs.Levels.{below, byLevel, childrenFrom, forward}
+use Rattle.bitmap.specs.Slots.{firstChild}
 use Rattle.bitmap_maps.specs.Laws.Laid.{tally-children}
 use Rattle.bitmap_growing.specs.Growing.{kids, placedBy}
 

@@ -27,7 +27,7 @@ use Rattle.bitmap_maps.specs.Laws.Laid.{laid-map}
 use Rattle.bitmap_maps.specs.Laws.Masks.{through-root}
 use Rattle.bitmap_maps.specs.Laws.Vectors.{vector-first, vector-later}
 use Rattle.bitmap_maps.specs.Through.{ownTags, through}
-use Rattle.bitmap_growing.specs.Growing.{Begun, Closable, Found, Growing, Sowing, Sown, Waiting, closed, firstOf, inherits, kids, placedBy, wordOf}
+use Rattle.bitmap_growing.specs.Growing.{Begun, Closable, Found, Growing, Sowing, Sown, Waiting, closed, firstBehind, inherits, kids, placedBy, wordOf}
 use Rattle.bitmap_growing.specs.Laws.Failing.{failure-state, fails-first, fails-lower}
 use Rattle.bitmap_growing.specs.Laws.Numbers.{first-none, first-some, placed-all, placed-few, reached}
 
@@ -36,29 +36,29 @@ use Rattle.bitmap_growing.specs.Laws.Numbers.{first-none, first-some, pl
 module _ (l : List ℕ) (q k f own : ℕ) where
   closed-cell : (j : ℕ) → (j ≡ q * 19 + 16 → ⊥) → (j ≡ q * 19 + 18 → ⊥) → getD (closed l q k f own) j 0 ≡ getD l j 0
   closed-cell j a b =
-      getD-set-other (set l (q * 19 + 16) (firstOf k (onesOver l q 0 16))) (q * 19 + 18) j (inherits q l f + own) 0 b
-      ∙ getD-set-other l (q * 19 + 16) j (firstOf k (onesOver l q 0 16)) 0 a
+      getD-set-other (set l (q * 19 + 16) (firstBehind k (onesOver l q 0 16))) (q * 19 + 18) j (inherits q l f + own) 0 b
+      ∙ getD-set-other l (q * 19 + 16) j (firstBehind k (onesOver l q 0 16)) 0 a
 
   closed-length : length (closed l q k f own) ≡ length l
   closed-length =
-      length-set (set l (q * 19 + 16) (firstOf k (onesOver l q 0 16))) (q * 19 + 18) (inherits q l f + own)
-      ∙ length-set l (q * 19 + 16) (firstOf k (onesOver l q 0 16))
+      length-set (set l (q * 19 + 16) (firstBehind k (onesOver l q 0 16))) (q * 19 + 18) (inherits q l f + own)
+      ∙ length-set l (q * 19 + 16) (firstBehind k (onesOver l q 0 16))
 
   module _ (h : q * 19 + 18 < length l) where
-    closed-child : childAt (closed l q k f own) q ≡ firstOf k (onesOver l q 0 16)
+    closed-child : childAt (closed l q k f own) q ≡ firstBehind k (onesOver l q 0 16)
     unfolding numberAt
     closed-child =
-        getD-set-other (set l (q * 19 + 16) (firstOf k (onesOver l q 0 16))) (q * 19 + 18) (q * 19 + 16) (inherits q l f + own) 0 (λ e. omega arith)
-        ∙ getD-set-same l (q * 19 + 16) (firstOf k (onesOver l q 0 16)) 0 (omega arith)
+        getD-set-other (set l (q * 19 + 16) (firstBehind k (onesOver l q 0 16))) (q * 19 + 18) (q * 19 + 16) (inherits q l f + own) 0 (λ e. omega arith)
+        ∙ getD-set-same l (q * 19 + 16) (firstBehind k (onesOver l q 0 16)) 0 (omega arith)
 
     closed-vector : vectorAt (closed l q k f own) q ≡ inherits q l f + own
     unfolding numberAt
     closed-vector =
-        getD-set-same (set l (q * 19 + 16) (firstOf k (onesOver l q 0 16))) (q * 19 + 18) (inherits q l f + own) 0
-        (lt-length-set l (q * 19 + 16) (firstOf k (onesOver l q 0 16)) h)
+        getD-set-same (set l (q * 19 + 16) (firstBehind k (onesOver l q 0 16))) (q * 19 + 18) (inherits q l f + own) 0
+        (lt-length-set l (q * 19 + 16) (firstBehind k (onesOver l q 0 16)) h)
 
 -- the first child, or 0
-first-is : (k n x : ℕ) → (0 < n → x ≡ k) → (n ≡ 0 → x ≡ 0) → firstOf k n ≡ x
+first-is : (k n x : ℕ) → (0 < n → x ≡ k) → (n ≡ 0 → x ≡ 0) → firstBehind k n ≡ x
 first-is k zero x a b = sym (b refl)
 first-is k (suc n) x a b = ap (λ (t : Bool). cond t 0 k) (ne-eqb (suc n) 0 (λ e. omega arith)) ∙ sym (a (omega arith))
 
@@ -116,7 +116,7 @@ module _ {ts : List Word} {s : ℕ} {table : List ℕ} {q k : ℕ} (g : Growing 
     abbrev after : List ℕ
     after = closed mid q k f own
 
-    first-child : firstOf k (onesOver mid q 0 16) ≡ firstChild (byLevel ts) p 0 256
+    first-child : firstBehind k (onesOver mid q 0 16) ≡ firstChild (byLevel ts) p 0 256
     first-child =
         first-is k (onesOver mid q 0 16) (firstChild (byLevel ts) p 0 256)
         (λ h. first-some ts (g .lawful) q hq (omega (arith, turn-kids)) ∙ sym (g .counted))
@@ -200,13 +200,13 @@ module _ {ts : List Word} {s : ℕ} {table : List ℕ} {q k : ℕ} (g : Growing 
     turn-done n e l h = subst (λ (x : ℕ). Growing ts s l (q + 1) (k + x)) (sym (e ∙ turn-kids)) h
 
 module _ (k n : ℕ) where
-  pub first-zero : n ≡ 0 → 0 ≡ firstOf k n
+  pub first-zero : n ≡ 0 → 0 ≡ firstBehind k n
   first-zero e = sym (ap (λ (t : Bool). cond t 0 k) (eq-eqb n 0 e))
 
-  pub first-more : (n ≡ 0 → ⊥) → k ≡ firstOf k n
+  pub first-more : (n ≡ 0 → ⊥) → k ≡ firstBehind k n
   first-more h = sym (ap (λ (t : Bool). cond t 0 k) (ne-eqb n 0 h))
 
-  pub first-le : firstOf k n ≤ k
+  pub first-le : firstBehind k n ≤ k
   first-le = go (eqb n 0)
     where
       go : (b : Bool) → cond b 0 k ≤ k
@@ -226,9 +226,9 @@ module _ (q : ℕ) (l : List ℕ) (f : ℕ) where
       go zero h = absurd (h refl)
       go (suc n) h = refl
 
-pub closed-is : (l : List ℕ) (q k f own n x v : ℕ) → n ≡ onesOver l q 0 16 → x ≡ firstOf k n → v ≡ inherits q l f
+pub closed-is : (l : List ℕ) (q k f own n x v : ℕ) → n ≡ onesOver l q 0 16 → x ≡ firstBehind k n → v ≡ inherits q l f
     → set (set l (q * 19 + 16) x) (q * 19 + 18) (v + own) ≡ closed l q k f own
-closed-is l q k f own n x v en ex ev = ap₂ (λ (a b : ℕ). set (set l (q * 19 + 16) a) (q * 19 + 18) (b + own)) (ex ∙ ap (firstOf k) en) ev
+closed-is l q k f own n x v en ex ev = ap₂ (λ (a b : ℕ). set (set l (q * 19 + 16) a) (q * 19 + 18) (b + own)) (ex ∙ ap (firstBehind k) en) ev
 
 -- ---- the first state, over zeros
 

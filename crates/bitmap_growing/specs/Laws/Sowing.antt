@@ -21,8 +21,7 @@ use Rattle.bitmap.specs.Laws.Children.{forward-goes, goes}
 use Rattle.bitmap.specs.Laws.Levels.{Child, begins-byte}
 use Rattle.bitmap.specs.Laws.Maps.{onesBelow-is, tally-same}
 use Rattle.bitmap.specs.Laws.States.{states-few}
-use Rattle.bitmap.specs.Levels.{byLevel}
-use Rattle.bitmap.specs.Slots.{forward}
+use Rattle.bitmap.specs.Levels.{byLevel, forward}
 use Rattle.bitmap.specs.Steps.{failAt, numberAt, onesBelow, step, vectorAt}
 use Rattle.bitmap.specs.declared.Step.{Step}
 use Rattle.bitmap.specs.declared.Step.the-variants.{To, Wrong}

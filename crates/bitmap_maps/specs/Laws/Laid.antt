@@ -11,8 +11,8 @@ use Rattle.matching.specs.Words.{Lawful, Word}
 use Rattle.bitmap.specs.Laws.Children.{forward-goes, goes}
 use Rattle.bitmap.specs.Laws.Levels.{children-hit, children-miss}
 use Rattle.bitmap.specs.Laws.Maps.{onesOver-is, tallyFrom}
-use Rattle.bitmap.specs.Levels.{byLevel, childrenFrom}
-use Rattle.bitmap.specs.Slots.{forward, mapWord}
+use Rattle.bitmap.specs.Levels.{byLevel, childrenFrom, forward}
+use Rattle.bitmap.specs.Slots.{mapWord}
 use Rattle.bitmap.specs.Steps.{numberAt, onesOver}
 use Rattle.bitmap_maps.specs.Laid.{MapLaid}
 use Rattle.bitmap_maps.specs.Laws.Bits.{bits-same}

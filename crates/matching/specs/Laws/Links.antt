@@ -12,6 +12,7 @@ use Rattle.matching.specs.Laws.Machine.{Closed, fail-step, longest-among
 use Rattle.matching.specs.Laws.Words.{Distinct, among-append, among-head, among-one, getD-indexOf, indexOf-append, indexOf-getD, indexOf-new, snoc-inj}
 use Rattle.matching.specs.Laws.Words.{snoc-last}
 use Rattle.matching.specs.Machine.{longest, next}
+unfoldable pub use Rattle.matching.specs.Machine.{failure}
 use Rattle.matching.specs.Words.{Word, among, indexOf}
 
 -- ---- a child, or the failure link
@@ -24,10 +25,6 @@ next-child ps s c h = ap (λ (w : Word). indexOf w ps) (whole (getD ps s [] ++ c
     whole : (w : Word) → among w ps ≡ true → longest ps w ≡ w
     whole [] e = longest-nil ps
     whole (x ∷ w) e = longest-hit ps x w e
-
--- the state of the longest proper end of a state's word
-unfoldable pub failure : List Word → ℕ → ℕ
-failure ps s = indexOf (longest ps (tail (getD ps s []))) ps
 
 -- any other leads where it leads from the failure state
 pub next-failure : (ps : List Word) → Closed ps → among [] ps ≡ true → (s c : ℕ) (x : ℕ) (p : Word) → getD ps s [] ≡ x ∷ p

@@ -20,7 +20,7 @@ use Rattle.matching.specs.Words.{AllBelow, AllShort, Below, Lawful, Word
 
 -- ---- the bound
 
-begins-short : (l : ℕ) (ts : List Word) (v : Word) → AllShort l ts → beginsOne v ts ≡ true → length v ≤ l
+pub begins-short : (l : ℕ) (ts : List Word) (v : Word) → AllShort l ts → beginsOne v ts ≡ true → length v ≤ l
 unfolding beginsOne
 begins-short l [] v h e = absurd (false≢true e)
 begins-short l (t ∷ ts) v h e = go (or-cases (begins v t) (beginsOne v ts) e) (begins-short l ts v (h .1))

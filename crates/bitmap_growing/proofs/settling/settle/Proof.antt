@@ -55,7 +55,8 @@ sow-requires c κs =
     let c16 = c15 .before in
     let c22 = c16 .before .before .before .before .before .before in
     let p = c22 .pre in
-    let o = turn-found (p .2) (p .1) _ _ _ (c15 .wide .ensures ∙ c16 .number .ensures) (c12 .wide2 .ensures ∙ c13 .number2 .ensures) (c10 .number3 .ensures) in
+    let o =
+    turn-found (p .2) (p .1) _ _ _ (c15 .wide .ensures ∙ c16 .number .ensures) (c12 .wide2 .ensures ∙ c13 .number2 .ensures) (c10 .number3 .ensures) in
     (p .0, o, turn-sowing (p .2) (p .1) o (c8 .lay-map .ensures _ (o .waits)) (c5 .own-tags .ensures _ (o .waits)) _ (c3 .close .ensures .2))
 
 add-result : tie.Need-add-result
@@ -70,7 +71,8 @@ add-result c =
     let c19 = c18 .before in
     let c25 = c19 .before .before .before .before .before .before in
     let p = c25 .pre in
-    let o = turn-found (p .2) (p .1) _ _ _ (c18 .wide .ensures ∙ c19 .number .ensures) (c15 .wide2 .ensures ∙ c16 .number2 .ensures) (c13 .number3 .ensures) in
+    let o =
+    turn-found (p .2) (p .1) _ _ _ (c18 .wide .ensures ∙ c19 .number .ensures) (c15 .wide2 .ensures ∙ c16 .number2 .ensures) (c13 .number3 .ensures) in
     let h = turn-closable (p .2) (p .1) o (c11 .lay-map .ensures _ (o .waits)) (c8 .own-tags .ensures _ (o .waits)) in
     omega (arith, h .few, c6 .close .ensures .1)
 
@@ -90,7 +92,8 @@ returns c =
     let c19 = c18 .before in
     let c25 = c19 .before .before .before .before .before .before in
     let p = c25 .pre in
-    let o = turn-found (p .2) (p .1) _ _ _ (c18 .wide .ensures ∙ c19 .number .ensures) (c15 .wide2 .ensures ∙ c16 .number2 .ensures) (c13 .number3 .ensures) in
+    let o =
+    turn-found (p .2) (p .1) _ _ _ (c18 .wide .ensures ∙ c19 .number .ensures) (c15 .wide2 .ensures ∙ c16 .number2 .ensures) (c13 .number3 .ensures) in
     turn-done (p .2) (p .1) o (c11 .lay-map .ensures _ (o .waits)) (c8 .own-tags .ensures _ (o .waits)) (c6 .close .result) (c6 .close .ensures .0)
     _ (c2 .sow .ensures)
 
