@@ -1,9 +1,7 @@
 -- OVER BUILT TABLES THE BITMAP MACHINE READS AS THE WHOLE-BYTE MACHINE DOES: the same records, bytes taken and stops on every piece, however cut, and
--- places of the same prefixes; its failure moves are those of the definition, and from the start no more than the bytes taken.
+-- places of the same prefixes.
 use Prim.Native.Nat.{ℕ}
-use mathlib.Core.List.{List, [], _∷_}
-use mathlib.Core.Path.{_≡_}
-use lib.ListN.{length}
+use mathlib.Core.List.{List}
 use Rattle.matching.specs.Machine.{walk}
 use Rattle.matching.specs.Reading.{placeAfter}
 use Rattle.matching.specs.Words.{Below, Word}
@@ -13,14 +11,14 @@ use Rattle.history.specs.Readings.{AsBuilt, Turn, TurnsOfBytes, inTurn, startPl
 use Rattle.bitmap.specs.Levels.{byLevel}
 use Rattle.bitmap_reading.specs.Outside.{readMapOf}
 use Rattle.bitmap_tables.specs.Building.{mapTableOf}
-use Rattle.bitmap_alike.specs.Laws.Rows.{alike-from-start, alike-piece}
+use Rattle.bitmap_alike.specs.Laws.Beside.{alike-from-start, alike-piece}
 use Rattle.bitmap_alike.specs.Readings.{AlikeReads, AlikeToWhole, MapAsBuilt, mapInTurn}
 
 module _ (set run run′ : List ℕ) (ts : List Word) (b : MapAsBuilt set run ts) (b′ : AsBuilt 8 1 set run′ ts) where
-  -- EVERY PIECE, after any input v: from the state after v over the bitmap table, and from the place after v over the whole-byte table
-  pub each-piece : (v piece : Word) (list : ℕ) → Below 256 v → Below 256 piece
-      → AlikeReads ts v piece (readMapOf (mapTableOf set run) (walk (byLevel ts) 0 v) (length v) piece list)
-      (readOf 8 1 (tableOf 8 1 set run′) (placeAfter 8 ts 0 1 v) (length v) piece list)
+  -- EVERY PIECE, from the states after any input, whatever was counted before
+  pub each-piece : (v piece : Word) (count list : ℕ) → Below 256 v → Below 256 piece
+      → AlikeReads ts v count piece (readMapOf (mapTableOf set run) (walk (byLevel ts) 0 v) count piece list)
+      (readOf 8 1 (tableOf 8 1 set run′) (placeAfter 8 ts 0 1 v) count piece list)
   each-piece = alike-piece set run run′ ts b b′
 
   -- HOWEVER CUT: the same row of readings from the start, with lists of any length

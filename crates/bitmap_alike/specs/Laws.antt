@@ -1,2 +1,3 @@
 -- How the theorems are shown.
-pub mod Rows
+pub mod Alone
+pub mod Beside

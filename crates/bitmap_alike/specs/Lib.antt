@@ -1,4 +1,6 @@
--- Readings one after another over a bitmap table, and that they are those of the whole-byte machine.
+-- Readings one after another over a bitmap table: that they find what the tags say, and are those of the whole-byte machine.
 pub mod Readings
 pub mod Laws
+pub mod AsDemanded
 pub mod AsWhole
+pub mod Sample

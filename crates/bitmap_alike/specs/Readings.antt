@@ -1,16 +1,18 @@
 -- Readings one after another over a bitmap table as building left it, and when they are those over the whole-byte table of the same set.
 use Rattle.tables.specs.declared.Built.the-variants as B
-use Prim.Native.Nat.{_+_, _<_, _≤_, ℕ}
+use Prim.Native.Nat.{_+_, _/_, _<_, _≤_, suc, ℕ}
 use mathlib.Core.List.{List, [], _++_, _∷_}
+use mathlib.Core.Logic.{_⊎_}
 use mathlib.Core.Path.{_≡_}
 use lib.ListN.{getD, length, take}
 use Rattle.matching.specs.Limits.{largest}
-use Rattle.matching.specs.Machine.{prefixes}
-use Rattle.matching.specs.Occurrence.{Occurrence}
+use Rattle.matching.specs.Machine.{longest, prefixes, walk}
+use Rattle.matching.specs.Occurrence.{Occurrence, occurrences, occurrencesFrom, tagsEnding}
 use Rattle.matching.specs.Reading.{Outcome}
 use Rattle.matching.specs.Stepping.{OutcomeOf}
 use Rattle.matching.specs.Words.{Below, Word}
 use Rattle.matching.specs.declared.Stop.{Stop}
+use Rattle.matching.specs.declared.Stop.the-variants.{All, Full}
 use Rattle.reading.specs.Outside.{ReadAt, ReadOf, readTo, refusedRead}
 use Rattle.reading.specs.declared.ReadRefusal.the-variants.{Long}
 use Rattle.tagset.specs.Grammar.{goodSet, setOf}
@@ -56,21 +58,53 @@ mapInTurn table state count (t ∷ turns) =
     onMapTurn (readMapOf table state count (t .piece) (t .list)) (t .piece)
     (mapInTurn table state count turns) (λ r. mapInTurn table (r .place .state) (count + r .taken) turns)
 
--- a reading after the input v over the bitmap table, and one over the whole-byte table: both are LONG; or both take the same bytes, find the same
--- records, stop for the same reason and come to the same prefix, and the first reports the definition's failure moves of the bytes taken
-pub data AlikeReads (ts : List Word) (v piece : Word) : ReadAt Standing → ReadOf → Type 0 where
-  bothLong : largest < length v + length piece → AlikeReads ts v piece (refusedRead Long) (refusedRead Long)
-  bothRead : (r : OutcomeOf Standing) (r′ : Outcome) → length v + length piece ≤ largest
-      → r .taken ≡ r′ .taken → r .found ≡ r′ .found → r .stop ≡ r′ .stop
-      → getD (byLevel ts) (r .place .state) [] ≡ getD (prefixes ts) (getD (r′ .place) 0 0) []
-      → r .place .moves ≡ movesIn (prefixes ts) v (take (r .taken) piece)
-      → AlikeReads ts v piece (readTo r) (readTo r′)
+-- what a reading r of a piece after the input v comes to, with count bytes counted before and room for so many records: it is never damaged, finds the
+-- occurrences that end in the bytes it takes, and takes every byte up to the first whose matches find no room; its state is the one after those bytes,
+-- and its moves are the definition's for them, each paid for by a byte taken or by a byte of the prefix at the start
+pub record AsTags (ts : List Word) (v : Word) (count : ℕ) (piece : Word) (room : ℕ) (r : OutcomeOf Standing) : Type 0 where
+  pub part : r .taken ≤ length piece
+  pub found : r .found ≡ occurrencesFrom ts v count (take (r .taken) piece)
+  pub fits : length (r .found) ≤ room
+  pub stopped : ((r .stop ≡ All) × (r .taken ≡ length piece))
+      ⊎ ((r .stop ≡ Full) × (r .taken < length piece) × (room < length (r .found) + length (tagsEnding ts (v ++ take (suc (r .taken)) piece))))
+  pub state : r .place .state ≡ walk (byLevel ts) 0 (v ++ take (r .taken) piece)
+  pub moves : r .place .moves ≡ movesIn (prefixes ts) v (take (r .taken) piece)
+  pub few : r .place .moves ≤ length (longest (prefixes ts) v) + r .taken
 
--- the same of two rows of readings from the start, and that the moves are no more than the bytes taken
+-- a read after v: it is refused only where it is LONG
+pub data MapReads (ts : List Word) (v : Word) (count : ℕ) (piece : Word) (list : ℕ) : ReadAt Standing → Type 0 where
+  isLong : largest < count + length piece → MapReads ts v count piece list (refusedRead Long)
+  isRead : count + length piece ≤ largest → (r : OutcomeOf Standing) → AsTags ts v count piece (list / 2) r → MapReads ts v count piece list (readTo r)
+
+-- a row of readings from the start: its records are the occurrences in what it took, its state is the one after that, its moves are the definition's for
+-- it, and no more than the bytes
+pub record MapRowDone (ts : List Word) (w : MapRow) : Type 0 where
+  pub found : w .found ≡ occurrences ts (w .taken)
+  pub state : w .state ≡ walk (byLevel ts) 0 (w .taken)
+  pub moves : w .moves ≡ movesIn (prefixes ts) [] (w .taken)
+  pub few : w .moves ≤ length (w .taken)
+
+-- ---- beside the whole-byte machine
+
+-- the states of two places have the same prefix, the longest suffix of an input that is a prefix of a tag
+pub record SamePrefix (ts : List Word) (input : Word) (state : ℕ) (place : List ℕ) : Type 0 where
+  pub whole : place ≡ walk (prefixes ts) 0 input ∷ []
+  pub of-state : getD (byLevel ts) state [] ≡ longest (prefixes ts) input
+  pub of-place : getD (prefixes ts) (walk (prefixes ts) 0 input) [] ≡ longest (prefixes ts) input
+  pub is-state : state < length (byLevel ts)
+
+-- a read after the input v over the bitmap table, and one over the whole-byte table: both are LONG; or both take the same bytes, find the same records
+-- and stop for the same reason, and their places have the same prefix
+pub data AlikeReads (ts : List Word) (v : Word) (count : ℕ) (piece : Word) : ReadAt Standing → ReadOf → Type 0 where
+  bothLong : largest < count + length piece → AlikeReads ts v count piece (refusedRead Long) (refusedRead Long)
+  bothRead : (r : OutcomeOf Standing) (r′ : Outcome) → count + length piece ≤ largest
+      → r .taken ≡ r′ .taken → r .found ≡ r′ .found → r .stop ≡ r′ .stop
+      → SamePrefix ts (v ++ take (r .taken) piece) (r .place .state) (r′ .place)
+      → AlikeReads ts v count piece (readTo r) (readTo r′)
+
+-- the same of two rows of readings from the start
 pub record AlikeToWhole (ts : List Word) (a : MapRow) (b : Row) : Type 0 where
   pub taken : a .taken ≡ b .taken
   pub found : a .found ≡ b .found
   pub stops : a .stops ≡ b .stops
-  pub prefix : getD (byLevel ts) (a .state) [] ≡ getD (prefixes ts) (getD (b .place) 0 0) []
-  pub moves : a .moves ≡ movesIn (prefixes ts) [] (a .taken)
-  pub few : a .moves ≤ length (a .taken)
+  pub prefix : SamePrefix ts (a .taken) (a .state) (b .place)

@@ -1,26 +1,33 @@
 -- WHAT A READ OVER ANY RUN OF NUMBERS PROMISES: when it is refused, exactly; that a refused one changes nothing; and what every one keeps.
-use Prim.Native.Nat.{_*_, _+_, _/_, _<_, _≤_, ℕ}
-use mathlib.Core.Bool.{Bool, false, true}
+use Prim.Native.Nat.{_+_, _/_, _<_, _≤_, ℕ}
+use mathlib.Core.Bool.{Bool}
 use mathlib.Core.List.{List, []}
 use mathlib.Core.Logic.{_↔_}
-use mathlib.Core.Path.{_∙_, _≡_, ap, refl, sym}
+use mathlib.Core.Path.{_∙_, _≡_, ap, refl, subst}
 use native.Mathlib.Omega.{arith}
 use lib.Dec.{ltb}
-use lib.ListN.{getD, length}
+use lib.ListN.{length}
 use borrow.Author.Tests.{le-ltb, lt-ltb, ltb-false, ltb-true}
 use Rattle.matching.specs.Refusal.{firstOf}
-use Rattle.matching.specs.Stepping.{OutcomeOf}
+use Rattle.matching.specs.Stepping.{OutcomeOf, goesTo}
 use Rattle.matching.specs.Words.{Word}
-use Rattle.reading.specs.Laws.Outside.{KeptBy, by-grounds, by-keeps, by-long-iff, by-number, by-place-iff, numberBy, placeBy, recordsBy, takenBy}
+use Rattle.reading.specs.Laws.Outside.{KeptBy, by-grounds, by-keeps, by-long-iff, by-number, by-place-iff, numberBy}
 use Rattle.reading.specs.Outside.{ReadAt, listBy, readTo, refusedRead}
 use Rattle.reading.specs.Refusals.{RefusedWith, endingNumber, readGrounds}
 use Rattle.reading.specs.declared.Ending.{Ending}
-use Rattle.reading.specs.declared.Ending.the-variants.{Refused, Stopped}
+use Rattle.reading.specs.declared.Ending.the-variants.{Refused}
 use Rattle.reading.specs.declared.ReadRefusal.{ReadRefusal}
 use Rattle.reading.specs.declared.ReadRefusal.the-variants.{Long, Place}
 use Rattle.bitmap.specs.Slots.{slotsOf}
 use Rattle.bitmap_reading.specs.Outside.{mapBy, readMapOf}
-use Rattle.bitmap_reading.specs.Reading.{Standing, mapStep, readMap}
+use Rattle.bitmap_reading.specs.Reading.{Standing, landed, mapStep, readMap}
+use Rattle.matching.specs.Laws.Stepping.{Rising, Why, readBy-ordered, went}
+use Rattle.matching.specs.Laws.AnyTable.{onesOf-rising}
+use Rattle.matching.specs.Occurrence.{Ordered}
+use Rattle.matching.specs.Reading.{onesOf}
+use Rattle.bitmap.specs.Steps.{step, vectorAt}
+use Rattle.bitmap.specs.declared.Step.{Step}
+use Rattle.bitmap.specs.declared.Step.the-variants.{To, Wrong}
 
 -- the answer names the refusal
 map-refused-iff : (place : ℕ) (r : ReadAt Standing) (why : ReadRefusal) → (mapBy place r .ending ≡ Refused why) ↔ (r ≡ refusedRead why)
@@ -82,7 +89,8 @@ module _ (table : List ℕ) (place count : ℕ) (piece : Word) (len : ℕ) where
   -- the same in order: the number is that of the first ground that holds
   pub map-refusals : endingNumber ending ≡ firstOf (readGrounds (ltb place slots) (ltb 4294967295 (count + length piece)))
   unfolding readMapOf
-  map-refusals = map-number place answer ∙ by-grounds (readMap slots table place count (len / 2) piece) (ltb place slots) (ltb 4294967295 (count + length piece))
+  map-refusals =
+      map-number place answer ∙ by-grounds (readMap slots table place count (len / 2) piece) (ltb place slots) (ltb 4294967295 (count + length piece))
 
 -- what every read keeps: it takes no more than the piece, writes no more than the room, keeps the list's length and the room that it does not use; with
 -- 0 taken the place, the list and the moves are what they were; and it stops ALL only if the piece is taken
@@ -107,3 +115,22 @@ map-idle table place count piece list e = go _ (map-keeps table place count piec
         → (mapBy place r .place ≡ place) × (mapBy place r .records ≡ 0) × (mapBy place r .moves ≡ 0) × (listBy list r ≡ list)
     go (refusedRead why) k e = (refl, refl, refl, refl)
     go (readTo o) k e = let i = k .idle e in (ap (λ (x : Standing). x .state) (i .0), i .1, ap (λ (x : Standing). x .moves) (i .0), i .2)
+
+-- why a reading over any run of numbers stops: at the piece's end; or FULL before a byte whose matches find no room; or DAMAGED before a byte on whose
+-- way a number is wrong, which `way-iff` of the step says in the rules' words
+pub map-stops : (s : ℕ) (table : List ℕ) (place count room : ℕ) (piece : Word) → Why (mapStep s table) room piece (readMap s table place count room piece)
+unfolding readMap
+map-stops s table place count room piece = went (mapStep s table) piece (record { state = place; moves = 0 }) count room .why
+
+-- the tags of a step rise, and so the records are by end, then by tag number
+landed-rising : (table : List ℕ) (moves : ℕ) (t : Step) (to : Standing) (tags : List ℕ) → landed table moves t ≡ goesTo to tags → Rising tags
+landed-rising table moves (To n more) to tags e =
+    let same : onesOf 0 16 (vectorAt table n) ≡ tags = cc in
+    subst Rising same (onesOf-rising 16 0 (vectorAt table n))
+landed-rising table moves Wrong to tags e = absurd (let z : _≡_ {A = ℕ} 0 1 = cc in omega arith)
+
+pub map-ordered : (s : ℕ) (table : List ℕ) (place count room : ℕ) (piece : Word) → Ordered (readMap s table place count room piece .found)
+unfolding readMap mapStep
+map-ordered s table place count room piece =
+    readBy-ordered (mapStep s table) (λ p c to tags e. landed-rising table (p .moves) (step s table (p .state) c) to tags e) piece
+    (record { state = place; moves = 0 }) count room

@@ -9,7 +9,7 @@ use Rattle.passing.specs.Quiet.{PassesBy}
 use Rattle.bitmap.specs.Steps.{failAt, inMap, step}
 use Rattle.bitmap.specs.declared.Step.{Step}
 use Rattle.bitmap.specs.declared.Step.the-variants.{To}
-use Rattle.bitmap_reading.specs.Reading.{Standing, mapStep}
+use Rattle.bitmap_reading.specs.Reading.{mapStep}
 use Rattle.bitmap_reading.specs.declared.rows.Came.{Came}
 
 -- where a number is a state, the byte leads to it from state 0

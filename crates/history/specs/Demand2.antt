@@ -76,7 +76,7 @@ module _ (n k : ℕ) (set run : List ℕ) (ts : List Word) (b : AsBuilt n k set 
   -- EACH READING, after any input, is as the demand has it, its new place too
   pub each-reading : (v piece : Word) (list : ℕ) → Below 256 v → Below 256 piece
       → DemandedRead n k ts v piece list (readOf n k table (placeAfter n ts 0 k v) (length v) piece list)
-  each-reading v piece list hv hp = subst (DemandedRead n k ts v piece list) (sym (read-is n k set run ts b v piece list hv hp))
+  each-reading v piece list hv hp = subst (DemandedRead n k ts v piece list) (sym (read-is n k set run ts b v piece (length v) list hv hp))
       (go (ltb largest (length v + length piece)) refl)
     where
       go : (long : Bool) → ltb largest (length v + length piece) ≡ long
@@ -116,7 +116,7 @@ module _ (n k : ℕ) (set run : List ℕ) (ts : List Word) (b : AsBuilt n k set 
       → (r : Outcome) × (readOf n k table (placeAfter n ts 0 k v) (length v) (c ∷ piece) list ≡ readTo r) × (0 < r .taken)
   advances v c piece list hv hp some short = (
     expected n k ts v (length v) (list / 2) (c ∷ piece),
-    read-is n k set run ts b v (c ∷ piece) list hv hp ∙ ap (readBy (expected n k ts v (length v) (list / 2) (c ∷ piece)) true) (ltb-no _ _ short),
+    read-is n k set run ts b v (c ∷ piece) (length v) list hv hp ∙ ap (readBy (expected n k ts v (length v) (list / 2) (c ∷ piece)) true) (ltb-no _ _ short),
     expected-advances n k ts c piece v (length v) (list / 2) (omega (arith, lawful n k set run ts b .few, some)),
   )
 

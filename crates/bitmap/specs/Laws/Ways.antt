@@ -1,9 +1,9 @@
 -- A step goes the way that the rules say, and there is no other.
-use Prim.Native.Nat.{_<_, _≤_, suc, zero, ℕ}
+use Prim.Native.Nat.{_<_, suc, zero, ℕ}
 use mathlib.Core.Bool.{false, true}
 use mathlib.Core.List.{List}
 use mathlib.Core.Logic.{_↔_, _⊎_, inl, inr}
-use mathlib.Core.Path.{_∙_, _≡_, ap, refl, subst, sym}
+use mathlib.Core.Path.{_∙_, _≡_, ap, subst, sym}
 use native.Mathlib.Nat.{not-suc-le-zero}
 use native.Mathlib.Omega.{arith}
 use lib.Dec.{eqb, ltb}

@@ -1,4 +1,4 @@
--- `bitmap_growing::begin` meets its contract.
+-- All numbers are 0 but the mask of the start state.
 use Rattle.bitmap_growing.specs.Laws.Settling.{begun-is}
 use borrow.Author.Needs.{needs}
 use Rattle.bitmap_growing.proofs.begin.Statement.{statement}

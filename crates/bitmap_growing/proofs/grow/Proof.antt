@@ -1,4 +1,4 @@
--- `bitmap_growing::grow` meets its contract.
+-- The states below q are settled, and their children placed.
 use Prim.Native.Nat.{_-_, _≤_}
 use mathlib.Core.Path.{_∙_, _≡_, refl}
 use native.Mathlib.Omega.{arith}

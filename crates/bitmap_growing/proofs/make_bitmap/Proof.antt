@@ -1,4 +1,4 @@
--- `bitmap_growing::make_bitmap` meets its contract.
+-- Begun, and then grown.
 use native.Mathlib.Omega.{arith}
 use Rattle.bitmap_growing.specs.Laws.Settling.{begin-fits, begun-growing}
 use borrow.Author.Needs.{needs}

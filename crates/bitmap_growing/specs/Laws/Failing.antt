@@ -47,7 +47,8 @@ module _ (ts : List Word) (l : Lawful ts) where
     unfolding failTo
     failing zero held f e c hc on =
         let w : wordOf ts 0 ≡ [] = word-zero ts l in
-        let h : among (c ∷ []) ps ≡ true = subst (λ (v : Word). among (v ++ c ∷ []) ps ≡ true) w (forward-goes ts (l .short) (l .bytes) (wordOf ts 0) c ∙ on) in
+        let h : among (c ∷ []) ps ≡ true =
+        subst (λ (v : Word). among (v ++ c ∷ []) ps ≡ true) w (forward-goes ts (l .short) (l .bytes) (wordOf ts 0) c ∙ on) in
         sym (ap (λ (v : Word). failure ps (indexOf (v ++ c ∷ []) ps)) w ∙ failure-first ps c h ∙ level-first ts l)
     failing (suc q) held f e c hc on =
         let t = level-tree ts l in

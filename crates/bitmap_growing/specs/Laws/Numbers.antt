@@ -101,7 +101,8 @@ module _ (ts : List Word) (l : Lawful ts) where
 
   -- all are placed when all are settled, and never more
   pub placed-all : placedBy ts (length all) ≡ length all
-  placed-all = ap (λ (x : List Word). suc (length (below ts x))) (take-all (length all) all (omega arith)) ∙ sym (ap {B = ℕ} length (byLevel-is ts (l .short)))
+  placed-all =
+      ap (λ (x : List Word). suc (length (below ts x))) (take-all (length all) all (omega arith)) ∙ sym (ap {B = ℕ} length (byLevel-is ts (l .short)))
 
   module _ (q : ℕ) (hq : q < length all) where
     abbrev p : Word
@@ -187,7 +188,8 @@ module _ (ts : List Word) (l : Lawful ts) where
 
       go : (same w [] ≡ true) ⊎ (among w (below ts all) ≡ true) → Under ts all w
       go (inl e) =
-          let z : q ≡ 0 = sym (indexOf-getD all q (byLevel-distinct ts (l .short)) hq) ∙ ap (λ (x : Word). indexOf x all) (same-eq w [] e) ∙ level-first ts l in
+          let z : q ≡ 0 =
+          sym (indexOf-getD all q (byLevel-distinct ts (l .short)) hq) ∙ ap (λ (x : Word). indexOf x all) (same-eq w [] e) ∙ level-first ts l in
           absurd (omega (arith, h, z))
       go (inr e) = below-only ts all w e
 
@@ -207,7 +209,8 @@ module _ (ts : List Word) (l : Lawful ts) where
       let rl : r < length all = indexOf-lt p all (u .among-is) in
       let wq : indexOf (getD all n []) all ≡ n = indexOf-getD all n (byLevel-distinct ts (l .short)) hq in
       let o : r < indexOf (getD all n []) all =
-      byLevel-order ts (l .short) p (getD all n []) (u .among-is) (among-getD all n hq) (omega (arith, ap {B = ℕ} length (u .is), length-append p (c ∷ []))) in
+      byLevel-order ts (l .short) p (getD all n []) (u .among-is) (among-getD all n hq) (omega (arith, ap {B = ℕ} length (u .is), length-append p (c ∷ [])))
+      in
       let b : goes ts (getD all r []) c ≡ true =
       subst (λ (x : Word). goes ts x c ≡ true) (sym rp) (subst (λ (x : Word). beginsOne x ts ≡ true) (u .is) (u .begun)) in
       let hc : c < 256 = begins-byte 256 ts (getD all r []) c (l .bytes) b in

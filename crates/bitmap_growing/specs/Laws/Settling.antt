@@ -98,7 +98,8 @@ module _ {ts : List Word} {s : ℕ} {table : List ℕ} {q k : ℕ} (g : Growing 
     vector-is (suc n) e =
         let low : failure (byLevel ts) q < q = fails-lower ts (g .lawful) q hq (omega arith) in
         let at : vectorAt mid f ≡ vector ts (wordOf ts (failure (byLevel ts) q)) =
-        ap (vectorAt mid) (o .fails) ∙ laid-other (failure (byLevel ts) q) 18 (λ z. omega (arith, low)) (omega arith) ∙ g .marks (failure (byLevel ts) q) low in
+        ap (vectorAt mid) (o .fails) ∙ laid-other (failure (byLevel ts) q) 18 (λ z. omega (arith, low)) (omega arith)
+        ∙ g .marks (failure (byLevel ts) q) low in
         ap₂ _+_ at eo ∙ sym (vector-later ts (g .lawful) q (omega arith) hq)
 
     pub turn-kids : onesOver mid q 0 16 ≡ kids ts q

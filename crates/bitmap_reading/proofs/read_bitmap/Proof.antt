@@ -1,3 +1,4 @@
+-- By the verdict: a refusal changes nothing, and otherwise the loop answers.
 use Prim.Native.Nat.{_+_}
 use mathlib.Core.Bool.{false, true}
 use mathlib.Core.Path.{_∙_, _≡_, ap, refl, sym}
@@ -12,27 +13,16 @@ use Rattle.reading.specs.Refusals.{readGrounds, verdictNumber}
 use Rattle.bitmap_reading.specs.Laws.Outside.{map-answer, map-list-long, map-reads, map-refused}
 use Rattle.bitmap_reading.proofs.read_bitmap.Statement.{statement}
 use Rattle.bitmap_reading.proofs.read_bitmap.Tie as tie
-use Rattle.bitmap_reading.proofs.read_bitmap.Reads as reads
-use Rattle.bitmap_reading.proofs.read_bitmap.Lts as lts
-use Rattle.bitmap.proofs.map_slots.Reads as map-slots-reads
-use Rattle.bitmap_reading.proofs.walks.on_bitmap.Reads as on-bitmap-reads
-use Rattle.passing.proofs.places.wide.Reads as wide-reads
-use Rattle.reading.proofs.refusals.judge.Reads as judge-reads
-use Rattle.reading.proofs.refusals.too_long.Reads as too-long-reads
 
--- src/lib.rt:36:9
 map-slots-requires : tie.Need-map-slots-requires
 map-slots-requires c κs = search needs
 
--- src/lib.rt:37:9
 wide-requires : tie.Need-wide-requires
 wide-requires c κs = search needs
 
--- src/lib.rt:39:9
 too-long-requires : tie.Need-too-long-requires
 too-long-requires c κs = search needs
 
--- src/lib.rt:40:9
 judge-requires : tie.Need-judge-requires
 judge-requires c κs = search needs
 
@@ -46,14 +36,13 @@ verdict-is c = rw (c .before .before .wide .ensures, c .before .too-long .ensure
 -- where it is to go, the state is below s and the count has room
 goes : (c : tie.After-enum-told)
     → let args = c .before .before .before .before .before .before .before .before .before .args in
-    (ltb (args .place) (c .before .before .before .before .before .map-slots .result) ≡ true) × (ltb 4294967295 (args .count + length (args .piece .now)) ≡ false)
+    (ltb (args .place) (c .before .before .before .before .before .map-slots .result) ≡ true) ×
+    (ltb 4294967295 (args .count + length (args .piece .now)) ≡ false)
 goes c = first-none _ _ (sym (ap verdictNumber (c .enum-told .given .1)) ∙ verdict-is (c .before .before))
 
--- src/lib.rt:41:28
 enum-known-verdict : tie.Need-enum-known-verdict
 enum-known-verdict c = search needs
 
--- src/lib.rt:42:9
 returns : tie.Need-returns
 returns c =
     let a = c .before .before .before .before .before .before .before .before .before .before .args in
@@ -64,28 +53,31 @@ returns c =
 enum-told : tie.Need-enum-told
 enum-told c = search needs
 
--- src/lib.rt:50:9
 on-bitmap-requires : tie.Need-on-bitmap-requires
 on-bitmap-requires c κs =
-    let a = c .before .before .before .before .before .before .before .before .before .before .args in
-    let m = c .before .before .before .before .before .before .map-slots in
+    let c5 = c .before .before .before .before .before in
+    let c6 = c5 .before in
+    let c10 = c6 .before .before .before .before in
+    let a = c10 .args in
+    let m = c6 .map-slots in
     let g = goes (c .before) in
     let l = ltb-false 4294967295 (a .count + length (a .piece .now)) (g .1) in
     let b = ltb-true (a .place) (m .result) (g .0) in
-    (omega (arith, m .ensures), (omega (arith, m .ensures), (omega (arith, c .before .before .before .before .before .wide .ensures, b), omega (arith, l))))
+    (omega (arith, m .ensures), (omega (arith, m .ensures), (omega (arith, c5 .wide .ensures, b), omega (arith, l))))
 
--- src/lib.rt:51:14
 cast-at : tie.Need-cast-at
-cast-at c = omega (arith, c .before .before .before .on-bitmap .ensures .below, c .before .before .before .before .before .before .before .before .before .before .map-slots .ensures)
+cast-at c =
+    let c3 = c .before .before .before in
+    let c10 = c3 .before .before .before .before .before .before .before in
+    omega (arith, c3 .on-bitmap .ensures .below, c10 .map-slots .ensures)
 
--- src/lib.rt:26:1
 same-length : tie.Need-same-length
 same-length c =
     let a = c .before .before .before .before .before .before .before .before .before .before .before .before .before .before .args in
-    map-list-long (c .before .before .before .before .before .before .before .before .before .before .map-slots .result) (a .table .now) (c .before .before .before .before .before .before .before .before .before .wide .result) (a .count) (a .piece .now) (a .list .now) _
+    map-list-long (c .before .before .before .before .before .before .before .before .before .before .map-slots .result) (a .table .now)
+    (c .before .before .before .before .before .before .before .before .before .wide .result) (a .count) (a .piece .now) (a .list .now) _
     (c .before .before .before .on-bitmap .ensures .list)
 
--- src/lib.rt:26:1
 returns-2 : tie.Need-returns-2
 returns-2 c =
     let a = c .before .before .before .before .before .before .before .before .before .before .before .before .before .before .args in

@@ -1,6 +1,6 @@
 -- What comes before the loop and after it.
 use Prim.Native.Nat.{_+_, _/_, ℕ}
-use mathlib.Core.Bool.{Bool, false, true}
+use mathlib.Core.Bool.{false, true}
 use mathlib.Core.List.{List}
 use mathlib.Core.Path.{_∙_, _≡_, ap, refl}
 use native.Mathlib.Omega.{arith}

@@ -1,7 +1,7 @@
 -- Over a table that holds the machine, a reading takes, finds and stops as the tags say, and its moves are those of the definition.
 use Prim.Native.Nat.{_+_, _<_, ℕ}
 use mathlib.Core.List.{List, [], _++_, _∷_}
-use mathlib.Core.Path.{_∙_, _≡_, ap, refl, subst, sym}
+use mathlib.Core.Path.{_∙_, _≡_, ap, refl, sym}
 use native.Mathlib.Omega.{arith}
 use lib.ListN.{getD, length, take}
 use Rattle.matching.specs.Laws.Bits.{onesOf-tagsEnding}
@@ -10,11 +10,10 @@ use Rattle.matching.specs.Laws.Machine.{walk-snoc}
 use Rattle.matching.specs.Laws.Prefixes.{lt-tree, vector-tree, word-tree}
 use Rattle.matching.specs.Laws.Stepping.{bothGo}
 use Rattle.matching.specs.Machine.{longest, next, prefixes, walk}
-use Rattle.matching.specs.Occurrence.{Occurrence, tagsEnding}
+use Rattle.matching.specs.Occurrence.{tagsEnding}
 use Rattle.matching.specs.Reading.{onesOf}
-use Rattle.matching.specs.Stepping.{OutcomeOf, goesTo, inputStep, readBy}
+use Rattle.matching.specs.Stepping.{OutcomeOf, inputStep, readBy}
 use Rattle.matching.specs.Words.{Below, Lawful, Word}
-use Rattle.matching.specs.declared.Stop.{Stop}
 use Rattle.bitmap.specs.Laws.Built.{Holds, all-settled, led, level-first, level-tags, level-tree}
 use Rattle.bitmap.specs.Laws.Levels.{byLevel-same}
 use Rattle.bitmap.specs.Laws.Moves.{moves-longest, movesIn-append, movesIn-same, movesIn-snoc}
@@ -60,7 +59,8 @@ module _ (ts : List Word) (lawful : Lawful ts) (s : ℕ) (table : List ℕ) (hel
     stands-on p u c r hc =
         let e : step s table (p .state) c ≡ To (after (u ++ c ∷ [])) (movesOn ps u c) = ap (λ (q : ℕ). step s table q c) (r .0) ∙ leads u c hc in
         rw (map-goes s table (p .state) (p .moves) c (after (u ++ c ∷ [])) (movesOn ps u c) e, tags-after (u ++ c ∷ []), input-step (tagsEnding ts) u c)
-        (bothGo (record { state = after (u ++ c ∷ []); moves = p .moves + movesOn ps u c }) (u ++ c ∷ []) (tagsEnding ts (u ++ c ∷ [])) (refl, omega (arith, r .1, movesIn-snoc ps u c)))
+        (bothGo (record { state = after (u ++ c ∷ []); moves = p .moves + movesOn ps u c }) (u ++ c ∷ []) (tagsEnding ts (u ++ c ∷ []))
+        (refl, omega (arith, r .1, movesIn-snoc ps u c)))
 
     -- after the input v, a reading r of w does what the reading of the tags does
     pub record MapDone (count room : ℕ) (w : Word) (r : OutcomeOf Standing) : Type 0 where
@@ -73,7 +73,8 @@ module _ (ts : List Word) (lawful : Lawful ts) (s : ℕ) (table : List ℕ) (hel
     pub map-done : (w : Word) (count room : ℕ) → Below 256 w → MapDone count room w (readMap s table (after v) count room w)
     unfolding readMap
     map-done w count room hw =
-        let t = follows 256 (mapStep s table) (tagsEnding ts) Stands stands-on w (record { state = after v; moves = 0 }) v count room (refl, omega arith) hw in
+        let t =
+        follows 256 (mapStep s table) (tagsEnding ts) Stands stands-on w (record { state = after v; moves = 0 }) v count room (refl, omega arith) hw in
         let r = readBy (mapStep s table) (record { state = after v; moves = 0 }) count room w in
         let d = done-by (tagsEnding ts) w v count room in
         let u : Word = v ++ take (r .taken) w in

@@ -1,9 +1,9 @@
 -- What the row of state 0 tells, and passing by it.
 use Prim.Native.Nat.{_*_, _+_, _<_, _^_, _≤_, suc, zero, ℕ}
 use mathlib.Core.Bool.{Bool, false, false≢true, not, true}
-use mathlib.Core.List.{List, []}
+use mathlib.Core.List.{List}
 use mathlib.Core.Logic.{_⊎_, inl, inr}
-use mathlib.Core.Path.{_∙_, _≡_, ap, ap₂, refl, subst, sym}
+use mathlib.Core.Path.{_∙_, _≡_, ap, refl, subst, sym}
 use native.Mathlib.Decide.{ℕ-discrete}
 use native.Mathlib.Nat.{mul-le-mul}
 use native.Mathlib.Omega.{arith}
@@ -16,13 +16,11 @@ use Rattle.passing.specs.Laws.Runs.{or-zero}
 use Rattle.matching.specs.Reading.{onesOf}
 use Rattle.matching.specs.Stepping.{goesTo}
 use Rattle.bitmap.specs.Laws.Steps.{sound, step-fail}
-use Rattle.bitmap.specs.Steps.{failAt, inMap, moved, numberAt, step, vectorAt}
-use Rattle.bitmap.specs.declared.Step.{Step}
-use Rattle.bitmap.specs.declared.Step.the-variants.{To, Wrong}
+use Rattle.bitmap.specs.Steps.{failAt, inMap, moved, step, vectorAt}
+use Rattle.bitmap.specs.declared.Step.the-variants.{To}
 use Rattle.bitmap_reading.specs.Laws.Steps.{map-goes}
 use Rattle.bitmap_reading.specs.Reading.{mapStep}
-use Rattle.bitmap_reading.specs.Rows.{Leads, PassedTo, Quick, Row, Shallow, movesFrom}
-use Rattle.bitmap_reading.specs.declared.rows.Came.{Came}
+use Rattle.bitmap_reading.specs.Rows.{Leads, PassedTo, Row, movesFrom}
 
 -- ---- the row
 

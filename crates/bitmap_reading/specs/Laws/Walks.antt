@@ -1,7 +1,7 @@
 -- The loop over a piece.
-use Prim.Native.Nat.{_*_, _+_, _-_, _/_, _<_, _≤_, ℕ}
+use Prim.Native.Nat.{_+_, _-_, _/_, _<_, _≤_, ℕ}
 use mathlib.Core.List.{List}
-use mathlib.Core.Path.{_∙_, _≡_, ap, refl, sym}
+use mathlib.Core.Path.{_∙_, _≡_, refl, sym}
 use native.Mathlib.Omega.{arith}
 use lib.ListN.{getD, length}
 use Rattle.matching.specs.Reading.{onesOf}
@@ -10,7 +10,6 @@ use Rattle.matching.specs.declared.Stop.{Stop}
 use Rattle.matching.specs.declared.Stop.the-variants.{All, Damaged, Full}
 use Rattle.reading.specs.Laws.Walks.{Ended, by-all, by-damaged, by-full, by-long, by-pass, by-start, by-took}
 use Rattle.reading.specs.Records.{emitOf, emitted}
-use Rattle.reading.specs.Walks.{listOf}
 use Rattle.reading.specs.declared.records.Emit.the-variants.{NoRoom, Written}
 use Rattle.bitmap.specs.Laws.Steps.{sound}
 use Rattle.bitmap.specs.Steps.{step, vectorAt}
@@ -18,7 +17,7 @@ use Rattle.bitmap.specs.declared.Step.the-variants.{To, Wrong}
 use Rattle.bitmap_reading.specs.Laws.Steps.{map-goes, map-wrong}
 use Rattle.bitmap_reading.specs.Reading.{Standing, mapStep, readMap}
 use Rattle.bitmap_reading.specs.Rows.{PassedTo}
-use Rattle.bitmap_reading.specs.Walks.{GoingMap, WalkedMap, wentMapOf}
+use Rattle.bitmap_reading.specs.Walks.{GoingMap, WalkedMap}
 use Rattle.bitmap_reading.specs.declared.rows.Came.{Came}
 use Rattle.bitmap_reading.specs.declared.walks.WentMap.{WentMap}
 

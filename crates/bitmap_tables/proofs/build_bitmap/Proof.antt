@@ -1,4 +1,4 @@
--- `bitmap_tables::build_bitmap` meets its contract.
+-- By the set's verdict, and then by its tags.
 use Rattle.tagset.specs.Laws.Lent.{bad-read, good-read, lent-from, lent-to}
 use Rattle.tagset.specs.Laws.Places.{below-all}
 use Rattle.bitmap_tables.proofs.Answers.{fault-answer, fault-table, good-answer, good-table, read-fit, read-lawful}

@@ -1,4 +1,4 @@
--- `bitmap_tables::build_tags` meets its contract.
+-- Short of slots nothing is written; else the slots are made, and what stands behind them is left.
 use Rattle.bitmap_tables.proofs.Answers.{done-answer, done-table, short-answer, short-table, slots-lent, states-are}
 use borrow.Author.Needs.{needs}
 use Rattle.bitmap_tables.proofs.build_tags.Statement.{statement}

@@ -1,5 +1,6 @@
 -- Building a bitmap table is refused, and done, exactly when the rules say so. A set's numbers are bytes.
 use Rattle.tables.specs.declared.Built.the-variants as B
+use Rattle.tables.specs.declared.Needed.the-variants as N
 use Prim.Native.Nat.{_<_, _≤_, ℕ}
 use mathlib.Core.Bool.{false, true}
 use mathlib.Core.List.{List, [], _∷_}
@@ -20,7 +21,8 @@ use Rattle.tagset.specs.Laws.Places.{tags-accepted}
 use Rattle.tagset.specs.Refusals.{Accepted, Refused, RefusedAs, cutAs, emptyAs, kindAs, lengthAs, manyAs, repeatAs}
 use Rattle.tagset.specs.declared.SetFault.{SetFault}
 use Rattle.tagset.specs.declared.SetFault.the-variants.{Cut, Empty, Kind, Length, Many, Repeat}
-use Rattle.tables.specs.Building.{builtNumber, builtValues, mostStates}
+use Rattle.tables.specs.Building.{builtNumber, builtValues, mostStates, neededOf}
+use Rattle.tables.specs.Laws.Exact.{needed-slots-iff}
 use Rattle.tables.specs.declared.Built.{Built}
 use Rattle.bitmap.specs.Laws.States.{states-same}
 use Rattle.bitmap.specs.Levels.{byLevel}
@@ -193,21 +195,27 @@ pub most-whole : (ts : List Word) → Lawful ts → mostStates 8 ts 0 1 ≡ stat
 unfolding mostStates
 most-whole ts l = omega (arith, ap {B = ℕ} states (reduced-byte ts (l .bytes)))
 
--- with so many slots, a good set's bitmap table is built exactly if these are as many as the whole-byte table needs
-pub needed-bitmap : (bytes : List ℕ) → Below 256 bytes → (ts : List Word) → Accepted bytes ts → (len : ℕ)
-    → (mapBuiltOf bytes len ≡ B.Tags (length ts)) ↔ (mostStates 8 ts 0 1 ≤ slotsOf len)
+-- a good set's bitmap table is built exactly if there are as many slots as the whole-byte table needs
+pub accepted-bitmap : (bytes : List ℕ) → Below 256 bytes → (ts : List Word) → Accepted bytes ts → (len : ℕ)
+    → (builtNumber (mapBuiltOf bytes len) ≡ 0) ↔ (mostStates 8 ts 0 1 ≤ slotsOf len)
 unfolding mapBuiltOf
-needed-bitmap bytes small ts a len = (there (decLt (slotsOf len) (states ts)), back)
+accepted-bitmap bytes small ts a len = (there (decLt (slotsOf len) (states ts)), back)
   where
     l : Lawful ts
     l = tags-accepted a .lawful small
 
-    there : Dec (slotsOf len < states ts) → onMapSet len (setOf bytes) ≡ B.Tags (length ts) → mostStates 8 ts 0 1 ≤ slotsOf len
+    there : Dec (slotsOf len < states ts) → builtNumber (onMapSet len (setOf bytes)) ≡ 0 → mostStates 8 ts 0 1 ≤ slotsOf len
     there (yes h) e =
         let f : onMapSet len (setOf bytes) ≡ B.Table 253 (states ts) = rw (accepted-iff bytes ts .1 a, room-short ts l (slotsOf len) h) in
-        let z : _≡_ {A = ℕ} 0 1 = cc in
-        absurd (omega arith)
+        absurd (omega (arith, e, ap builtNumber f))
     there (no h) e = omega (arith, most-whole ts l)
 
-    back : mostStates 8 ts 0 1 ≤ slotsOf len → onMapSet len (setOf bytes) ≡ B.Tags (length ts)
+    back : mostStates 8 ts 0 1 ≤ slotsOf len → builtNumber (onMapSet len (setOf bytes)) ≡ 0
     back h = rw (accepted-iff bytes ts .1 a, room-enough ts l (slotsOf len) (omega (arith, most-whole ts l)))
+
+-- THE SLOTS THAT A BITMAP TABLE NEEDS are the second of the slots that a set needs
+pub needed-bitmap : (bytes : List ℕ) → Below 256 bytes → (split whole : ℕ) → neededOf bytes ≡ N.Slots split whole → (len : ℕ)
+    → (builtNumber (mapBuiltOf bytes len) ≡ 0) ↔ (whole ≤ slotsOf len)
+needed-bitmap bytes small split whole e len =
+    let n = needed-slots-iff bytes split whole .0 e in
+    subst (λ (x : ℕ). (builtNumber (mapBuiltOf bytes len) ≡ 0) ↔ (x ≤ slotsOf len)) (sym (n .3)) (accepted-bitmap bytes small (n .0) (n .1) len)

@@ -1,7 +1,7 @@
 -- What building a bitmap table leaves in the lent run.
 use Prim.Native.Nat.{_*_, _<_, _≤_, ℕ}
 use mathlib.Core.List.{List}
-use mathlib.Core.Path.{_≡_, refl}
+use mathlib.Core.Path.{_≡_, refl, subst, sym}
 use native.Mathlib.Omega.{arith}
 use lib.ListN.{drop, length, length-append, length-drop}
 use lib.Seq.{drop-at}
@@ -11,7 +11,8 @@ use Rattle.tagset.specs.Grammar.{SetOf, badSet, goodSet, setOf}
 use Rattle.tagset.specs.Laws.Exact.{accepted-iff}
 use Rattle.tagset.specs.Laws.Places.{tags-accepted}
 use Rattle.tables.specs.Building.{builtNumber}
-use Rattle.bitmap.specs.Laws.Built.{built-length}
+use Rattle.bitmap.specs.Laws.Built.{Holds, built-holds, built-length}
+use Rattle.bitmap.specs.Laws.States.{states-same}
 use Rattle.bitmap.specs.Slots.{built, roomIn, slotsOf}
 use Rattle.bitmap_tables.specs.Building.{mapBuiltBy, mapBuiltOf, mapTableBy, mapTableOf, onMapSet, onMapSetTable, withMapTable}
 use Rattle.bitmap_tables.specs.Laws.Exact.{room-enough}
@@ -45,6 +46,13 @@ module _ (bytes run : List ℕ) where
   unfolding mapTableOf
   map-built-left small b =
       rw (accepted-iff bytes (b .tags) .1 (b .set), room-enough (b .tags) (tags-accepted (b .set) .lawful small) (slotsOf (length run)) (b .enough))
+
+  -- which holds the machine
+  pub map-left-holds : Below 256 bytes → {count : ℕ} (b : MapBuilds bytes (length run) count) → Holds (slotsOf (length run)) (b .tags) (mapTableOf bytes run)
+  map-left-holds small b =
+      let s = slotsOf (length run) in
+      let e = states-same (b .tags) (tags-accepted (b .set) .lawful small) in
+      subst (Holds s (b .tags)) (sym (map-built-left small b)) (built-holds s (b .tags) (drop (s * 19) run) (omega (arith, e, b .enough)))
 
   either : (P : List ℕ → Type 0) → P run → ((ts : List Word) → P (withMapTable ts run)) → P (mapTableOf bytes run)
   unfolding mapTableOf

@@ -101,23 +101,23 @@ module _ (n k : ℕ) (set run : List ℕ) (ts : List Word) (b : AsBuilt n k set 
       subst (λ (s : ℕ). allBelow s (placeAfter n ts 0 k v) ≡ true) (ap (slotsIn n k) (sym size))
       (below-placeAfter n k slots ts (built n k slots ts ++ rest) (built-holds n k slots ts rest (enough-iff n slots ts k .0 room)) k 0 v (omega arith))
 
-  -- a reading from the place after v is refused if it is LONG, and else is as expected
-  pub read-is : (v piece : Word) (list : ℕ) → Below 256 v → Below 256 piece
-      → readOf n k table (placeAfter n ts 0 k v) (length v) piece list
-      ≡ readBy (expected n k ts v (length v) (list / 2) piece) true (ltb largest (length v + length piece))
+  -- a reading from the place after v, whatever was counted before, is refused if it is LONG, and else is as expected
+  pub read-is : (v piece : Word) (count list : ℕ) → Below 256 v → Below 256 piece
+      → readOf n k table (placeAfter n ts 0 k v) count piece list
+      ≡ readBy (expected n k ts v count (list / 2) piece) true (ltb largest (count + length piece))
   unfolding readOf
-  read-is v piece list hv hp =
-      ap₂ (λ (r : Outcome) (t : Bool). readBy r t (ltb largest (length v + length piece))) same (place-below v)
+  read-is v piece count list hv hp =
+      ap₂ (λ (r : Outcome) (t : Bool). readBy r t (ltb largest (count + length piece))) same (place-below v)
     where
-      same : read n (slotsIn n k (length table)) table (placeAfter n ts 0 k v) (length v) (list / 2) piece ≡ expected n k ts v (length v) (list / 2) piece
+      same : read n (slotsIn n k (length table)) table (placeAfter n ts 0 k v) count (list / 2) piece ≡ expected n k ts v count (list / 2) piece
       same =
-          ap₂ (λ (s : ℕ) (l : List ℕ). read n s l (placeAfter n ts 0 k v) (length v) (list / 2) piece) (ap (slotsIn n k) size) table-is
-          ∙ read-built n k slots ts rest (b .slicing) lawful room v piece (length v) (list / 2) hv hp
+          ap₂ (λ (s : ℕ) (l : List ℕ). read n s l (placeAfter n ts 0 k v) count (list / 2) piece) (ap (slotsIn n k) size) table-is
+          ∙ read-built n k slots ts rest (b .slicing) lawful room v piece count (list / 2) hv hp
 
   -- a reading that is not refused has done what is expected
   pub read-did : (v piece : Word) (list : ℕ) → Below 256 v → Below 256 piece → (r : Outcome)
       → readOf n k table (placeAfter n ts 0 k v) (length v) piece list ≡ readTo r → r ≡ expected n k ts v (length v) (list / 2) piece
-  read-did v piece list hv hp r e = go (ltb largest (length v + length piece)) (sym (read-is v piece list hv hp) ∙ e)
+  read-did v piece list hv hp r e = go (ltb largest (length v + length piece)) (sym (read-is v piece (length v) list hv hp) ∙ e)
     where
       go : (long : Bool) → readBy (expected n k ts v (length v) (list / 2) piece) true long ≡ readTo r → r ≡ expected n k ts v (length v) (list / 2) piece
       go true q = differ cc
@@ -133,7 +133,7 @@ module _ (n k : ℕ) (set run : List ℕ) (ts : List Word) (b : AsBuilt n k set 
 
   pub row-by : (v : Word) (t : Turn) (turns : List Turn) → Below 256 v → Below 256 (t .piece) → RowBy v t turns (rowAfter n k set run ts v (t ∷ turns))
   unfolding inTurn
-  row-by v t turns hv hp = subst (λ (x : ReadOf). RowBy v t turns (by x)) (sym (read-is v (t .piece) (t .list) hv hp))
+  row-by v t turns hv hp = subst (λ (x : ReadOf). RowBy v t turns (by x)) (sym (read-is v (t .piece) (length v) (t .list) hv hp))
       (go (ltb largest (length v + length (t .piece))) refl)
     where
       by : ReadOf → Row

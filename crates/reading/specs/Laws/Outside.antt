@@ -22,7 +22,7 @@ use Rattle.matching.specs.Words.{Word}
 use Rattle.matching.specs.declared.Stop.{Stop}
 use Rattle.matching.specs.declared.Stop.the-variants.{All}
 use Rattle.passing.specs.Laws.Below.{below-at}
-use Rattle.reading.specs.Laws.Answers.{list-long, read-goes, read-long, read-place}
+use Rattle.reading.specs.Laws.Answers.{read-goes, read-long, read-place}
 use Rattle.reading.specs.Laws.Records.{flat-length}
 use Rattle.reading.specs.Outside.{ReadAt, ReadOf, listBy, readBy, readNumber, readOf, readTo, refusedRead, splitBy, wholeBy}
 use Rattle.reading.specs.Refusals.{RefusedWith, endingNumber, readGrounds}

@@ -1,4 +1,4 @@
--- `bitmap_growing::settling::close` meets its contract.
+-- The two numbers that are written, and the count.
 use native.Mathlib.Omega.{arith}
 use Rattle.bitmap_growing.specs.Laws.Settling.{closed-is, first-le}
 use borrow.Author.Needs.{needs}

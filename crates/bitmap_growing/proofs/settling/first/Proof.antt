@@ -1,4 +1,4 @@
--- `bitmap_growing::settling::first` meets its contract.
+-- By whether there are children.
 use Rattle.bitmap_growing.specs.Laws.Settling.{first-more, first-zero}
 use Rattle.bitmap_growing.proofs.settling.first.Statement.{statement}
 use Rattle.bitmap_growing.proofs.settling.first.Tie as tie

@@ -1,4 +1,4 @@
--- `bitmap_growing::settling::inherited` meets its contract.
+-- By whether it is the start state.
 use mathlib.Core.Path.{_∙_}
 use Rattle.bitmap_growing.specs.Laws.Settling.{inherits-none, inherits-some}
 use borrow.Author.Needs.{needs}

@@ -1,4 +1,4 @@
--- `bitmap_growing::settling::settle` meets its contract.
+-- The map laid, the slot closed, the children sown: one state more is settled.
 use mathlib.Core.Path.{_∙_}
 use native.Mathlib.Omega.{arith}
 use Rattle.bitmap_growing.specs.Laws.Settling.{turn-closable, turn-done, turn-found, turn-sowing, turn-unlaid}

@@ -1,4 +1,4 @@
--- `bitmap_growing::sowing::failing` meets its contract.
+-- By whether the parent is the start state; the step is never wrong over settled slots.
 use mathlib.Core.Path.{_∙_, sym}
 use Rattle.bitmap_growing.specs.Laws.Sowing.{fail-first, fail-never, fail-there}
 use borrow.Author.Needs.{needs}

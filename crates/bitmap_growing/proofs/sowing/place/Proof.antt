@@ -1,4 +1,4 @@
--- `bitmap_growing::sowing::place` meets its contract.
+-- The three numbers that are written.
 use Prim.Native.Nat.{_*_, _+_, ℕ}
 use mathlib.Core.Path.{ap}
 use native.Mathlib.Omega.{arith}

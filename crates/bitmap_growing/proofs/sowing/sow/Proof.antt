@@ -1,4 +1,4 @@
--- `bitmap_growing::sowing::sow` meets its contract.
+-- The tags before u are sown.
 use Prim.Native.Nat.{_-_, _≤_}
 use mathlib.Core.Path.{_≡_, refl}
 use native.Mathlib.Omega.{arith}

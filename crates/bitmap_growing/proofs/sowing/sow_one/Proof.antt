@@ -1,4 +1,4 @@
--- `bitmap_growing::sowing::sow_one` meets its contract.
+-- The child's number, and where it fails to.
 use Rattle.bitmap_growing.specs.Laws.Sowing.{one-fits, one-sown}
 use borrow.Author.Needs.{needs}
 use Rattle.bitmap_growing.proofs.sowing.sow_one.Statement.{statement}

@@ -1,4 +1,4 @@
--- `bitmap_growing::sowing::sow_tag` meets its contract.
+-- A tag that does not go on changes nothing.
 use Rattle.bitmap_growing.specs.Laws.Sowing.{tag-able, tag-elsewhere, tag-ends, tag-sown}
 use borrow.Author.Needs.{needs}
 use Rattle.bitmap_growing.proofs.sowing.sow_tag.Statement.{statement}

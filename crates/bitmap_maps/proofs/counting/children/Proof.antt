@@ -1,4 +1,4 @@
--- `bitmap_maps::counting::children` meets its contract. The ones of the words before `j` are in the sum.
+-- The ones of the words before j are in the sum.
 use Prim.Native.Nat.{_-_}
 use mathlib.Core.Path.{refl}
 use native.Mathlib.Omega.{arith}
@@ -20,20 +20,20 @@ mul-at c = search needs
 loop-holds : tie.Need-loop-holds Inv-loop μ-loop
 loop-holds c = summed-none (c .before .args .table .now) (c .before .args .q)
 
-add-ones-in : tie.Need-add-ones-in Inv-loop μ-loop
-add-ones-in c = omega (arith, c .loop-test .taken, c .before .before .before .pre)
+add-ones-of : tie.Need-add-ones-of Inv-loop μ-loop
+add-ones-of c = omega (arith, c .loop-test .taken, c .before .before .before .pre)
 
-mul-ones-in : tie.Need-mul-ones-in Inv-loop μ-loop
-mul-ones-in c = search needs
+mul-ones-of : tie.Need-mul-ones-of Inv-loop μ-loop
+mul-ones-of c = search needs
 
-shared-slice-read-ones-in : tie.Need-shared-slice-read-ones-in Inv-loop μ-loop
-shared-slice-read-ones-in c = omega (arith, c .before .loop-test .taken, c .before .before .before .before .pre)
+shared-slice-read-ones-of : tie.Need-shared-slice-read-ones-of Inv-loop μ-loop
+shared-slice-read-ones-of c = omega (arith, c .before .loop-test .taken, c .before .before .before .before .pre)
 
-ones-in-requires : tie.Need-ones-in-requires Inv-loop μ-loop
-ones-in-requires c κs = search needs
+ones-of-requires : tie.Need-ones-of-requires Inv-loop μ-loop
+ones-of-requires c κs = search needs
 
 add-sum : tie.Need-add-sum Inv-loop μ-loop
-add-sum c = let l = c .before .before .before .loop in omega (arith, l .inv .few, l .inv .most, c .ones-in .ensures .1)
+add-sum c = let l = c .before .before .before .loop in omega (arith, l .inv .few, l .inv .most, c .ones-of .ensures .1)
 
 add-j : tie.Need-add-j Inv-loop μ-loop
 add-j c = search needs
@@ -47,7 +47,7 @@ loop-again c =
     let a = c .before .before .before .before .before .args in
     let l = c .before .before .before .loop in
     let j = c .before .before .loop-test .taken in
-    let found = c .ones-in in
+    let found = c .ones-of in
     summed-more (a .table .now) (a .q) (l .sum) (l .j) (l .inv) j (numberAt (a .table .now) (a .q) (l .j)) (found .result) refl
     (found .ensures .0) (found .ensures .1)
 
@@ -65,10 +65,10 @@ children-spec =
     μ-loop
     mul-at
     loop-holds
-    add-ones-in
-    mul-ones-in
-    shared-slice-read-ones-in
-    ones-in-requires
+    add-ones-of
+    mul-ones-of
+    shared-slice-read-ones-of
+    ones-of-requires
     add-sum
     add-j
     loop-less

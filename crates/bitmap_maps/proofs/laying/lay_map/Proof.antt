@@ -1,4 +1,4 @@
--- `bitmap_maps::laying::lay_map` meets its contract. Of every word whose depth and mask are lent, the map of the tags before `u` is laid.
+-- Of every word whose depth and mask are lent, the map of the tags before u is laid.
 use Rattle.bitmap_maps.specs.Laws.Laying.{laid-all, laid-more, laid-none, laid-over}
 use Rattle.bitmap_maps.specs.Laws.Masks.{goes-begins}
 use Prim.Native.Nat.{_*_, _+_, _-_, _<_, _≤_}

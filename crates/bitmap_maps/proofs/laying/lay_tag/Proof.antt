@@ -1,4 +1,4 @@
--- `bitmap_maps::laying::lay_tag` meets its contract.
+-- A tag that does not go on changes nothing.
 use native.Mathlib.Omega.{arith}
 use borrow.Author.Tests.{not-false, not-true}
 use Rattle.bitmap_maps.specs.Laws.Laying.{tag-aside, tag-leads, tag-over}

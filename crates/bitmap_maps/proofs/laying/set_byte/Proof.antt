@@ -1,4 +1,4 @@
--- `bitmap_maps::laying::set_byte` meets its contract.
+-- The byte's word with its bit in it.
 use Prim.Native.Nat.{_%_, _*_, _+_, _/_, _^_, ℕ}
 use mathlib.Core.List.{List}
 use mathlib.Core.Path.{_∙_, _≡_, ap}

@@ -1,4 +1,4 @@
--- `bitmap_maps::masks::all_tags` meets its contract: a power of two and one less.
+-- A power of two, and one less.
 use mathlib.Core.Path.{_∙_, _≡_, ap}
 use Prim.Native.Nat.{_%_, _*_, _^_, _≤_, ℕ}
 use native.Mathlib.Nat.{mod-eq-of-lt, one-mul}

@@ -1,4 +1,4 @@
--- `bitmap_maps::own::is_own` meets its contract.
+-- It goes through, and is as long as the word.
 use mathlib.Core.Path.{refl}
 use borrow.Author.Tests.{not-false, not-true}
 use Rattle.bitmap_maps.proofs.own.is_own.Statement.{statement}

@@ -1,4 +1,4 @@
--- `bitmap_maps::own::own_tags` meets its contract. Of every word whose depth and mask are lent, `v` has the tags from `u` on that are the word.
+-- Of every word whose depth and mask are lent, v has the tags from u on that are the word.
 use Prim.Native.Nat.{_*_, _+_, _-_, _<_, _^_, _≤_}
 use mathlib.Core.Bool.{false}
 use mathlib.Core.Path.{_≡_, refl}

@@ -1,3 +1,4 @@
+-- A product of 0 has a factor of 0.
 use mathlib.Core.Path.{_∙_, ap, sym}
 use lib.Dec.{eqb}
 use borrow.Author.Tests.{eqb-true}
@@ -6,25 +7,16 @@ use Rattle.bitmap_reading.specs.Laws.Rows.{not-not, shallow}
 use borrow.Author.Needs.{needs}
 use Rattle.bitmap_reading.proofs.rows.is_deep.Statement.{statement}
 use Rattle.bitmap_reading.proofs.rows.is_deep.Tie as tie
-use Rattle.bitmap_reading.proofs.rows.is_deep.Reads as reads
-use Rattle.bitmap_reading.proofs.rows.is_deep.Lts as lts
-use Rattle.bitmap.proofs.steps.number.Reads as number-reads
-use Rattle.bitmap.proofs.steps.own_bit.Reads as own-bit-reads
-use Rattle.bitmap_reading.proofs.rows.times.Reads as times-reads
 
--- src/rows.rt:84:14
 own-bit-requires : tie.Need-own-bit-requires
 own-bit-requires c κs = search needs
 
--- src/rows.rt:84:37
 number-requires : tie.Need-number-requires
 number-requires c κs = search needs
 
--- src/rows.rt:84:5
 times-requires : tie.Need-times-requires
 times-requires c κs = search needs
 
--- src/rows.rt:80:1
 returns : tie.Need-returns
 unfolding inMap
 returns c e =

@@ -1,16 +1,12 @@
-use native.Mathlib.Omega.{arith}
+-- By whether it is state 0.
 use Rattle.bitmap_reading.specs.Laws.Rows.{moves-one}
 use borrow.Author.Needs.{needs}
 use Rattle.bitmap_reading.proofs.rows.moves_from.Statement.{statement}
 use Rattle.bitmap_reading.proofs.rows.moves_from.Tie as tie
-use Rattle.bitmap_reading.proofs.rows.moves_from.Reads as reads
-use Rattle.bitmap_reading.proofs.rows.moves_from.Lts as lts
 
--- src/rows.rt:69:1
 returns : tie.Need-returns
 returns c = search needs
 
--- src/rows.rt:69:1
 returns-2 : tie.Need-returns-2
 returns-2 c = moves-one (c .before .args .q) (c .if1 .left)
 

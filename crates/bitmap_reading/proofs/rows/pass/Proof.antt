@@ -1,4 +1,5 @@
-use mathlib.Core.Path.{_∙_, _≡_, subst, sym}
+-- All bytes so far are quiet.
+use mathlib.Core.Path.{_∙_, sym}
 use Rattle.bitmap.specs.Laws.Steps.{sound}
 use Prim.Native.Nat.{_-_, _<_, _≤_}
 use native.Mathlib.Omega.{arith}
@@ -8,11 +9,6 @@ use Rattle.bitmap_reading.specs.Laws.Rows.{passed-more, passed-start}
 use Rattle.bitmap_reading.specs.Rows.{PassedTo}
 use Rattle.bitmap_reading.proofs.rows.pass.Statement.{statement}
 use Rattle.bitmap_reading.proofs.rows.pass.Tie as tie
-use Rattle.bitmap_reading.proofs.rows.pass.Reads as reads
-use Rattle.bitmap_reading.proofs.rows.pass.Lts as lts
-use Rattle.bitmap.proofs.steps.vector_of.Reads as vector-of-reads
-use Rattle.bitmap_reading.proofs.rows.quick.Reads as quick-reads
-use Rattle.bitmap_reading.proofs.rows.stopped_by.Reads as stopped-by-reads
 
 abbrev Inv-loop : tie.InvT-loop
 Inv-loop table s row start moves piece from q₀ made₀ i₀ q made i = PassedTo s table piece start from moves (record { at = i; state = q; moves = made })
@@ -20,33 +16,27 @@ Inv-loop table s row start moves piece from q₀ made₀ i₀ q made i = PassedT
 abbrev μ-loop : tie.MeasureT-loop
 μ-loop table s row start moves piece from q₀ made₀ i₀ q made i = length piece - i
 
--- src/rows.rt:108:5
 loop-holds : tie.Need-loop-holds Inv-loop μ-loop
 loop-holds c =
     let b = c .before .before in
-    passed-start (b .args .s) (b .args .table .now) (b .args .piece .now) (b .args .start) (b .args .from) (b .args .moves) (b .pre .0 .1 .0) (b .pre .1 .0) (b .pre .1 .1 .1)
+    passed-start (b .args .s) (b .args .table .now) (b .args .piece .now) (b .args .start) (b .args .from) (b .args .moves) (b .pre .0 .1 .0) (b .pre .1 .0)
+    (b .pre .1 .1 .1)
 
--- src/rows.rt:109:54
 shared-slice-read-quick : tie.Need-shared-slice-read-quick Inv-loop μ-loop
 shared-slice-read-quick c = search needs
 
--- src/rows.rt:109:30
 quick-requires : tie.Need-quick-requires Inv-loop μ-loop
 quick-requires c κs = search needs
 
--- src/rows.rt:109:22
 enum-known-n : tie.Need-enum-known-n Inv-loop μ-loop
 enum-known-n c = search needs
 
--- src/rows.rt:110:13
 enum-told : tie.Need-enum-told Inv-loop μ-loop
 enum-told c = search needs
 
--- src/rows.rt:110:13
 stopped-by-requires : tie.Need-stopped-by-requires Inv-loop μ-loop
 stopped-by-requires c κs = search needs
 
--- src/rows.rt:110:13
 returns : tie.Need-returns Inv-loop μ-loop
 returns c = rw (c .stopped-by .ensures) (c .before .before .before .before .before .before .loop .inv)
 
@@ -59,36 +49,29 @@ fine c =
     let l = c .before .before .before .before .before .before .loop in
     sound (a .s) (a .table .now) (l .q) _ _ _ (l .inv .below) (sym (c .before .before .before .quick .ensures _ _ (c .before .n .given .1)))
 
--- src/rows.rt:112:12
 vector-of-requires : tie.Need-vector-of-requires Inv-loop μ-loop
 vector-of-requires c κs =
     let b = c .before .before .before .before .before .before .before .before .before in
     omega (arith, fine c .0, b .pre .0 .0)
 
--- src/rows.rt:113:13
 stopped-by-requires-2 : tie.Need-stopped-by-requires-2 Inv-loop μ-loop
 stopped-by-requires-2 c κs = search needs
 
--- src/rows.rt:113:13
 returns-2 : tie.Need-returns-2 Inv-loop μ-loop
 returns-2 c = rw (c .stopped-by2 .ensures) (c .before .before .before .before .before .before .before .before .before .loop .inv)
 
--- src/rows.rt:116:9
 add-made : tie.Need-add-made Inv-loop μ-loop
 add-made c =
     let b = c .before .before .before .before .before .before .before .before .before .before .before in
     let l = c .before .before .before .before .before .before .before .before .loop in
     omega (arith, fine (c .before .before) .1, l .inv .few, l .inv .below, l .inv .quiet .most, b .pre .0 .1 .1 .0, b .pre .1 .1 .0)
 
--- src/rows.rt:117:9
 add-i : tie.Need-add-i Inv-loop μ-loop
 add-i c = search needs
 
--- src/rows.rt:108:5
 loop-less : tie.Need-loop-less Inv-loop μ-loop
 loop-less c = search needs
 
--- src/rows.rt:108:5
 loop-again : tie.Need-loop-again Inv-loop μ-loop
 loop-again c =
     let b = c .before .before .before .before .before .before .before .before .before .before .before in
@@ -99,11 +82,9 @@ loop-again c =
     (c .before .before .before .before .before .quick .ensures _ _ (c .before .before .before .n .given .1))
     (sym (c .before .vector-of .ensures) ∙ c .if1 .left)
 
--- src/rows.rt:119:5
 stopped-by-requires-3 : tie.Need-stopped-by-requires-3 Inv-loop μ-loop
 stopped-by-requires-3 c κs = search needs
 
--- src/rows.rt:92:1
 returns-3 : tie.Need-returns-3 Inv-loop μ-loop
 returns-3 c = rw (c .stopped-by3 .ensures) (c .before .before .loop .inv)
 

@@ -1,3 +1,4 @@
+-- By the row, or by the step itself.
 use lib.ListN.{getD}
 use Rattle.bitmap.specs.declared.Step.the-variants.{To}
 use Prim.Native.Nat.{ℕ}
@@ -7,51 +8,34 @@ use Rattle.bitmap_reading.specs.Laws.Rows.{quick-row}
 use borrow.Author.Needs.{needs}
 use Rattle.bitmap_reading.proofs.rows.quick.Statement.{statement}
 use Rattle.bitmap_reading.proofs.rows.quick.Tie as tie
-use Rattle.bitmap_reading.proofs.rows.quick.Reads as reads
-use Rattle.bitmap_reading.proofs.rows.quick.Lts as lts
-use Rattle.bitmap.proofs.steps.next_state.Reads as next-state-reads
-use Rattle.bitmap_reading.proofs.rows.is_deep.Reads as is-deep-reads
-use Rattle.bitmap_reading.proofs.rows.moves_from.Reads as moves-from-reads
-use Rattle.passing.proofs.places.byte.Reads as byte-reads
-use Rattle.passing.proofs.places.wide.Reads as wide-reads
 
--- src/rows.rt:80:8
 is-deep-requires : tie.Need-is-deep-requires
 is-deep-requires c κs = search needs
 
--- src/rows.rt:81:9
 next-state-requires : tie.Need-next-state-requires
 next-state-requires c κs = search needs
 
--- src/rows.rt:81:9
 returns : tie.Need-returns
 returns c n m e = sym (c .next-state .ensures) ∙ e
 
--- src/rows.rt:83:9
 byte-requires : tie.Need-byte-requires
 byte-requires c κs = search needs
 
--- src/rows.rt:84:18
 mul-wide : tie.Need-mul-wide
 mul-wide c = search needs
 
--- src/rows.rt:84:18
 element-copy-out-wide : tie.Need-element-copy-out-wide
 element-copy-out-wide c = search needs
 
--- src/rows.rt:84:9
 wide-requires : tie.Need-wide-requires
 wide-requires c κs = search needs
 
--- src/rows.rt:86:9
 returns-2 : tie.Need-returns-2
 returns-2 c n m e = let z : _≡_ {A = ℕ} 0 1 = cc in absurd (omega arith)
 
--- src/rows.rt:88:17
 moves-from-requires : tie.Need-moves-from-requires
 moves-from-requires c κs = search needs
 
--- src/rows.rt:76:1
 returns-3 : tie.Need-returns-3
 returns-3 c n m e =
     let b = c .before .before .before .before .before .before .before .before in

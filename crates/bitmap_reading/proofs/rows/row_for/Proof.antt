@@ -1,5 +1,6 @@
+-- Each number of the row is where its byte leads from state 0, or no state.
 use lib.ListN.{length-set}
-use Prim.Native.Nat.{_-_, _≤_}
+use Prim.Native.Nat.{_-_}
 use mathlib.Core.Path.{_∙_, _≡_, ap}
 use native.Mathlib.Omega.{arith}
 use lib.ListN.{length}
@@ -8,11 +9,6 @@ use Rattle.bitmap_reading.specs.Laws.Rows.{row-none, row-set}
 use Rattle.bitmap_reading.specs.Rows.{Row}
 use Rattle.bitmap_reading.proofs.rows.row_for.Statement.{statement}
 use Rattle.bitmap_reading.proofs.rows.row_for.Tie as tie
-use Rattle.bitmap_reading.proofs.rows.row_for.Reads as reads
-use Rattle.bitmap_reading.proofs.rows.row_for.Lts as lts
-use Rattle.bitmap_reading.proofs.rows.bytes_for.Reads as bytes-for-reads
-use Rattle.bitmap_reading.proofs.rows.leads.Reads as leads-reads
-use Rattle.bitmap_reading.proofs.rows.no_row.Reads as no-row-reads
 
 abbrev Inv-loop : tie.InvT-loop
 Inv-loop table s long most row₀ c₀ row c = (Row s table row) × (length row ≡ 256)
@@ -20,45 +16,35 @@ Inv-loop table s long most row₀ c₀ row c = (Row s table row) × (length row 
 abbrev μ-loop : tie.MeasureT-loop
 μ-loop table s long most row₀ c₀ row c = most - c
 
--- src/rows.rt:61:9
 bytes-for-requires : tie.Need-bytes-for-requires Inv-loop μ-loop
 bytes-for-requires c κs = search needs
 
--- src/rows.rt:62:19
 no-row-requires : tie.Need-no-row-requires Inv-loop μ-loop
 no-row-requires c κs = search needs
 
--- src/rows.rt:64:5
 loop-holds : tie.Need-loop-holds Inv-loop μ-loop
 loop-holds c =
     let b = c .before .before .before in
     (row-none (b .args .s) (b .args .table .now) (c .no-row .result) (b .pre .1 .1) (c .no-row .ensures), ap length (c .no-row .ensures))
 
--- src/rows.rt:65:34
 cast-leads : tie.Need-cast-leads Inv-loop μ-loop
 cast-leads c = search needs
 
--- src/rows.rt:65:18
 leads-requires : tie.Need-leads-requires Inv-loop μ-loop
 leads-requires c κs = search needs
 
--- src/rows.rt:65:9
 mul-row : tie.Need-mul-row Inv-loop μ-loop
 mul-row c = search needs
 
--- src/rows.rt:65:9
 array-write-row : tie.Need-array-write-row Inv-loop μ-loop
 array-write-row c = search needs
 
--- src/rows.rt:66:9
 add-c : tie.Need-add-c Inv-loop μ-loop
 add-c c = search needs
 
--- src/rows.rt:64:5
 loop-less : tie.Need-loop-less Inv-loop μ-loop
 loop-less c = search needs
 
--- src/rows.rt:64:5
 loop-again : tie.Need-loop-again Inv-loop μ-loop
 loop-again c =
     let a = c .before .before .before .before .before .before .args in
@@ -72,7 +58,6 @@ loop-again c =
       length-set (l .row) (l .c) (c .leads .result) ∙ l .inv .1,
     )
 
--- src/rows.rt:57:1
 returns : tie.Need-returns Inv-loop μ-loop
 returns c = c .before .loop .inv .0
 

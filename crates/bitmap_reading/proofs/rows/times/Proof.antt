@@ -1,15 +1,12 @@
+-- The product fits.
 use Rattle.bitmap_reading.specs.Laws.Rows.{deep-fits}
 use borrow.Author.Needs.{needs}
 use Rattle.bitmap_reading.proofs.rows.times.Statement.{statement}
 use Rattle.bitmap_reading.proofs.rows.times.Tie as tie
-use Rattle.bitmap_reading.proofs.rows.times.Reads as reads
-use Rattle.bitmap_reading.proofs.rows.times.Lts as lts
 
--- src/rows.rt:75:5
 mul-result : tie.Need-mul-result
 mul-result c = record { fits = deep-fits (c .args .q) (c .args .marks) (c .pre) (c .fits .marks .fits) }
 
--- src/rows.rt:71:1
 returns : tie.Need-returns
 returns c = search needs
 
