@@ -17,7 +17,9 @@
      sleet_close. A desk decides nothing: a ticket whose last piece was taken may be stale a moment
      later, and its records may still be held. It is a desk of its own, beside the gate: that inside
      a gate is the gate's alone.
-   - To read without tickets use a table: sleet_make_split and sleet_scan_split.
+   - To read without tickets use a table: sleet_make_split and sleet_scan_split. The whole-byte and the
+     bitmap table have the same calls: the one is larger, the other is smaller and slower
+     (docs/EMBEDDING.md, 'Memory, stack and threads').
    - To write a set down use sleet_tags, which can't lose a tag.
    Each call gives a struct of its own with named members. `refusal` is SLEET_ACCEPTED or a number
    below; a member that the answer doesn't fill is 0. A refused call changes nothing at all.
@@ -93,9 +95,12 @@ enum {
     SLEET_MOST_RECORDS = 256,   /* records that a desk holds */
     SLEET_SPLIT_SLOT = 24,      /* numbers of a split table for each slot: 8 machines of 3 */
     SLEET_WHOLE_SLOT = 257,     /* numbers of a whole-byte table for each slot */
+    SLEET_BITMAP_SLOT = 19,     /* numbers of a bitmap table for each slot */
     SLEET_SPLIT_TABLE = 11496,  /* numbers of a split table that is enough for every set: 479 slots */
     SLEET_WHOLE_TABLE = 131841, /* numbers of a whole-byte table that is enough for every set: 513 slots */
-    SLEET_WHOLE_MACHINE = 254   /* the machine that TABLE names for a whole-byte table */
+    SLEET_BITMAP_TABLE = 9747,  /* numbers of a bitmap table that is enough for every set: 513 slots */
+    SLEET_WHOLE_MACHINE = 254,  /* the machine that TABLE names for a whole-byte table */
+    SLEET_BITMAP_MACHINE = 253  /* the machine that TABLE names for a bitmap table */
 };
 
 /* ---- Refusals, stops, states and verdicts ---- */
@@ -248,6 +253,11 @@ typedef struct sleet_whole_reply {
     uint16_t place;
 } sleet_whole_reply;
 
+typedef struct sleet_bitmap_reply {
+    sleet_answer answer;
+    uint16_t place;
+} sleet_bitmap_reply;
+
 /* A new gate: edition 0, serial 0, no set. */
 sleet_gate sleet_gate_new(void);
 
@@ -294,21 +304,27 @@ sleet_taken_many sleet_desk_take_many(sleet_desk desk, uint32_t *list, size_t li
 /* a: the state, b: its edition, c: bytes taken (0 unless stale or open). Never refused. */
 sleet_answer sleet_desk_state(sleet_desk desk, uint32_t serial);
 
-/* a: slots of a split table for this set, b: slots of a whole-byte table. Refused: CUT to REPEAT. */
+/* a: slots of a split table for this set, b: slots of a whole-byte table and of a bitmap table, which
+   are as many. Refused: CUT to REPEAT. */
 sleet_answer sleet_slots_needed(const uint8_t *set, size_t set_length);
 
 /* a: the number of tags. Refused: CUT to REPEAT, TABLE. */
 sleet_answer sleet_build_split(const uint8_t *set, size_t set_length, uint16_t *table, size_t table_length);
 sleet_answer sleet_build_whole(const uint8_t *set, size_t set_length, uint16_t *table, size_t table_length);
+sleet_answer sleet_build_bitmap(const uint8_t *set, size_t set_length, uint16_t *table, size_t table_length);
 
-/* a: bytes taken, b: why it stopped, c: records written, two numbers of the list each: end, tag. A
-   list of an odd length has one unused number. Refused: PLACE, LONG. */
+/* a: bytes taken, b: why it stopped, c: records written, two numbers of the list each: end, tag; over a
+   bitmap table d: the failure moves of the bytes taken. A list of an odd length has one unused number.
+   Refused: PLACE, LONG. */
 sleet_split_reply sleet_read_split(const uint16_t *table, size_t table_length, const uint16_t *place,
                                    uint32_t count, const uint8_t *piece, size_t piece_length, uint32_t *list,
                                    size_t list_length);
 sleet_whole_reply sleet_read_whole(const uint16_t *table, size_t table_length, uint16_t place, uint32_t count,
                                    const uint8_t *piece, size_t piece_length, uint32_t *list,
                                    size_t list_length);
+sleet_bitmap_reply sleet_read_bitmap(const uint16_t *table, size_t table_length, uint16_t place, uint32_t count,
+                                     const uint8_t *piece, size_t piece_length, uint32_t *list,
+                                     size_t list_length);
 
 /* What stands in for a null pointer, for the archive asks for one that isn't; nothing is read there. */
 static const uint64_t sleet_no_elements = 0;
@@ -676,7 +692,7 @@ typedef struct sleet_needed {
     uint64_t refusal;   /* CUT to REPEAT */
     size_t entry;       /* where refused: the entry at fault */
     size_t split_slots; /* of SLEET_SPLIT_SLOT numbers each */
-    size_t whole_slots; /* of SLEET_WHOLE_SLOT numbers each */
+    size_t whole_slots; /* of SLEET_WHOLE_SLOT numbers each, or of SLEET_BITMAP_SLOT in a bitmap table */
 } sleet_needed;
 
 typedef struct sleet_built {
@@ -698,9 +714,11 @@ typedef struct sleet_was_read {
     size_t taken;     /* bytes of the piece that were taken */
     uint64_t stop;    /* SLEET_STOP_ALL, _FULL, _DAMAGED; SLEET_STOP_NONE where refused */
     size_t records;   /* written */
+    uint64_t moves;   /* over a bitmap table: the failure moves of the bytes taken, a 64-bit number. As
+                         built and from state 0 no more than those bytes; else up to 512 for each */
 } sleet_was_read;
 
-/* The slots that a set needs, in both layouts. Refused: CUT to REPEAT. */
+/* The slots that a set needs, in each layout. Refused: CUT to REPEAT. */
 SLEET_LOOK static inline sleet_needed sleet_size(const uint8_t *set, size_t set_length)
 {
     sleet_answer said = sleet_slots_needed(SLEET_AT(const uint8_t, set), SLEET_COUNT(set, set_length));
@@ -744,20 +762,30 @@ SLEET_LOOK static inline sleet_built sleet_make_whole(const uint8_t *set, size_t
                                             SLEET_AT(uint16_t, table), SLEET_COUNT(table, table_length)));
 }
 
+/* A bitmap table is a thirteenth of a whole-byte table and finds the same, more slowly. */
+SLEET_LOOK static inline sleet_built sleet_make_bitmap(const uint8_t *set, size_t set_length, uint16_t *table,
+                                                       size_t table_length)
+{
+    return sleet_as_built(sleet_build_bitmap(SLEET_AT(const uint8_t, set), SLEET_COUNT(set, set_length),
+                                             SLEET_AT(uint16_t, table), SLEET_COUNT(table, table_length)));
+}
+
 static inline sleet_was_read sleet_as_read(sleet_answer said)
 {
-    sleet_was_read r = {said.refusal, 0, SLEET_STOP_NONE, 0};
+    sleet_was_read r = {said.refusal, 0, SLEET_STOP_NONE, 0, 0};
     if (said.refusal == SLEET_ACCEPTED) {
         r.taken = said.a;
         r.stop = said.b;
         r.records = said.c;
+        r.moves = said.d;
     }
     return r;
 }
 
 /* Reads a piece from a place, all 0 at the start, with count bytes taken before it; writes what it
    finds, and leaves the place after it in place, which is 8 numbers for a split table and 1 for a
-   whole-byte table. Refused: PLACE, LONG. */
+   whole-byte or a bitmap table. A place is one of its own layout: a state's number in a bitmap table is
+   another than in a whole-byte table. Refused: PLACE, LONG. */
 SLEET_LOOK static inline sleet_was_read sleet_scan_split(const uint16_t *table, size_t table_length, uint16_t *place,
                                                          uint32_t count, const uint8_t *piece, size_t piece_length,
                                                          sleet_found *found, size_t room)
@@ -784,6 +812,19 @@ SLEET_LOOK static inline sleet_was_read sleet_scan_whole(const uint16_t *table, 
     return sleet_as_read(r.answer);
 }
 
+SLEET_LOOK static inline sleet_was_read sleet_scan_bitmap(const uint16_t *table, size_t table_length, uint16_t *place,
+                                                          uint32_t count, const uint8_t *piece, size_t piece_length,
+                                                          sleet_found *found, size_t room)
+{
+    uint32_t *list = (uint32_t *)(void *)found;
+    sleet_bitmap_reply r =
+        sleet_read_bitmap(SLEET_AT(const uint16_t, table), SLEET_COUNT(table, table_length), *place, count,
+                          SLEET_AT(const uint8_t, piece), SLEET_COUNT(piece, piece_length),
+                          SLEET_AT(uint32_t, list), SLEET_COUNT(list, 2 * room));
+    *place = r.place;
+    return sleet_as_read(r.answer);
+}
+
 /* ---- The layout, held against the archive by tests/library.sh ---- */
 
 SLEET_LAYOUT(sizeof(sleet_answer) == 64 && offsetof(sleet_answer, g) == 56);
@@ -800,6 +841,7 @@ SLEET_LAYOUT(sizeof(sleet_gate_reply) == 4896 && offsetof(sleet_gate_reply, answ
 SLEET_LAYOUT(sizeof(sleet_taken_many) == 4584 && offsetof(sleet_taken_many, count) == 4576);
 SLEET_LAYOUT(sizeof(sleet_split_reply) == 80 && offsetof(sleet_split_reply, place) == 64);
 SLEET_LAYOUT(sizeof(sleet_whole_reply) == 72 && offsetof(sleet_whole_reply, place) == 64);
+SLEET_LAYOUT(sizeof(sleet_bitmap_reply) == 72 && offsetof(sleet_bitmap_reply, place) == 64);
 SLEET_LAYOUT(sizeof(sleet_record) == 16 && offsetof(sleet_record, tag) == 12);
 SLEET_LAYOUT(sizeof(sleet_found) == 8 && offsetof(sleet_found, tag) == 4);
 

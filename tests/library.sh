@@ -65,7 +65,8 @@ END
 }
 for call in 'sleet_replace(DESK, 0, 0, TABLE, 9).refusal' 'sleet_feed(DESK, 1, TABLE, 9, 0, 0).refusal' 'sleet_open(DESK).refusal' \
   'sleet_close(DESK, 1).refusal' 'sleet_take(DESK).refusal' 'sleet_take_many(DESK, 0, 0)' 'sleet_state(DESK, 1).state' \
-  'sleet_make_split(0, 0, TABLE, 9).refusal' 'sleet_scan_split(TABLE, 9, p, 0, 0, 0, 0, 0).refusal'; do
+  'sleet_make_split(0, 0, TABLE, 9).refusal' 'sleet_scan_split(TABLE, 9, p, 0, 0, 0, 0, 0).refusal' \
+  'sleet_make_bitmap(0, 0, TABLE, 9).refusal' 'sleet_scan_bitmap(TABLE, 9, p, 0, 0, 0, 0, 0).refusal'; do
   for with in "$CC c11" "$CXX c++11"; do
     compiles $with '&d' t "$call" || { cat "$out/refused.txt" >&2; exit 1; }
     for of_the_gate in '&g.gate.desk t' '&d g.table'; do

@@ -116,7 +116,7 @@ fn time_ours(
         keep(tree::build(tags, WHOLE, Vectors::ByLinks, &mut whole))
     });
     time(BITMAP_OURS, &mut || {
-        keep(ours::build_bitmap(&bytes, &mut bitmap))
+        keep(exports::build_bitmap(&bytes, &mut bitmap))
     });
     time(BITMAP_RUST, &mut || {
         keep(map_tree::build(tags, &mut bitmap))

@@ -10,61 +10,6 @@ pub const SPLIT_SLOT: usize = 24;
 pub const WHOLE_SLOT: usize = 257;
 pub const BITMAP_SLOT: usize = 19;
 
-#[repr(C)]
-struct BitmapReply {
-    answer: Answer,
-    place: u16,
-}
-
-extern "C" {
-    fn sleet_build_bitmap(
-        set: *const u8,
-        set_length: usize,
-        table: *mut u16,
-        table_length: usize,
-    ) -> Answer;
-    fn sleet_read_bitmap(
-        table: *const u16,
-        table_length: usize,
-        place: u16,
-        count: u32,
-        piece: *const u8,
-        piece_length: usize,
-        list: *mut u32,
-        list_length: usize,
-    ) -> BitmapReply;
-}
-
-pub fn build_bitmap(set: &[u8], table: &mut [u16]) -> Answer {
-    let (at, length) = (table.as_mut_ptr(), table.len());
-    // Sound as the other calls of the archive are: slices are just the runs that it asks for.
-    unsafe { sleet_build_bitmap(set.as_ptr(), set.len(), at, length) }
-}
-
-fn read_bitmap(
-    table: &[u16],
-    place: &mut u16,
-    count: u32,
-    piece: &[u8],
-    list: &mut [u32],
-) -> Answer {
-    // Sound as building is.
-    let reply = unsafe {
-        sleet_read_bitmap(
-            table.as_ptr(),
-            table.len(),
-            *place,
-            count,
-            piece.as_ptr(),
-            piece.len(),
-            list.as_mut_ptr(),
-            list.len(),
-        )
-    };
-    *place = reply.place;
-    reply.answer
-}
-
 /// The bytes of a set: for each tag its length, its kind 1, and the tag.
 pub fn set_of(tags: &[Vec<u8>]) -> Vec<u8> {
     let entry = |tag: &Vec<u8>| [&[tag.len() as u8, 0, 1, 0], tag.as_slice()].concat();
@@ -104,7 +49,7 @@ pub fn bitmap_table(tags: &[Vec<u8>]) -> Vec<u16> {
     let set = set_of(tags);
     let mut table = vec![0; slots_of(&set).1 * BITMAP_SLOT];
     assert_eq!(
-        build_bitmap(&set, &mut table).refusal,
+        exports::build_bitmap(&set, &mut table).refusal,
         0,
         "the table has the slots that the set needs"
     );
@@ -210,7 +155,7 @@ impl Engine for Bitmap {
     fn piece(&mut self, input: &[u8], from: usize, to: usize, out: &mut Out) {
         let (table, place, moves) = (&self.table, &mut self.place, &mut self.moves);
         read_on(input, from, to, out, |count, piece, list| {
-            let answer = read_bitmap(table, place, count, piece, list);
+            let answer = exports::read_bitmap(table, place, count, piece, list);
             *moves += answer.d;
             answer
         });

@@ -1,7 +1,8 @@
 //! The calls as the archive has them, over tables and lists that the caller lends at each call.
 //!
-//! A [`Desk`](crate::Desk), a [`SplitTable`](crate::SplitTable) or a
-//! [`WholeTable`](crate::WholeTable) owns its numbers and so can't be lent wrong ones; prefer these.
+//! A [`Desk`](crate::Desk), a [`SplitTable`](crate::SplitTable), a
+//! [`WholeTable`](crate::WholeTable) or a [`BitmapTable`](crate::BitmapTable) owns its numbers and so
+//! can't be lent wrong ones; prefer these.
 //! What stands here is safe too: a table that isn't as building left it is walked exactly as its
 //! numbers say, and stops as [`Stop::Damaged`] where they lead outside it. To decide about approvals
 //! use a [`Gate`](crate::Gate).
@@ -17,15 +18,21 @@ use std::fmt::{self, Debug, Formatter};
 pub const SPLIT_TABLE: usize = 479 * SPLIT_SLOT;
 /// Numbers of a whole-byte table that is enough for every set: 513 slots of 257.
 pub const WHOLE_TABLE: usize = 513 * WHOLE_SLOT;
+/// Numbers of a bitmap table that is enough for every set: 513 slots of 19.
+pub const BITMAP_TABLE: usize = 513 * BITMAP_SLOT;
 /// Numbers of a split table for each slot.
 pub const SPLIT_SLOT: usize = 24;
 /// Numbers of a whole-byte table for each slot.
 pub const WHOLE_SLOT: usize = 257;
+/// Numbers of a bitmap table for each slot.
+pub const BITMAP_SLOT: usize = 19;
 
 /// The place at which a reading over a split table starts.
 pub const SPLIT_START: [u16; 8] = [0; 8];
 /// The place at which a reading over a whole-byte table starts.
 pub const WHOLE_START: u16 = 0;
+/// The place at which a reading over a bitmap table starts.
+pub const BITMAP_START: u16 = 0;
 
 /// A desk that is lent its table at each call. Two are equal where every number in them is.
 ///
@@ -170,6 +177,11 @@ pub fn build_whole(set: &[u8], table: &mut [u16]) -> Result<usize, Refusal> {
     Refusal::or(raw::build_whole(set, table)).map(|said| said.a as usize)
 }
 
+/// Builds a bitmap table in the numbers lent; gives the number of tags.
+pub fn build_bitmap(set: &[u8], table: &mut [u16]) -> Result<usize, Refusal> {
+    Refusal::or(raw::build_bitmap(set, table)).map(|said| said.a as usize)
+}
+
 /// What an accepted read outside the desk gives.
 #[derive(Clone, Copy, Debug, PartialEq, Eq, Hash)]
 #[must_use = "a read may take fewer bytes than the piece has"]
@@ -230,4 +242,31 @@ pub fn read_whole(
     let mut after = place;
     let said = Refusal::or(raw::read_whole(table, &mut after, count, piece, list))?;
     Ok(Reading::of(said, after))
+}
+
+/// What an accepted read over a bitmap table gives.
+#[derive(Clone, Copy, Debug, PartialEq, Eq, Hash)]
+#[must_use = "a read may take fewer bytes than the piece has"]
+pub struct BitmapReading {
+    /// What a read over any table gives.
+    pub reading: Reading<u16>,
+    /// The failure moves of the bytes taken. Over a table as building left it, from the start, there
+    /// are no more of them than bytes taken; else up to 512 for each.
+    pub moves: u64,
+}
+
+/// The same over a bitmap table. Its places are not those of a whole-byte table.
+pub fn read_bitmap(
+    table: &[u16],
+    place: u16,
+    count: u32,
+    piece: &[u8],
+    list: &mut [u32],
+) -> Result<BitmapReading, Refusal> {
+    let mut after = place;
+    let said = Refusal::or(raw::read_bitmap(table, &mut after, count, piece, list))?;
+    Ok(BitmapReading {
+        reading: Reading::of(said, after),
+        moves: said.d,
+    })
 }

@@ -7,7 +7,7 @@
 //! - [`Gate`]: the one way to decide: approvals begun, handed in piece by piece, and a [`Verdict`];
 //! - [`TagSet`]: a lawful set of tags, and [`text`], its form for people;
 //! - [`Desk`]: what a gate stands on, for those who want to know where each tag ends;
-//! - [`SplitTable`] and [`WholeTable`]: building and reading outside a desk;
+//! - [`SplitTable`], [`WholeTable`] and [`BitmapTable`]: building and reading outside a desk;
 //! - [`Serial`], [`Edition`] and [`Tag`]: three kinds of number that can't be passed for one
 //!   another;
 //! - [`Refusal`]: why a call was refused;
@@ -73,7 +73,7 @@ pub use gate::{Gate, Held, Piece, Verdict};
 pub use numbers::{Edition, Fed, Found, Record, Replaced, Serial, Stop, Tag, Ticket, TicketState};
 pub use refusal::Refusal;
 pub use set::{TagSet, TagSetBuilder};
-pub use table::{SplitTable, WholeTable};
+pub use table::{BitmapTable, SplitTable, WholeTable};
 
 /// The version of the archive that this program is linked with: major, minor and patch. The tests
 /// hold it against the crate's own.

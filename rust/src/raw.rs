@@ -97,8 +97,16 @@ struct WholeReply {
     place: u16,
 }
 
+#[repr(C)]
+struct BitmapReply {
+    answer: Answer,
+    place: u16,
+}
+
 mod archive {
-    use super::{Answer, GateImage, GateReply, Image, Reply, SplitReply, TakenMany, WholeReply};
+    use super::{
+        Answer, BitmapReply, GateImage, GateReply, Image, Reply, SplitReply, TakenMany, WholeReply,
+    };
 
     extern "C" {
         pub fn sleet_version() -> u64;
@@ -154,6 +162,12 @@ mod archive {
             table: *mut u16,
             table_length: usize,
         ) -> Answer;
+        pub fn sleet_build_bitmap(
+            set: *const u8,
+            set_length: usize,
+            table: *mut u16,
+            table_length: usize,
+        ) -> Answer;
         pub fn sleet_read_split(
             table: *const u16,
             table_length: usize,
@@ -174,6 +188,16 @@ mod archive {
             list: *mut u32,
             list_length: usize,
         ) -> WholeReply;
+        pub fn sleet_read_bitmap(
+            table: *const u16,
+            table_length: usize,
+            place: u16,
+            count: u32,
+            piece: *const u8,
+            piece_length: usize,
+            list: *mut u32,
+            list_length: usize,
+        ) -> BitmapReply;
     }
 }
 
@@ -275,6 +299,11 @@ pub fn build_whole(set: &[u8], table: &mut [u16]) -> Answer {
     unsafe { archive::sleet_build_whole(set.as_ptr(), set.len(), at, length) }
 }
 
+pub fn build_bitmap(set: &[u8], table: &mut [u16]) -> Answer {
+    let (at, length) = (table.as_mut_ptr(), table.len());
+    unsafe { archive::sleet_build_bitmap(set.as_ptr(), set.len(), at, length) }
+}
+
 pub fn read_split(
     table: &[u16],
     place: &mut [u16; 8],
@@ -321,6 +350,29 @@ pub fn read_whole(
     reply.answer
 }
 
+pub fn read_bitmap(
+    table: &[u16],
+    place: &mut u16,
+    count: u32,
+    piece: &[u8],
+    list: &mut [u32],
+) -> Answer {
+    let reply = unsafe {
+        archive::sleet_read_bitmap(
+            table.as_ptr(),
+            table.len(),
+            *place,
+            count,
+            piece.as_ptr(),
+            piece.len(),
+            list.as_mut_ptr(),
+            list.len(),
+        )
+    };
+    *place = reply.place;
+    reply.answer
+}
+
 // The layout of the archive, as include/sleet.h states it. (That the answer stands behind the desk,
 // or the place behind the answer, follows from the sizes: no member but the last has bytes behind it.)
 const _: () = {
@@ -329,6 +381,7 @@ const _: () = {
     assert!(size_of::<Image>() == 4576 && size_of::<Reply>() == 4640);
     assert!(size_of::<TakenMany>() == 4584);
     assert!(size_of::<SplitReply>() == 80 && size_of::<WholeReply>() == 72);
+    assert!(size_of::<BitmapReply>() == 72);
     assert!(size_of::<Seen>() == 16 && size_of::<GateImage>() == 4832);
     assert!(size_of::<GateReply>() == 4896);
 };

@@ -41,7 +41,7 @@ pub enum Refusal {
     },
     /// 7: the table is too short for the set.
     Table {
-        /// The lowest machine that lacks slots; 254 for a whole-byte table.
+        /// The lowest machine that lacks slots; 254 for a whole-byte table, 253 for a bitmap table.
         machine: usize,
         /// The states that it needs.
         states: usize,

@@ -124,6 +124,12 @@ impl TagSet {
     pub fn whole_slots(&self) -> usize {
         self.whole_slots
     }
+
+    /// The slots that a bitmap table of this set needs: as many as a whole-byte table does, for it has
+    /// the same states.
+    pub fn bitmap_slots(&self) -> usize {
+        self.whole_slots
+    }
 }
 
 /// A set in the making; see [`TagSet`].

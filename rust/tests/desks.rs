@@ -1,7 +1,8 @@
 //! Desks side by side, in several threads, and emptied in several ways.
 
 use sleetbarley::{
-    Desk, Edition, Record, Serial, SplitTable, Stop, Tag, TagSet, TicketState, WholeTable,
+    BitmapTable, Desk, Edition, Record, Serial, SplitTable, Stop, Tag, TagSet, TicketState,
+    WholeTable,
 };
 use std::sync::mpsc::channel;
 use std::thread;
@@ -57,11 +58,13 @@ fn tables_outside_find_what_the_desk_finds() {
     assert!(expected.len() > 256);
     let split = SplitTable::build(&tags()).expect("slots enough");
     let whole = WholeTable::build(&tags()).expect("slots enough");
+    let bitmap = BitmapTable::build(&tags()).expect("slots enough");
     let pairs = |found: Vec<sleetbarley::Found>| -> Vec<(u32, Tag)> {
         found.iter().map(|found| (found.end, found.tag)).collect()
     };
     assert_eq!(pairs(split.find_all(&text).expect("read")), expected);
     assert_eq!(pairs(whole.find_all(&text).expect("read")), expected);
+    assert_eq!(pairs(bitmap.find_all(&text).expect("read")), expected);
 }
 
 #[test]

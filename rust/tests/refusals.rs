@@ -4,7 +4,8 @@
 
 use sleetbarley::lent::{self, LentDesk, SPLIT_TABLE};
 use sleetbarley::{
-    Desk, Edition, Found, Gate, Refusal, Serial, SplitTable, Stop, Tag, TagSet, WholeTable,
+    BitmapTable, Desk, Edition, Found, Gate, Refusal, Serial, SplitTable, Stop, Tag, TagSet,
+    WholeTable,
 };
 
 fn assert_refused<T: std::fmt::Debug>(said: Result<T, Refusal>, number: u32, values: &[u64]) {
@@ -57,6 +58,7 @@ fn sets_are_refused_by_the_builder_and_by_replace_alike() {
         let mut table = vec![7; lent::WHOLE_TABLE];
         assert_refused(lent::build_split(&bytes, &mut table), number, &[value]);
         assert_refused(lent::build_whole(&bytes, &mut table), number, &[value]);
+        assert_refused(lent::build_bitmap(&bytes, &mut table), number, &[value]);
         assert!(table.iter().all(|number| *number == 7));
     }
     assert_refused(TagSet::new([[7u8; 70_000]]), 4, &[0]);
@@ -72,6 +74,11 @@ fn short_tables_are_refused_and_left_as_they_were() {
     assert!(Desk::with_slots(10).replace(&set).is_ok());
     let mut short = vec![7; 10 * 257 - 1];
     assert_refused(lent::build_whole(set.as_bytes(), &mut short), 7, &[254, 10]);
+    assert_refused(
+        lent::build_bitmap(set.as_bytes(), &mut short[..189]),
+        7,
+        &[253, 10],
+    );
     assert_refused(
         lent::build_split(set.as_bytes(), &mut short[..239]),
         7,
@@ -120,6 +127,7 @@ fn reads_outside_the_desk_are_refused() {
     let set = TagSet::new(["he", "she"]).expect("lawful");
     let split = SplitTable::build(&set).expect("slots enough");
     let whole = WholeTable::build(&set).expect("slots enough");
+    let bitmap = BitmapTable::build(&set).expect("slots enough");
     let mut list = [7; 8];
     let slots = set.split_slots() as u16;
     let mut outside = lent::SPLIT_START;
@@ -136,6 +144,9 @@ fn reads_outside_the_desk_are_refused() {
         &[],
     );
     assert_refused(whole.read(0, u32::MAX, b"u", &mut list), 14, &[]);
+    let states = set.bitmap_slots() as u16;
+    assert_refused(bitmap.read(states, u32::MAX, b"she", &mut list), 15, &[]);
+    assert_refused(bitmap.read(0, u32::MAX, b"u", &mut list), 14, &[]);
     assert_eq!(list, [7; 8]);
     let last = split.read(lent::SPLIT_START, u32::MAX - 3, b"she", &mut list);
     let last = last.expect("it just fits");

@@ -93,11 +93,17 @@ static void null_runs(void)
                      first.record.end == 4 && first.record.tag == 0);
     need("a null set has no size", sleet_size(NULL, 28).refusal == SLEET_REFUSED_EMPTY);
     need("nor a table", sleet_make_split(NULL, 28, table, 9).refusal == SLEET_REFUSED_EMPTY &&
-                            sleet_make_whole(set, length, NULL, 9).refusal == SLEET_REFUSED_TABLE);
+                            sleet_make_whole(set, length, NULL, 9).refusal == SLEET_REFUSED_TABLE &&
+                            sleet_make_bitmap(NULL, 28, table, 9).refusal == SLEET_REFUSED_EMPTY);
+    sleet_built no_bitmap = sleet_make_bitmap(set, length, NULL, SLEET_BITMAP_TABLE);
+    need("a null bitmap table", no_bitmap.refusal == SLEET_REFUSED_TABLE &&
+                                    no_bitmap.machine == SLEET_BITMAP_MACHINE && no_bitmap.needs == 10);
     was_read("a null list", sleet_scan_split(table, SLEET_SPLIT_TABLE, place, 0, (const uint8_t *)"ushers", 6, NULL, 9),
              0, 3, SLEET_STOP_FULL, 0);
     was_read("a null table scanned", sleet_scan_whole(NULL, 9, place, 0, NULL, 9, NULL, 9), SLEET_REFUSED_PLACE, 0,
              SLEET_STOP_NONE, 0);
+    was_read("a null bitmap table scanned", sleet_scan_bitmap(NULL, 190, place, 0, NULL, 9, NULL, 9),
+             SLEET_REFUSED_PLACE, 0, SLEET_STOP_NONE, 0);
 }
 
 /* What becomes of a ticket; and what is refused says nothing that could be taken for an answer. */
@@ -145,6 +151,17 @@ static void empty_runs(int side)
     expect("split, no numbers", sleet_build_split(set, length, no_numbers, 0), SLEET_REFUSED_TABLE, 0, 9, 0, 0);
     expect("whole, no numbers", sleet_build_whole(set, length, no_numbers, 0), SLEET_REFUSED_TABLE,
            SLEET_WHOLE_MACHINE, 10, 0, 0);
+    expect("bitmap, no bytes", sleet_build_bitmap(no_bytes, 0, table, 240), SLEET_REFUSED_EMPTY, 0, 0, 0, 0);
+    expect("bitmap, no numbers", sleet_build_bitmap(set, length, no_numbers, 0), SLEET_REFUSED_TABLE,
+           SLEET_BITMAP_MACHINE, 10, 0, 0);
+    expect("bitmap", sleet_build_bitmap(set, length, table, 240), 0, 4, 0, 0, 0);
+    sleet_bitmap_reply m = sleet_read_bitmap(no_numbers, 0, 0, 0, no_bytes, 0, no_list, 0);
+    expect("bitmap read, no numbers", m.answer, SLEET_REFUSED_PLACE, 0, 0, 0, 0);
+    m = sleet_read_bitmap(table, 240, 0, UINT32_MAX, no_bytes, 0, no_list, 0);
+    expect("bitmap read, no bytes", m.answer, 0, 0, SLEET_STOP_ALL, 0, 0);
+    m = sleet_read_bitmap(table, 240, 0, 0, (const uint8_t *)"hxshe", 5, no_list, 0);
+    expect("bitmap read, no list", m.answer, 0, 4, SLEET_STOP_FULL, 0, 1);
+    need("its state", m.place == 5);
     expect("split", sleet_build_split(set, length, table, 240), 0, 4, 0, 0, 0);
     sleet_split_reply r = sleet_read_split(no_numbers, 0, start, 0, no_bytes, 0, no_list, 0);
     expect("read, no numbers", r.answer, SLEET_REFUSED_PLACE, 0, 0, 0, 0);
@@ -231,6 +248,39 @@ static void guarded_tables(int side)
              SLEET_STOP_NONE, 0);
 }
 
+/* The same over a bitmap table; and over one that was written over, which is walked as its numbers say. */
+static void guarded_bitmap(int side)
+{
+    uint8_t *set = guarded(28, side), *piece = guarded(6, side);
+    uint16_t *table = guarded(2 * 190, side), *state = guarded(2, side);
+    sleet_found *list = guarded(3 * sizeof *list, side);
+    size_t length = sample_set(set, 28);
+    memcpy(piece, "ushers", 6);
+    need("bitmap", sleet_make_bitmap(set, length, table, 190).tags == 4);
+    sleet_was_read said = sleet_scan_bitmap(table, 190, state, 0, piece, 6, list, 3);
+    was_read("scan bitmap", said, 0, 6, SLEET_STOP_ALL, 3);
+    need("its move and its place", said.moves == 1 && *state == 9);
+    static const sleet_found records[3] = {{4, 0}, {4, 1}, {6, 3}};
+    need("its records", memcmp(list, records, sizeof records) == 0);
+    said = sleet_scan_bitmap(table, 190, state, UINT32_MAX, piece, 6, list, 3);
+    was_read("too long", said, SLEET_REFUSED_LONG, 0, SLEET_STOP_NONE, 0);
+    need("no moves", said.moves == 0 && *state == 9);
+    *state = 10;
+    was_read("a place outside", sleet_scan_bitmap(table, 190, state, 0, piece, 6, list, 3), SLEET_REFUSED_PLACE, 0,
+             SLEET_STOP_NONE, 0);
+    need("the place given", *state == 10);
+    /* she fails to itself: after it 'r' has no way */
+    table[8 * SLEET_BITMAP_SLOT + 17] = 8;
+    *state = 0;
+    said = sleet_scan_bitmap(table, 190, state, 0, piece, 6, list, 3);
+    was_read("damaged", said, 0, 4, SLEET_STOP_DAMAGED, 2);
+    need("no move of it counts", said.moves == 0 && *state == 8);
+    memset(table, 255, 2 * 190);
+    *state = 9;
+    was_read("numbers of any kind", sleet_scan_bitmap(table, 190, state, 0, piece, 6, list, 3), 0, 0,
+             SLEET_STOP_DAMAGED, 0);
+}
+
 /* Nothing is added, and the length stays as it was. */
 static int not_added(sleet_added said, size_t length) { return !said.added && said.length == length; }
 
@@ -284,6 +334,7 @@ static void *all(void *unused)
         guarded_desk(side);
         guarded_gate(side);
         guarded_tables(side);
+        guarded_bitmap(side);
     }
     return unused;
 }

@@ -10,7 +10,7 @@ use Rattle.desk.specs.declared.OpenAnswer.{OpenAnswer}
 use Rattle.desk.specs.declared.ReplaceAnswer.{ReplaceAnswer}
 use Rattle.desk.specs.declared.StateAnswer.{StateAnswer}
 use Rattle.desk.specs.declared.TakeAnswer.{TakeAnswer}
-use Rattle.numbers.specs.Answers.{answerOf, endingNumber, endingValues}
+use Rattle.numbers.specs.Answers.{answerOf, endingNumber, endingValues, movedValues}
 use Rattle.numbers.specs.declared.Answer.{Answer}
 use Rattle.numbers.specs.declared.Said.{Said}
 use Rattle.reading.specs.declared.Ending.{Ending}
@@ -130,12 +130,24 @@ builtLine said = answerLine tagsLine (builtNumber said) (builtValues said)
 abbrev pub numbersLine : List ℕ → List ℕ
 numbersLine numbers = ended ((110 ∷ 117 ∷ 109 ∷ 98 ∷ 101 ∷ 114 ∷ 115 ∷ []) ++ listed [] numbers)
 
--- a read outside that stopped: the bytes taken, why, the records, the place, and on a line of its own the list
+-- `taken T stop WHY records R`
+abbrev pub recordsPart : Answer → List ℕ
+recordsPart given = fedPart given ++ numbered (32 ∷ 114 ∷ 101 ∷ 99 ∷ 111 ∷ 114 ∷ 100 ∷ 115 ∷ 32 ∷ []) (given .c)
+
+-- ` place P...`, and on a line of its own the list
+abbrev pub placePart : List ℕ → List ℕ → List ℕ
+placePart place list = ended ((32 ∷ 112 ∷ 108 ∷ 97 ∷ 99 ∷ 101 ∷ []) ++ listed [] place) ++ ended ((108 ∷ 105 ∷ 115 ∷ 116 ∷ []) ++ listed [] list)
+
+-- a read outside that stopped
 abbrev pub stoppedLines : List ℕ → List ℕ → Answer → List ℕ
-stoppedLines place list given =
-    ended (fedPart given ++ numbered (32 ∷ 114 ∷ 101 ∷ 99 ∷ 111 ∷ 114 ∷ 100 ∷ 115 ∷ 32 ∷ []) (given .c)
-    ++ (32 ∷ 112 ∷ 108 ∷ 97 ∷ 99 ∷ 101 ∷ []) ++ listed [] place)
-    ++ ended ((108 ∷ 105 ∷ 115 ∷ 116 ∷ []) ++ listed [] list)
+stoppedLines place list given = recordsPart given ++ placePart place list
+
+-- one over a bitmap table: ` moves M` before the place
+abbrev pub movedLines : List ℕ → List ℕ → Answer → List ℕ
+movedLines place list given = recordsPart given ++ numbered (32 ∷ 109 ∷ 111 ∷ 118 ∷ 101 ∷ 115 ∷ 32 ∷ []) (given .d) ++ placePart place list
 
 abbrev pub readLines : ℕ → Ending → ℕ → List ℕ → List ℕ → List ℕ
 readLines count ending records place list = answerLine (stoppedLines place list) (endingNumber ending) (endingValues count records ending)
+
+abbrev pub mapLines : ℕ → Ending → ℕ → ℕ → List ℕ → List ℕ → List ℕ
+mapLines count ending records moves place list = answerLine (movedLines place list) (endingNumber ending) (movedValues count records moves ending)

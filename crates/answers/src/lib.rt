@@ -23,8 +23,9 @@ use texts::refused;
 pub use texts::word_line;
 ghost use mathlib.Core.List.{_∷_, [], _++_};
 ghost use Rattle.output.specs.Buffer.{buffer, Puts};
-ghost use Rattle.answers.specs.Answers.{listed, ended, stopWord, fedPart, heldPart, statePart, recordLine, stoppedLines};
-ghost use Rattle.answers.specs.Answers.{replaceLine, openLine, feedLine, closeLine, stateLine, takeLine, builtLine, numbersLine, readLines};
+ghost use Rattle.answers.specs.Answers.{listed, ended, stopWord, fedPart, heldPart, statePart, recordLine};
+ghost use Rattle.answers.specs.Answers.{replaceLine, openLine, feedLine, closeLine, stateLine, takeLine, builtLine, numbersLine};
+ghost use Rattle.answers.specs.Answers.{recordsPart, placePart, stoppedLines, movedLines, readLines, mapLines};
 
 pub fn replaced(out: &mut [u8; 65536], used: usize, answer: ReplaceAnswer) -> usize
     ensures { λ r. ⌜ Puts (buffer (now (out .entry)) used) (replaceLine answer) (buffer (now (out .exit)) r) ⌝ }
@@ -166,15 +167,27 @@ fn put_list(out: &mut [u8; 65536], used: usize, list: &[u32]) -> usize
     put_line_end(out, n)
 }
 
-fn stopped(out: &mut [u8; 65536], used: usize, given: Answer, place: &[u16], list: &[u32]) -> usize
-    ensures { λ r. ⌜ Puts (buffer (now (out .entry)) used) (stoppedLines (now (place .entry)) (now (list .entry)) given) (buffer (now (out .exit)) r) ⌝ }
+fn put_read(out: &mut [u8; 65536], used: usize, given: Answer) -> usize
+    ensures { λ r. ⌜ Puts (buffer (now (out .entry)) used) (recordsPart given) (buffer (now (out .exit)) r) ⌝ }
 {
     let n = put_fed(out, used, given);
-    let n = put_numbered(out, n, b" records ", given.c);
-    let n = put_words(out, n, b" place");
+    put_numbered(out, n, b" records ", given.c)
+}
+
+fn put_place(out: &mut [u8; 65536], used: usize, place: &[u16], list: &[u32]) -> usize
+    ensures { λ r. ⌜ Puts (buffer (now (out .entry)) used) (placePart (now (place .entry)) (now (list .entry))) (buffer (now (out .exit)) r) ⌝ }
+{
+    let n = put_words(out, used, b" place");
     let n = put_numbers(out, n, place);
     let n = put_line_end(out, n);
     put_list(out, n, list)
+}
+
+fn stopped(out: &mut [u8; 65536], used: usize, given: Answer, place: &[u16], list: &[u32]) -> usize
+    ensures { λ r. ⌜ Puts (buffer (now (out .entry)) used) (stoppedLines (now (place .entry)) (now (list .entry)) given) (buffer (now (out .exit)) r) ⌝ }
+{
+    let n = put_read(out, used, given);
+    put_place(out, n, place, list)
 }
 
 pub fn read_lines(
@@ -195,4 +208,34 @@ pub fn read_lines(
         return refused(out, used, said);
     }
     stopped(out, used, given, place, list)
+}
+
+fn moved(out: &mut [u8; 65536], used: usize, given: Answer, place: &[u16], list: &[u32]) -> usize
+    ensures { λ r. ⌜ Puts (buffer (now (out .entry)) used) (movedLines (now (place .entry)) (now (list .entry)) given) (buffer (now (out .exit)) r) ⌝ }
+{
+    let n = put_read(out, used, given);
+    let n = put_numbered(out, n, b" moves ", given.d);
+    put_place(out, n, place, list)
+}
+
+// The same over a bitmap table, with the failure moves of the bytes taken.
+pub fn map_lines(
+    out: &mut [u8; 65536],
+    used: usize,
+    taken: usize,
+    ending: Ending,
+    records: usize,
+    moves: usize,
+    place: &[u16],
+    list: &[u32],
+) -> usize
+    ensures { λ r. ⌜ Puts (buffer (now (out .entry)) used)
+        (mapLines taken ending records moves (now (place .entry)) (now (list .entry))) (buffer (now (out .exit)) r) ⌝ }
+{
+    let said = numbers::of_map_read(taken, records, moves, ending);
+    let given = said.answer;
+    if given.refusal > 0 {
+        return refused(out, used, said);
+    }
+    moved(out, used, given, place, list)
 }

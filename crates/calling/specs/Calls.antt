@@ -4,6 +4,7 @@ use mathlib.Core.Path.{_≡_}
 use mathlib.Core.List.{List, [], _∷_, _++_}
 use lib.ListN.{length, take, drop, set, getD, replicate}
 use Rattle.answers.specs.Answers.{wordLine, notACallLine, replaceLine, openLine, feedLine, closeLine, stateLine, takeLine, builtLine, numbersLine, readLines}
+use Rattle.answers.specs.Answers.{mapLines}
 use Rattle.answers.specs.Show.{showLines}
 use Rattle.desk.specs.Calls.{newDesk, openOf, closeOf, takeOf}
 use Rattle.desk.specs.Feed.{feedOf}
@@ -12,13 +13,16 @@ use Rattle.desk.specs.Rooms.{serialOf}
 use Rattle.desk.specs.State.{stateOf}
 use Rattle.desk.specs.declared.Desk.{Desk}
 use Rattle.reading.specs.Outside.{readOf, splitBy, wholeBy, listBy}
+use Rattle.bitmap_reading.specs.Outside.{mapBy, readMapOf}
+use Rattle.bitmap_reading.specs.declared.MapAnswer.{MapAnswer}
 use Rattle.reading.specs.declared.SplitAnswer.{SplitAnswer}
 use Rattle.reading.specs.declared.WholeAnswer.{WholeAnswer}
 use Rattle.script.specs.Calls.{CallOf, passedOver, notACall, callSet, callLend, callReplace, callOpen, callFeed, callClose, callState, callTake}
 use Rattle.script.specs.Calls.{callShow, callBuild, callRead, callPoke, callPeek}
 use Rattle.script.specs.declared.Layout.{Layout}
-use Rattle.script.specs.declared.Layout.the-variants.{Split, Whole}
+use Rattle.script.specs.declared.Layout.the-variants.{Split, Whole, Bitmap}
 use Rattle.calling.specs.declared.State.{State}
+use Rattle.bitmap_tables.specs.Building.{mapBuiltOf, mapTableOf}
 use Rattle.tables.specs.Building.{builtOf, tableOf}
 use Rattle.tables.specs.declared.Built.{Built}
 use Rattle.output.specs.Buffer.{Buffer, Puts}
@@ -83,14 +87,16 @@ stateOn h serial = answered h (stateLine serial (stateOf (h .desk) (serialOf ser
 abbrev pub takeOn : Held → Answered
 takeOn h = answered (withDesk h (takeOf (h .desk) .desk)) (takeLine (takeOf (h .desk) .answer))
 
--- building outside the desk: the split table has 8 machines of one bit each, the whole-byte table one of 8
+-- building outside the desk: the split table has 8 machines of one bit each, the whole-byte table one of 8; the bitmap table is by itself
 abbrev pub builtBy : Layout → List ℕ → ℕ → Built
 builtBy Split bytes n = builtOf 1 8 bytes n
 builtBy Whole bytes n = builtOf 8 1 bytes n
+builtBy Bitmap bytes n = mapBuiltOf bytes n
 
 abbrev pub tableBy : Layout → List ℕ → List ℕ → List ℕ
 tableBy Split bytes run = tableOf 1 8 bytes run
 tableBy Whole bytes run = tableOf 8 1 bytes run
+tableBy Bitmap bytes run = mapTableOf bytes run
 
 abbrev pub buildOn : Held → Layout → Answered
 buildOn h layout = answered (withLent h (tableBy layout (h .bytes) (lentTable h))) (builtLine (builtBy layout (h .bytes) (length (lentTable h))))
@@ -105,12 +111,18 @@ splitText r list = readLines (r .taken) (r .ending) (r .records) (r .place) list
 abbrev pub wholeText : WholeAnswer → List ℕ → List ℕ
 wholeText r list = readLines (r .taken) (r .ending) (r .records) (r .place ∷ []) list
 
+abbrev pub mapText : MapAnswer → List ℕ → List ℕ
+mapText r list = mapLines (r .taken) (r .ending) (r .records) (r .moves) (r .place ∷ []) list
+
 abbrev pub readText : List ℕ → Layout → ℕ → ℕ → List ℕ → List ℕ → List ℕ
 readText table Split count room place piece =
     splitText (splitBy place (readOf 1 8 table place count piece room)) (listBy (sevens room) (readOf 1 8 table place count piece room))
 readText table Whole count room place piece =
     wholeText (wholeBy (getD place 0 0) (readOf 8 1 table (getD place 0 0 ∷ []) count piece room))
     (listBy (sevens room) (readOf 8 1 table (getD place 0 0 ∷ []) count piece room))
+readText table Bitmap count room place piece =
+    mapText (mapBy (getD place 0 0) (readMapOf table (getD place 0 0) count piece room))
+    (listBy (sevens room) (readMapOf table (getD place 0 0) count piece room))
 
 abbrev pub pokeOn : Held → ℕ → ℕ → Answered
 pokeOn h at value = answered (record { desk = h .desk; bytes = h .bytes; table = set (h .table) at value; lent = h .lent })

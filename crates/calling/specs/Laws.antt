@@ -12,16 +12,12 @@ use Rattle.desk.specs.Rooms.{serialOf}
 use Rattle.desk.specs.declared.Desk.{Desk}
 use Rattle.desk.specs.declared.Feeding.{Feeding}
 use Rattle.desk.specs.declared.Replacing.{Replacing}
-use Rattle.reading.specs.Outside.{readOf, splitBy, wholeBy, listBy}
-use Rattle.reading.specs.declared.SplitAnswer.{SplitAnswer}
-use Rattle.reading.specs.declared.WholeAnswer.{WholeAnswer}
+use Rattle.reading.specs.Outside.{ReadAt, listBy}
 use Rattle.script.specs.Laws.Bytes.{front-put}
 use Rattle.script.specs.Calls.{Bounded}
 use Rattle.script.specs.declared.Call.{Call}
 use Rattle.script.specs.declared.Layout.{Layout}
-use Rattle.script.specs.declared.Layout.the-variants.{Split, Whole}
 use Rattle.calling.specs.Calls.{Held, answered, withDesk, heldBy, Did, replaceOn, feedOn, buildOn, builtBy, tableBy, sevens}
-use Rattle.calling.specs.Calls.{splitText, wholeText, readText}
 use Rattle.calling.specs.declared.State.{State}
 use Rattle.tables.specs.declared.Built.{Built}
 use Rattle.output.specs.Buffer.{Buffer, Puts}
@@ -103,32 +99,16 @@ did-feed s serial bytes table piece r e p =
 
 -- ---- reads outside the desk
 
-pub split-said : (table place piece list before after : List ℕ) (count : ℕ) (r : SplitAnswer) {b a : Buffer} → before ≡ sevens (length list)
-    → r ≡ splitBy place (readOf 1 8 table place count piece (length before)) → after ≡ listBy before (readOf 1 8 table place count piece (length before))
-    → Puts b (splitText r after) a → Puts b (readText table Split count (length list) place piece) a
-split-said table place piece list before after count r e f g p =
-    let k : length before ≡ length list = ap length e ∙ length-replicate (length list) 7 in
-    let is : r ≡ splitBy place (readOf 1 8 table place count piece (length list)) = rw k at f in
-    let left : after ≡ listBy before (readOf 1 8 table place count piece (length list)) = rw k at g in
-    said
-    (ap (λ (x : SplitAnswer). splitText x after) is
-    ∙ ap (splitText (splitBy place (readOf 1 8 table place count piece (length list))))
-    (left ∙ ap (λ (l : List ℕ). listBy l (readOf 1 8 table place count piece (length list))) e))
-    p
-
-pub whole-said : (table piece list before after : List ℕ) (place count : ℕ) (r : WholeAnswer) {b a : Buffer} → before ≡ sevens (length list)
-    → r ≡ wholeBy place (readOf 8 1 table (place ∷ []) count piece (length before))
-    → after ≡ listBy before (readOf 8 1 table (place ∷ []) count piece (length before))
-    → Puts b (wholeText r after) a → Puts b (readText table Whole count (length list) (place ∷ []) piece) a
-whole-said table piece list before after place count r e f g p =
-    let k : length before ≡ length list = ap length e ∙ length-replicate (length list) 7 in
-    let is : r ≡ wholeBy place (readOf 8 1 table (place ∷ []) count piece (length list)) = rw k at f in
-    let left : after ≡ listBy before (readOf 8 1 table (place ∷ []) count piece (length list)) = rw k at g in
-    said
-    (ap (λ (x : WholeAnswer). wholeText x after) is
-    ∙ ap (wholeText (wholeBy place (readOf 8 1 table (place ∷ []) count piece (length list))))
-    (left ∙ ap (λ (l : List ℕ). listBy l (readOf 8 1 table (place ∷ []) count piece (length list))) e))
-    p
+-- a read of any layout: what it comes to by the numbers of its list, the answer by that, and the text of an answer and a list
+module _ {P A : Type 0} (came : ℕ → ReadAt P) (answer : ReadAt P → A) (text : A → List ℕ → List ℕ) where
+  pub read-said : (list before after : List ℕ) (r : A) {b a : Buffer} → before ≡ sevens (length list) → r ≡ answer (came (length before))
+      → after ≡ listBy before (came (length before)) → Puts b (text r after) a
+      → Puts b (text (answer (came (length list))) (listBy (sevens (length list)) (came (length list)))) a
+  read-said list before after r e f g p =
+      let k : length before ≡ length list = ap length e ∙ length-replicate (length list) 7 in
+      let is : r ≡ answer (came (length list)) = rw k at f in
+      let left : after ≡ listBy before (came (length list)) = rw k at g in
+      said (ap (λ (x : A). text x after) is ∙ ap (text (answer (came (length list)))) (left ∙ ap (λ (l : List ℕ). listBy l (came (length list))) e)) p
 
 -- what a call keeps to, as its row has it
 pub bound : {call k : Call} → call ≡ k → Bounded call → Bounded k

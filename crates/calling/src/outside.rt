@@ -19,6 +19,7 @@ fn build_by(layout: Layout, set: &[u8], table: &mut [u16]) -> Built
     match layout {
         Layout::Split => tables::build_split(set, table),
         Layout::Whole => tables::build_whole(set, table),
+        Layout::Bitmap => bitmap_tables::build_bitmap(set, table),
     }
 }
 
@@ -96,6 +97,25 @@ fn read_whole(
     answers::read_lines(out, used, r.taken, ending, r.records, &after, list)
 }
 
+fn read_bitmap(
+    used: usize,
+    count: u32,
+    place: u16,
+    table: &[u16],
+    piece: &[u8],
+    list: &mut [u32],
+    out: &mut [u8; 65536],
+) -> usize
+    ensures { λ r. ⌜ Puts (buffer (now (out .entry)) used) (readText (now (table .entry)) Layout.Bitmap count (length (now (list .entry)))
+        (place ∷ []) (now (piece .entry))) (buffer (now (out .exit)) r) ⌝ }
+{
+    fill(list);
+    let r = bitmap_reading::read_bitmap(table, place, count, piece, list);
+    let after = [r.place];
+    let ending = r.ending;
+    answers::map_lines(out, used, r.taken, ending, r.records, r.moves, &after, list)
+}
+
 fn read_by(
     used: usize,
     layout: Layout,
@@ -112,6 +132,7 @@ fn read_by(
     match layout {
         Layout::Split => read_split(used, count, place, table, piece, list, out),
         Layout::Whole => read_whole(used, count, place[0], table, piece, list, out),
+        Layout::Bitmap => read_bitmap(used, count, place[0], table, piece, list, out),
     }
 }
 

@@ -14,12 +14,17 @@ use Rattle.gate.specs.declared.Deciding.{Deciding}
 use Rattle.gate.specs.declared.Piecing.{Piecing}
 use Rattle.gate_numbers.specs.Answers.{pieceAnswer, verdictAnswer}
 use Rattle.exports.specs.declared.GateReply.{GateReply}
+use Rattle.exports.specs.declared.MapReply.{MapReply}
 use Rattle.exports.specs.declared.Reply.{Reply}
 use Rattle.exports.specs.declared.SplitReply.{SplitReply}
 use Rattle.exports.specs.declared.TakenMany.{TakenMany}
 use Rattle.exports.specs.declared.WholeReply.{WholeReply}
-use Rattle.numbers.specs.Answers.{closeAnswer, feedAnswer, openAnswer, replaceAnswer, splitSaid, takeAnswer, wholeSaid}
-use Rattle.reading.specs.Outside.{ReadOf, listBy, splitBy, wholeBy}
+use Rattle.numbers.specs.Answers.{closeAnswer, feedAnswer, movedAnswer, openAnswer, replaceAnswer, splitSaid, takeAnswer, wholeSaid}
+use Rattle.numbers.specs.declared.Answer.{Answer}
+use Rattle.reading.specs.Outside.{ReadAt, ReadOf, listBy, splitBy, wholeBy}
+use Rattle.bitmap_reading.specs.Outside.{mapBy}
+use Rattle.bitmap_reading.specs.Reading.{Standing}
+use Rattle.bitmap_reading.specs.declared.MapAnswer.{MapAnswer}
 
 -- ---- of the desk
 
@@ -62,3 +67,10 @@ SplitTold r place before after x = (r .answer ≡ splitSaid (splitBy place x)) �
 
 abbrev pub WholeTold : WholeReply → (place : ℕ) (before after : List ℕ) → ReadOf → Type 0
 WholeTold r place before after x = (r .answer ≡ wholeSaid (wholeBy place x)) × (r .place ≡ wholeBy place x .place) × (after ≡ listBy before x)
+
+-- with the failure moves of the bytes taken
+abbrev pub mapSaid : MapAnswer → Answer
+mapSaid r = movedAnswer (r .taken) (r .records) (r .moves) (r .ending)
+
+abbrev pub MapTold : MapReply → (place : ℕ) (before after : List ℕ) → ReadAt Standing → Type 0
+MapTold r place before after x = (r .answer ≡ mapSaid (mapBy place x)) × (r .place ≡ mapBy place x .place) × (after ≡ listBy before x)

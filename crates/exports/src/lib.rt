@@ -16,8 +16,10 @@ ghost use Rattle.desk.specs.TakeMany.{manyOf, takeManyOf, listTaken};
 ghost use Rattle.desk.specs.State.{stateOf};
 ghost use Rattle.gate.specs.Gate.{newGate, changeOf, beginOf, pieceOf, decideOf};
 ghost use Rattle.tables.specs.Building.{builtOf, tableOf, neededOf};
+ghost use Rattle.bitmap_tables.specs.Building.{mapBuiltOf, mapTableOf};
 ghost use Rattle.reading.specs.Outside.{readOf};
-ghost use Rattle.exports.specs.Replies.{ReplaceTold, OpenTold, FeedTold, CloseTold, TakeTold, ManyTold, SplitTold, WholeTold};
+ghost use Rattle.bitmap_reading.specs.Outside.{readMapOf};
+ghost use Rattle.exports.specs.Replies.{ReplaceTold, OpenTold, FeedTold, CloseTold, TakeTold, ManyTold, SplitTold, WholeTold, MapTold};
 ghost use Rattle.exports.specs.Replies.{ChangeTold, BeginTold, PieceTold, DecideTold};
 ghost use Rattle.numbers.specs.Answers.{stateAnswer, builtAnswer, neededAnswer};
 
@@ -51,6 +53,12 @@ pub struct SplitReply {
 
 #[repr(C)]
 pub struct WholeReply {
+    pub answer: Answer,
+    pub place: u16,
+}
+
+#[repr(C)]
+pub struct MapReply {
     pub answer: Answer,
     pub place: u16,
 }
@@ -254,6 +262,14 @@ pub extern "C" fn sleet_build_whole(set: &[u8], table: &mut [u16]) -> Answer
 }
 
 #[no_mangle]
+pub extern "C" fn sleet_build_bitmap(set: &[u8], table: &mut [u16]) -> Answer
+    ensures { λ r. ⌜ r ≡ builtAnswer (mapBuiltOf (now (set .entry)) (length (now (table .entry)))) ⌝ }
+    ensures { λ _. ⌜ now (table .exit) ≡ mapTableOf (now (set .entry)) (now (table .entry)) ⌝ }
+{
+    numbers::of_built(bitmap_tables::build_bitmap(set, table)).answer
+}
+
+#[no_mangle]
 pub extern "C" fn sleet_read_split(
     table: &[u16],
     place: &[u16; 8],
@@ -290,6 +306,26 @@ pub extern "C" fn sleet_read_whole(
     let ending = r.ending;
     let answer = numbers::of_read(r.taken, r.records, ending).answer;
     WholeReply {
+        answer,
+        place: r.place,
+    }
+}
+
+#[no_mangle]
+pub extern "C" fn sleet_read_bitmap(
+    table: &[u16],
+    place: u16,
+    count: u32,
+    piece: &[u8],
+    list: &mut [u32],
+) -> MapReply
+    ensures { λ r. ⌜ MapTold r place (now (list .entry)) (now (list .exit))
+        (readMapOf (now (table .entry)) place count (now (piece .entry)) (length (now (list .entry)))) ⌝ }
+{
+    let r = bitmap_reading::read_bitmap(table, place, count, piece, list);
+    let ending = r.ending;
+    let answer = numbers::of_map_read(r.taken, r.records, r.moves, ending).answer;
+    MapReply {
         answer,
         place: r.place,
     }

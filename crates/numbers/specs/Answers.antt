@@ -42,7 +42,7 @@ saidOf n values = record { answer = answerOf n values; count = length values }
 abbrev pub builtAnswer : Built → Answer
 builtAnswer r = answerOf (builtNumber r) (builtValues r)
 
--- the size query: the slots of the split and of the whole-byte layout
+-- the size query: the slots of the split and of the whole-byte layout; in the bitmap layout they are as many as in that
 abbrev pub neededAnswer : Needed → Answer
 neededAnswer r = answerOf (neededNumber r) (neededValues r)
 
@@ -66,17 +66,27 @@ takeAnswer r = answerOf (takeNumber r) (takeValues r)
 abbrev pub stateAnswer : StateAnswer → Answer
 stateAnswer r = answerOf 0 (stateValues r)
 
--- a read outside: the bytes taken, why it stopped, and the records written
+-- a read outside: the bytes taken, why it stopped, the records written, and what else its layout tells
 abbrev pub endingNumber : Ending → ℕ
 endingNumber (E.Stopped stop) = 0
 endingNumber (E.Refused why) = readNumber why
 
+abbrev pub endingWith : List ℕ → ℕ → ℕ → Ending → List ℕ
+endingWith more count records (E.Stopped stop) = count ∷ stopNumber stop ∷ records ∷ more
+endingWith more count records (E.Refused why) = readValues why
+
+-- over a split or a whole-byte table nothing else; over a bitmap table the failure moves of the bytes taken
 abbrev pub endingValues : ℕ → ℕ → Ending → List ℕ
-endingValues count records (E.Stopped stop) = count ∷ stopNumber stop ∷ records ∷ []
-endingValues count records (E.Refused why) = readValues why
+endingValues count records ending = endingWith [] count records ending
+
+abbrev pub movedValues : ℕ → ℕ → ℕ → Ending → List ℕ
+movedValues count records moves ending = endingWith (moves ∷ []) count records ending
 
 abbrev pub readAnswer : ℕ → ℕ → Ending → Answer
 readAnswer count records ending = answerOf (endingNumber ending) (endingValues count records ending)
+
+abbrev pub movedAnswer : ℕ → ℕ → ℕ → Ending → Answer
+movedAnswer count records moves ending = answerOf (endingNumber ending) (movedValues count records moves ending)
 
 abbrev pub splitSaid : SplitAnswer → Answer
 splitSaid r = readAnswer (r .taken) (r .records) (r .ending)

@@ -23,7 +23,7 @@ use Rattle.tables.specs.declared.Built.the-variants as B
 use Rattle.tagset.specs.Answer.{faultValues}
 use Rattle.tagset.specs.declared.SetFault.{SetFault}
 use Rattle.tagset.specs.declared.SetFault.the-variants.{Cut, Empty, Kind, Length, Many, Repeat}
-use Rattle.numbers.specs.Answers.{endingNumber, endingValues}
+use Rattle.numbers.specs.Answers.{endingNumber, endingWith}
 use Rattle.numbers.specs.declared.Said.{Said}
 
 pub answer-is : {s t : Said} → s ≡ t → s .answer ≡ t .answer
@@ -75,6 +75,6 @@ pub take-few : (r : TakeAnswer) → Few (takeNumber r) (takeValues r)
 take-few (K.Taken oldest) h = absurd (omega (arith, h))
 take-few K.Nothing h = refl
 
-pub ending-few : (taken records : ℕ) (r : Ending) → Few (endingNumber r) (endingValues taken records r)
-ending-few taken records (E.Stopped stop) h = absurd (omega (arith, h))
-ending-few taken records (E.Refused why) h = refl
+pub ending-few : (more : List ℕ) (taken records : ℕ) (r : Ending) → Few (endingNumber r) (endingWith more taken records r)
+ending-few more taken records (E.Stopped stop) h = absurd (omega (arith, h))
+ending-few more taken records (E.Refused why) h = refl

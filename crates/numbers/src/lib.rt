@@ -19,7 +19,7 @@ ghost use Rattle.tables.specs.Building.{builtNumber, builtValues, neededNumber,
 ghost use Rattle.reading.specs.Outside.{readNumber, readValues};
 ghost use Rattle.desk.specs.Numbers.{replaceNumber, replaceValues, openNumber, openValues, feedNumber, feedValues, closeNumber, closeValues};
 ghost use Rattle.desk.specs.Numbers.{takeNumber, takeValues, stateValues, stopNumber};
-ghost use Rattle.numbers.specs.Answers.{answerOf, saidOf, endingNumber, endingValues};
+ghost use Rattle.numbers.specs.Answers.{answerOf, saidOf, endingNumber, endingValues, movedValues};
 
 // No call gives more than four values yet; the others leave the layout as it is when one gives more.
 #[repr(C)]
@@ -97,6 +97,13 @@ fn of_stopped(taken: usize, records: usize, stop: Stop) -> Said
 {
     let why = of_stop(stop);
     three(taken as u64, why, records as u64)
+}
+
+fn of_moved(taken: usize, records: usize, moves: usize, stop: Stop) -> Said
+    ensures { λ r. ⌜ r ≡ saidOf 0 (taken ∷ stopNumber stop ∷ records ∷ moves ∷ []) ⌝ }
+{
+    let why = of_stop(stop);
+    with(0, 4, taken as u64, why, records as u64, moves as u64)
 }
 
 fn of_advance(advance: Advance) -> Said
@@ -226,6 +233,16 @@ pub fn of_read(taken: usize, records: usize, ending: Ending) -> Said
 {
     match ending {
         Ending::Stopped(stop) => of_stopped(taken, records, stop),
+        Ending::Refused(why) => of_refusal(why),
+    }
+}
+
+// The same over a bitmap table, with the failure moves of the bytes taken.
+pub fn of_map_read(taken: usize, records: usize, moves: usize, ending: Ending) -> Said
+    ensures { λ r. ⌜ r ≡ saidOf (endingNumber ending) (movedValues taken records moves ending) ⌝ }
+{
+    match ending {
+        Ending::Stopped(stop) => of_moved(taken, records, moves, stop),
         Ending::Refused(why) => of_refusal(why),
     }
 }

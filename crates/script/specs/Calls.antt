@@ -11,7 +11,7 @@ use Rattle.script.specs.Numbers.{numberOf, numbersOf}
 use Rattle.script.specs.Bytes.{BytesOf, these, noBytes, bytesOf}
 use Rattle.script.specs.Sets.{setOf}
 use Rattle.script.specs.declared.Layout.{Layout}
-use Rattle.script.specs.declared.Layout.the-variants.{Split, Whole}
+use Rattle.script.specs.declared.Layout.the-variants.{Split, Whole, Bitmap}
 use Rattle.script.specs.declared.Call.{Call}
 use Rattle.script.specs.declared.Call.the-variants as C
 use Rattle.script.specs.declared.Line.{Line}
@@ -47,6 +47,7 @@ pub data CallOf : Type 0 where
 abbrev pub machinesOf : Layout → ℕ
 machinesOf Split = 8
 machinesOf Whole = 1
+machinesOf Bitmap = 1
 
 -- what a call means beside the place and the bytes that were read with it
 abbrev pub meant : List ℕ → List ℕ → Call → CallOf
@@ -103,7 +104,8 @@ pub record Says (bytes : List ℕ) (says : CallOf) (line : Line) : Type 0 where
 unfoldable pub layoutOf : List ℕ → Layouts
 layoutOf word =
     cond (same word (115 ∷ 112 ∷ 108 ∷ 105 ∷ 116 ∷ [])) (Named Split)
-    (cond (same word (119 ∷ 104 ∷ 111 ∷ 108 ∷ 101 ∷ [])) (Named Whole) Unnamed)
+    (cond (same word (119 ∷ 104 ∷ 111 ∷ 108 ∷ 101 ∷ [])) (Named Whole)
+    (cond (same word (98 ∷ 105 ∷ 116 ∷ 109 ∷ 97 ∷ 112 ∷ [])) (Named Bitmap) Unnamed))
 
 -- some numbers, or words that are none
 pub data NumbersOf : Type 0 where

@@ -35,6 +35,7 @@ ghost use Rattle.script.specs.Calls.{pokeBy, peekBy, layoutOf};
 pub enum Layout {
     Split,
     Whole,
+    Bitmap,
 }
 
 // A call's numbers; of its bytes, how many the buffer begins with.

@@ -41,6 +41,7 @@ pub fn layout_of(word: &[u8]) -> Layouts
     ensures { λ r. ⌜ r ≡ layoutOf (now (word .entry)) ⌝ }
 {
     let l = Layouts::Unnamed;
+    let l = layout_named(word, b"bitmap", Layout::Bitmap, l);
     let l = layout_named(word, b"whole", Layout::Whole, l);
     layout_named(word, b"split", Layout::Split, l)
 }

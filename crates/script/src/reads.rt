@@ -28,6 +28,7 @@ pub fn machines(layout: Layout) -> usize
     match layout {
         Layout::Split => 8,
         Layout::Whole => 1,
+        Layout::Bitmap => 1,
     }
 }
 

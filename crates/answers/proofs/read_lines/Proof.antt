@@ -1,3 +1,4 @@
+use mathlib.Core.List.{[]}
 use Rattle.numbers.specs.Laws.{ending-few}
 use Rattle.answers.specs.Laws.Said.{say-given, say-refused}
 use borrow.Author.Needs.{needs}
@@ -13,7 +14,7 @@ refused-requires c κs = search needs
 returns : tie.Need-returns
 returns c =
     let a = c .before .before .before .before .before .before .before .before .args in
-    say-refused _ _ _ (ending-few (a .taken) (a .records) (a .ending))
+    say-refused _ _ _ (ending-few [] (a .taken) (a .records) (a .ending))
     (c .before .before .before .before .before .of-read .ensures) (c .before .before .if1 .taken) (c .refused .ensures)
 
 stopped-requires : tie.Need-stopped-requires

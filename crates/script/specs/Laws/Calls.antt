@@ -19,7 +19,7 @@ use Rattle.script.specs.Calls.{Called, nameOf, Row, callBy, callOf}
 use Rattle.script.specs.declared.Call.{Call}
 use Rattle.script.specs.declared.Call.the-variants.{NotACall, PassedOver}
 use Rattle.script.specs.declared.Layout.{Layout}
-use Rattle.script.specs.declared.Layout.the-variants.{Split, Whole}
+use Rattle.script.specs.declared.Layout.the-variants.{Split, Whole, Bitmap}
 use Rattle.script.specs.declared.Line.{Line}
 use Rattle.script.specs.declared.reads.Place.{Place}
 use Rattle.script.specs.declared.names.Layouts.{Layouts}
@@ -89,6 +89,7 @@ place-whole k i w rest ns e p =
 pub machines-most : (layout : Layout) → machinesOf layout ≤ 8
 machines-most Split = omega arith
 machines-most Whole = omega arith
+machines-most Bitmap = omega arith
 
 -- ---- a line's call
 

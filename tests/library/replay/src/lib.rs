@@ -71,6 +71,7 @@ impl Replay {
             Call::Show => return Ok(self.show()),
             Call::Build(Layout::Split) => format!("tags {}", lent::build_split(&self.set, lent)?),
             Call::Build(Layout::Whole) => format!("tags {}", lent::build_whole(&self.set, lent)?),
+            Call::Build(Layout::Bitmap) => format!("tags {}", lent::build_bitmap(&self.set, lent)?),
             Call::Read {
                 layout,
                 count,
@@ -106,11 +107,16 @@ impl Replay {
             Layout::Split => {
                 let start = place.try_into().expect("8 numbers");
                 let reading = lent::read_split(table, start, count, piece, &mut list)?;
-                told(&reading, &reading.place)
+                told(&reading, "", &reading.place)
             }
             Layout::Whole => {
                 let reading = lent::read_whole(table, place[0], count, piece, &mut list)?;
-                told(&reading, &[reading.place])
+                told(&reading, "", &[reading.place])
+            }
+            Layout::Bitmap => {
+                let said = lent::read_bitmap(table, place[0], count, piece, &mut list)?;
+                let moves = format!("moves {} ", said.moves);
+                told(&said.reading, &moves, &[said.reading.place])
             }
         };
         Ok(vec![said, numbers("list", &list)])
@@ -150,10 +156,11 @@ pub fn shown(edition: u32, serial: u32, held: usize, tickets: &[Ticket]) -> Vec<
         .collect()
 }
 
-fn told<P>(reading: &Reading<P>, place: &[u16]) -> String {
+/// What a reading gives, with what its layout tells before the place.
+fn told<P>(reading: &Reading<P>, more: &str, place: &[u16]) -> String {
     let (taken, stop, records) = (reading.taken, reading.stop, reading.records);
     let place = numbers("place", place);
-    format!("taken {taken} stop {stop} records {records} {place}")
+    format!("taken {taken} stop {stop} records {records} {more}{place}")
 }
 
 /// A word and numbers, each with one blank before it.

@@ -15,6 +15,12 @@ enum-told-2 c = search needs
 build-whole-requires : tie.Need-build-whole-requires
 build-whole-requires c κs = search needs
 
+enum-told-3 : tie.Need-enum-told-3
+enum-told-3 c = search needs
+
+build-bitmap-requires : tie.Need-build-bitmap-requires
+build-bitmap-requires c κs = search needs
+
 same-length : tie.Need-same-length
 same-length c = search needs
 
@@ -35,6 +41,16 @@ returns-2 c =
     let enum-told2 = c2 .before .before .enum-told2 in
     (rw (enum-told2 .given .1) (build-whole .ensures .0), rw (enum-told2 .given .1) (build-whole .ensures .1))
 
+same-length-3 : tie.Need-same-length-3
+same-length-3 c = search needs
+
+returns-3 : tie.Need-returns-3
+returns-3 c =
+    let c2 = c .before .before in
+    let build-bitmap = c2 .build-bitmap in
+    let enum-told3 = c2 .before .before .enum-told3 in
+    (rw (enum-told3 .given .1) (build-bitmap .ensures .0), rw (enum-told3 .given .1) (build-bitmap .ensures .1))
+
 pub build-by-spec : {M : Type 1} → statement M
 build-by-spec =
     tie.close
@@ -43,7 +59,11 @@ build-by-spec =
     build-split-requires
     enum-told-2
     build-whole-requires
+    enum-told-3
+    build-bitmap-requires
     same-length
     returns
     same-length-2
-    returns-2)
+    returns-2
+    same-length-3
+    returns-3)

@@ -23,6 +23,15 @@ array-read-read-whole c = search needs
 read-whole-requires : tie.Need-read-whole-requires
 read-whole-requires c κs = search needs
 
+enum-told-3 : tie.Need-enum-told-3
+enum-told-3 c = search needs
+
+array-read-read-bitmap : tie.Need-array-read-read-bitmap
+array-read-read-bitmap c = search needs
+
+read-bitmap-requires : tie.Need-read-bitmap-requires
+read-bitmap-requires c κs = search needs
+
 same-length : tie.Need-same-length
 same-length c = search needs
 
@@ -50,6 +59,18 @@ returns-2 c =
     let args = c5 .before .before .before .before .before .args in
     let p = args .t4 in let h : 0 < 1 = omega arith in rw (enum-told2 .given .1) (rw (getD-take 1 p 0 0 h) (read-whole .ensures))
 
+same-length-3 : tie.Need-same-length-3
+same-length-3 c = search needs
+
+returns-3 : tie.Need-returns-3
+returns-3 c =
+    let c2 = c .before .before in
+    let read-bitmap = c2 .read-bitmap in
+    let c5 = c2 .before .before .before in
+    let enum-told3 = c5 .enum-told3 in
+    let args = c5 .before .before .before .before .before .args in
+    let p = args .t4 in let h : 0 < 1 = omega arith in rw (enum-told3 .given .1) (rw (getD-take 1 p 0 0 h) (read-bitmap .ensures))
+
 pub read-by-spec : {M : Type 1} → statement M
 read-by-spec =
     tie.close
@@ -59,7 +80,12 @@ read-by-spec =
     enum-told-2
     array-read-read-whole
     read-whole-requires
+    enum-told-3
+    array-read-read-bitmap
+    read-bitmap-requires
     same-length
     returns
     same-length-2
-    returns-2)
+    returns-2
+    same-length-3
+    returns-3)

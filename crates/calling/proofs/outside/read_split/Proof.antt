@@ -2,8 +2,10 @@
 use Rattle.calling.proofs.outside.read_split.Statement.{statement}
 use Rattle.calling.proofs.outside.read_split.Tie as tie
 use borrow.Author.Needs.{needs}
-use Rattle.calling.specs.Laws.{split-said}
 use mathlib.Core.Path.{_∙_}
+use Rattle.calling.specs.Calls.{splitText}
+use Rattle.calling.specs.Laws.{read-said}
+use Rattle.reading.specs.Outside.{readOf, splitBy}
 
 fill-requires : tie.Need-fill-requires
 fill-requires c κs = search needs
@@ -31,8 +33,9 @@ returns c =
     let c11 = c7 .before .before .before .before in
     let fill = c11 .fill in
     let args = c11 .before .before .before .before .before .args in
-    let a = args in split-said (a .table .now) (a .place) (a .piece .now) (a .list .now) (fill .last .0) (read-split .last .1 .1 .1 .1 .0)
-    (a .count) (read-split .result) (fill .ensures) (read-split .ensures .0) (read-split .ensures .1) (c .read-lines .ensures)
+    let a = args in
+    read-said (readOf 1 8 (a .table .now) (a .place) (a .count) (a .piece .now)) (splitBy (a .place)) splitText (a .list .now) (fill .last .0)
+    (read-split .last .1 .1 .1 .1 .0) (read-split .result) (fill .ensures) (read-split .ensures .0) (read-split .ensures .1) (c .read-lines .ensures)
 
 pub read-split-spec : {M : Type 1} → statement M
 read-split-spec =

@@ -2,8 +2,11 @@
 use Rattle.calling.proofs.outside.read_whole.Statement.{statement}
 use Rattle.calling.proofs.outside.read_whole.Tie as tie
 use borrow.Author.Needs.{needs}
-use Rattle.calling.specs.Laws.{whole-said}
+use mathlib.Core.List.{[], _∷_}
 use mathlib.Core.Path.{_∙_}
+use Rattle.calling.specs.Calls.{wholeText}
+use Rattle.calling.specs.Laws.{read-said}
+use Rattle.reading.specs.Outside.{readOf, wholeBy}
 
 fill-requires : tie.Need-fill-requires
 fill-requires c κs = search needs
@@ -31,8 +34,9 @@ returns c =
     let c10 = c6 .before .before .before .before in
     let fill = c10 .fill in
     let args = c10 .before .before .before .before .before .args in
-    let a = args in whole-said (a .table .now) (a .piece .now) (a .list .now) (fill .last .0) (read-whole .last .1 .1 .1 .1 .0) (a .place)
-    (a .count) (read-whole .result) (fill .ensures) (read-whole .ensures .0) (read-whole .ensures .1) (c .read-lines .ensures)
+    let a = args in
+    read-said (readOf 8 1 (a .table .now) (a .place ∷ []) (a .count) (a .piece .now)) (wholeBy (a .place)) wholeText (a .list .now) (fill .last .0)
+    (read-whole .last .1 .1 .1 .1 .0) (read-whole .result) (fill .ensures) (read-whole .ensures .0) (read-whole .ensures .1) (c .read-lines .ensures)
 
 pub read-whole-spec : {M : Type 1} → statement M
 read-whole-spec =
