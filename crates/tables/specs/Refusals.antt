@@ -34,23 +34,31 @@ pub record Builds (n k : ℕ) (bytes : List ℕ) (len count : ℕ) : Type 0 wher
   pub counted : count ≡ length tags
   pub enough : Enough n k tags (slotsIn n k len)
 
--- the number and the values that building answers, row by row as the rules' table of refusals has them: 1 to 6 where the set is at fault, then 7,
--- TABLE, with the machine and the states that it needs; 0 and the number of tags where it is done
-pub data Answers (n k : ℕ) (bytes : List ℕ) (len : ℕ) : ℕ → List ℕ → Type 0 where
-  aFault : {number : ℕ} {values : List ℕ} → RefusedAs bytes number values → Answers n k bytes len number values
-  aTable : {name needs : ℕ} → TooFewSlots n k bytes len name needs → Answers n k bytes len 7 (name ∷ needs ∷ [])
-  aTags : {count : ℕ} → Builds n k bytes len count → Answers n k bytes len 0 (count ∷ [])
+-- the number and the values that a builder answers, row by row as the rules' table of refusals has them: 1 to 6 where the set is at fault, then 7,
+-- TABLE, with the machine and the states that it needs; 0 and the number of tags where it is done. When a builder is short of slots, and when it is
+-- done, is its own: `Short` and `Done`
+pub data AnswersBy (Done : ℕ → Type 0) (Short : ℕ → ℕ → Type 0) (bytes : List ℕ) : ℕ → List ℕ → Type 0 where
+  aFault : {number : ℕ} {values : List ℕ} → RefusedAs bytes number values → AnswersBy Done Short bytes number values
+  aTable : {name needs : ℕ} → Short name needs → AnswersBy Done Short bytes 7 (name ∷ needs ∷ [])
+  aTags : {count : ℕ} → Done count → AnswersBy Done Short bytes 0 (count ∷ [])
 
 -- the same number by number: each, with what is returned with it, exactly if
-pub record BuildExact (n k : ℕ) (bytes : List ℕ) (len number : ℕ) (values : List ℕ) : Type 0 where
-  pub done : (count : ℕ) → ((number ≡ 0) × (values ≡ count ∷ [])) ↔ Builds n k bytes len count
+pub record BuildExactBy (Done : ℕ → Type 0) (Short : ℕ → ℕ → Type 0) (bytes : List ℕ) (number : ℕ) (values : List ℕ) : Type 0 where
+  pub done : (count : ℕ) → ((number ≡ 0) × (values ≡ count ∷ [])) ↔ Done count
   pub cut : (entry : ℕ) → ((number ≡ 1) × (values ≡ entry ∷ [])) ↔ Refused bytes (Cut entry)
   pub many : (entry : ℕ) → ((number ≡ 2) × (values ≡ entry ∷ [])) ↔ ((entry ≡ 16) × Refused bytes (Many 16))
   pub kind : (entry : ℕ) → ((number ≡ 3) × (values ≡ entry ∷ [])) ↔ Refused bytes (Kind entry)
   pub length : (entry : ℕ) → ((number ≡ 4) × (values ≡ entry ∷ [])) ↔ Refused bytes (Length entry)
   pub empty : (entry : ℕ) → ((number ≡ 5) × (values ≡ entry ∷ [])) ↔ ((entry ≡ 0) × Refused bytes Empty)
   pub repeat : (entry : ℕ) → ((number ≡ 6) × (values ≡ entry ∷ [])) ↔ Refused bytes (Repeat entry)
-  pub table : (machine needs : ℕ) → ((number ≡ 7) × (values ≡ machine ∷ needs ∷ [])) ↔ TooFewSlots n k bytes len machine needs
+  pub table : (machine needs : ℕ) → ((number ≡ 7) × (values ≡ machine ∷ needs ∷ [])) ↔ Short machine needs
+
+-- both, of the builder for n bits and k machines: short of slots as `TooFewSlots` says, done as `Builds` says
+abbrev pub Answers : ℕ → ℕ → List ℕ → ℕ → ℕ → List ℕ → Type 0
+Answers n k bytes len number values = AnswersBy (Builds n k bytes len) (TooFewSlots n k bytes len) bytes number values
+
+abbrev pub BuildExact : ℕ → ℕ → List ℕ → ℕ → ℕ → List ℕ → Type 0
+BuildExact n k bytes len number values = BuildExactBy (Builds n k bytes len) (TooFewSlots n k bytes len) bytes number values
 
 -- the number and the values that are answered for the slots a set needs: 1 to 6 where it is at fault, and else 0, with the most distinct prefixes of a
 -- bit machine and those of the whole-byte machine

@@ -11,7 +11,7 @@ use Rattle.matching.specs.Laws.Tables.{built-length}
 use Rattle.matching.specs.Table.{Room, built, enoughSlots, roomFrom, shortOfSlots, slotSize, slotsIn}
 use Rattle.matching.specs.Words.{Word}
 use Rattle.tables.specs.Building.{builtBy, builtNumber, builtOf, onSet, onSetTable, tableBy, tableOf, withTable}
-use Rattle.tables.specs.Laws.Exact.{BuiltCase, built-case, isFault, isTable, isTags, tags-iff}
+use Rattle.tables.specs.Laws.Exact.{BuiltWhen, built-when, tags-iff}
 use Rattle.tables.specs.Refusals.{Builds}
 use Rattle.tables.specs.declared.Built.{Built}
 use Rattle.tagset.specs.Answer.{faultNumber}
@@ -51,10 +51,10 @@ module _ (n k : ℕ) (bytes run : List ℕ) where
   built-left b = rw (accepted-iff bytes (b .tags) .1 (b .set), enough-iff n (slotsIn n k (length run)) (b .tags) k .1 (b .enough))
 
   pub left-length : length (tableOf n k bytes run) ≡ length run
-  left-length = go (builtOf n k bytes (length run)) refl (built-case n k bytes (length run))
+  left-length = go (builtOf n k bytes (length run)) refl (built-when n k bytes (length run))
     where
-      go : (b : Built) → builtOf n k bytes (length run) ≡ b → BuiltCase n k bytes (length run) b → length (tableOf n k bytes run) ≡ length run
-      go b e (isFault {fault} r) = ap {B = ℕ} length (refused-kept (rw e (some fault)))
+      go : (b : Built) → builtOf n k bytes (length run) ≡ b → BuiltWhen n k bytes (length run) b → length (tableOf n k bytes run) ≡ length run
+      go (B.Fault fault) e r = ap {B = ℕ} length (refused-kept (rw e (some fault)))
         where
           some : (f : SetFault) → 0 < faultNumber f
           some (Cut i) = omega arith
@@ -63,8 +63,8 @@ module _ (n k : ℕ) (bytes run : List ℕ) where
           some (Length i) = omega arith
           some Empty = omega arith
           some (Repeat i) = omega arith
-      go b e (isTable t) = ap {B = ℕ} length (refused-kept (rw e (omega arith)))
-      go b e (isTags t) = ap {B = ℕ} length (built-left t) ∙ table-length n k (t .tags) run
+      go (B.Table name needs) e t = ap {B = ℕ} length (refused-kept (rw e (omega arith)))
+      go (B.Tags count) e t = ap {B = ℕ} length (built-left t) ∙ table-length n k (t .tags) run
 
 -- where building is done: the tags, the room that they found, and the run it leaves
 pub record Done (n k : ℕ) (bytes run : List ℕ) (count : ℕ) : Type 0 where
