@@ -762,7 +762,8 @@ SLEET_LOOK static inline sleet_built sleet_make_whole(const uint8_t *set, size_t
                                             SLEET_AT(uint16_t, table), SLEET_COUNT(table, table_length)));
 }
 
-/* A bitmap table is a thirteenth of a whole-byte table and finds the same, more slowly. */
+/* A bitmap table has less than a thirteenth of a whole-byte table's numbers and finds the same, more
+   slowly. */
 SLEET_LOOK static inline sleet_built sleet_make_bitmap(const uint8_t *set, size_t set_length, uint16_t *table,
                                                        size_t table_length)
 {

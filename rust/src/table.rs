@@ -115,7 +115,8 @@ impl WholeTable {
     }
 }
 
-/// A bitmap table, as building left it: the machine of a [`WholeTable`] in a thirteenth of its numbers.
+/// A bitmap table, as building left it: the machine of a [`WholeTable`] in less than a thirteenth of its
+/// numbers.
 ///
 /// It finds the same, more slowly: a byte that a state doesn't have in its map makes failure moves to
 /// shorter prefixes. From the start there are never more of them than bytes.
