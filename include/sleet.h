@@ -80,7 +80,7 @@ extern "C" {
 
 /* 10,000 for the major number, 100 for the minor one, and the patch. sleet_version() gives the
    archive's own: where it isn't SLEET_VERSION, header and archive aren't of one build. */
-#define SLEET_VERSION 10000
+#define SLEET_VERSION 10100
 uint64_t sleet_version(void);
 
 /* ---- Sizes ---- */

@@ -66,9 +66,9 @@ pub struct MapReply {
 // 10,000 for the major number, 100 for the minor one, and the patch: the header and the crate say which one they are written for.
 #[no_mangle]
 pub extern "C" fn sleet_version() -> u64
-    ensures { λ r. ⌜ r ≡ 10000 ⌝ }
+    ensures { λ r. ⌜ r ≡ 10100 ⌝ }
 {
-    10000
+    10100
 }
 
 #[no_mangle]
