@@ -145,7 +145,6 @@ module _ (set run : List ℕ) (ts : List Word) (b : MapAsBuilt set run ts) where
           subst (λ (w : MapRow). MapRowBy v t turns (mapRowThen (t .piece) (mapTurn v t) w))
           (ap₂ (λ (q m : ℕ). mapInTurn table q m turns) (sym (d .state)) on) (map-row-read (ltb-false _ _ e))
 
-
   -- a row of readings after v
   pub record RowAfter (v : Word) (w : MapRow) : Type 0 where
     pub found : w .found ≡ occurrencesFrom ts v (length v) (w .taken)

@@ -34,7 +34,6 @@ use Rattle.bitmap_alike.specs.Readings.{AlikeReads, AlikeToWhole, MapAsB
 use Rattle.bitmap_alike.specs.Laws.Alone.{MapRowBy, lawful, map-read-is, map-row-by, map-row-long, map-row-read, mapRowAfter, mapTurn, read-done}
 use Rattle.bitmap_alike.specs.Laws.Alone.{readAfter, row-after}
 
-
 -- the whole-byte machine's place is one state
 place-one : (ts : List Word) → AllBelow 256 ts → (u : Word) → Below 256 u → placeAfter 8 ts 0 1 u ≡ walk (prefixes ts) 0 u ∷ []
 unfolding placeAfter
