@@ -60,7 +60,7 @@ mapInTurn table state count (t ∷ turns) =
 
 -- what a reading r of a piece after the input v comes to, with count bytes counted before and room for so many records: it is never damaged, finds the
 -- occurrences that end in the bytes it takes, and takes every byte up to the first whose matches find no room; its state is the one after those bytes,
--- and its moves are the definition's for them, each paid for by a byte taken or by a byte of the prefix at the start
+-- and its moves are the definition's for them, each paid for by a byte taken or by a byte of the prefix of the state that it starts from
 pub record AsTags (ts : List Word) (v : Word) (count : ℕ) (piece : Word) (room : ℕ) (r : OutcomeOf Standing) : Type 0 where
   pub part : r .taken ≤ length piece
   pub found : r .found ≡ occurrencesFrom ts v count (take (r .taken) piece)
@@ -71,7 +71,7 @@ pub record AsTags (ts : List Word) (v : Word) (count : ℕ) (piece : Word) (room
   pub moves : r .place .moves ≡ movesIn (prefixes ts) v (take (r .taken) piece)
   pub few : r .place .moves ≤ length (longest (prefixes ts) v) + r .taken
 
--- a read after v: it is refused only where it is LONG
+-- a read after v: it is refused exactly where it is LONG, and else as `AsTags` says
 pub data MapReads (ts : List Word) (v : Word) (count : ℕ) (piece : Word) (list : ℕ) : ReadAt Standing → Type 0 where
   isLong : largest < count + length piece → MapReads ts v count piece list (refusedRead Long)
   isRead : count + length piece ≤ largest → (r : OutcomeOf Standing) → AsTags ts v count piece (list / 2) r → MapReads ts v count piece list (readTo r)

@@ -1,4 +1,5 @@
 -- Sample 15 of docs/RULES.md, 10, computed from the definitions: the bitmap machine of he, she, his, hers.
+use Rattle.tables.specs.declared.Built.the-variants as B
 use mathlib.Core.List.{List, [], _++_, _∷_, map}
 use mathlib.Core.Path.{_≡_, refl}
 use lib.Count.{ones, onesIn}
@@ -6,15 +7,23 @@ use lib.ListN.{replicate, take}
 use Rattle.matching.specs.declared.Stop.the-variants.{All}
 use Rattle.matching.specs.Machine.{failure, longest, next, prefixes, vector, vectorBy, walk, withPrefixes, withTags, withWord}
 use Rattle.matching.specs.Occurrence.{occurAt}
-use Rattle.matching.specs.Reading.{onesOf}
+use Rattle.matching.specs.Reading.{allBelow, onesOf}
 use Rattle.matching.specs.Stepping.{halted, readBy, stepped, tookByte}
 use Rattle.matching.specs.Table.{laid}
-use Rattle.matching.specs.Words.{Word, among, begins, beginsOne, ends, indexOf, same}
+use Rattle.matching.specs.Words.{Below, Word, among, begins, beginsOne, ends, indexOf, same}
 use Rattle.bitmap.specs.Levels.{below, byLevel, childrenFrom, levels}
 use Rattle.bitmap.specs.Moves.{movesIn, movesOn}
-use Rattle.bitmap.specs.Slots.{bitsFrom, built, firstChild, slot}
+use Rattle.bitmap.specs.Slots.{bitsFrom, built, firstChild, roomIn, slot}
 use Rattle.bitmap.specs.Steps.{arrived, inMap, numberAt, onesBelow, onesOver, step, stepBy}
 use Rattle.bitmap_reading.specs.Reading.{mapStep, readMap}
+use Rattle.tagset.specs.Grammar.{distinct, entriesFrom, entryOf, setOf}
+use Rattle.bitmap_tables.specs.Building.{mapBuiltOf}
+use Rattle.bitmap_alike.specs.Readings.{MapAsBuilt}
+use mathlib.Core.Bool.{true}
+use lib.Dec.{ltb}
+use borrow.Author.Tests.{ltb-true}
+use Rattle.matching.specs.Laws.Bools.{and-l, and-r}
+use Prim.Native.Nat.{ℕ}
 
 -- he, she, his, hers
 abbrev pub tags : List Word
@@ -50,6 +59,24 @@ pub record OfBitmaps : Type 0 where
         stop = All;
         found = record { end = 4; tag = 0 } ∷ record { end = 4; tag = 1 } ∷ record { end = 6; tag = 3 } ∷ [];
       }
+
+-- the set of these tags, as bytes
+abbrev pub set : List ℕ
+set = 2 ∷ 0 ∷ 1 ∷ 0 ∷ 104 ∷ 101 ∷ 3 ∷ 0 ∷ 1 ∷ 0 ∷ 115 ∷ 104 ∷ 101 ∷ 3 ∷ 0 ∷ 1 ∷ 0 ∷ 104 ∷ 105 ∷ 115 ∷ 4 ∷ 0 ∷ 1 ∷ 0 ∷ 104 ∷ 101 ∷ 114 ∷ 115 ∷ []
+
+bytes-by : (w : Word) → allBelow 256 w ≡ true → Below 256 w
+unfolding allBelow
+bytes-by [] e = tt
+bytes-by (c ∷ w) e = (ltb-true c 256 (and-l (ltb c 256) (allBelow 256 w) e), bytes-by w (and-r (ltb c 256) (allBelow 256 w) e))
+
+-- what the theorems ask of a table is so of it: ten slots are enough, and nine are not
+pub bitmap-built : MapAsBuilt set (replicate 190 0) tags
+unfolding byLevel levels below childrenFrom among begins beginsOne same entryOf entriesFrom distinct setOf mapBuiltOf roomIn allBelow
+bitmap-built = record { bytes = bytes-by set refl; tags = refl; answered = refl }
+
+pub one-slot-short : mapBuiltOf set 189 ≡ B.Table 253 10
+unfolding byLevel levels below childrenFrom among begins beginsOne same entryOf entriesFrom distinct setOf mapBuiltOf roomIn
+one-slot-short = refl
 
 pub sample-15 : OfBitmaps
 unfolding byLevel levels below childrenFrom among begins beginsOne same indexOf slot laid bitsFrom firstChild vector vectorBy ends longest next walk

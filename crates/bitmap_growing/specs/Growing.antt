@@ -6,8 +6,7 @@ use mathlib.Core.List.{List, []}
 use mathlib.Core.Path.{_≡_}
 use lib.Dec.{eqb}
 use lib.ListN.{getD, length, set, take}
-use Rattle.matching.specs.Laws.Links.{failure}
-use Rattle.matching.specs.Machine.{vector}
+use Rattle.matching.specs.Machine.{failure, vector}
 use Rattle.matching.specs.Words.{Lawful, Word, beginsOne}
 use Rattle.bitmap.specs.Laws.Built.{Settled}
 use Rattle.bitmap.specs.Laws.Children.{goes}
@@ -45,7 +44,8 @@ pub record Sown (ts : List Word) (u : ℕ) (table : List ℕ) (r : ℕ) : Type 0
   pub mask : vectorAt table r ≡ through (take u ts) (wordOf ts r)
   pub begun : beginsOne (wordOf ts r) (take u ts) ≡ true → (numberAt table r 0 ≡ length (wordOf ts r)) × (failAt table r ≡ failure (byLevel ts) r)
 
--- the states below q are settled; k are placed, and behind them all is 0
+-- the states below q are settled, their vectors too; k are placed, those from q on wait, and behind them all is 0. (`Settled`, of maps, children and
+-- failure states, stands in bitmap's Laws/Built.antt)
 pub record Growing (ts : List Word) (s : ℕ) (table : List ℕ) (q k : ℕ) : Type 0 where
   pub lawful : Lawful ts
   pub room : length (byLevel ts) ≤ s
@@ -80,7 +80,8 @@ pub record Found (ts : List Word) (q d f mask : ℕ) : Type 0 where
 abbrev pub placed : List ℕ → ℕ → ℕ → ℕ → ℕ → List ℕ
 placed l r d f mask = set (set (set l (r * 19) d) (r * 19 + 17) f) (r * 19 + 18) mask
 
--- where the child on a byte fails to: that of the start state to it, any other where the byte leads from where its parent fails to
+-- where the child of state q on a byte fails to, t being the byte's step from where q fails to: to state 0 if q is 0, else where t leads; a wrong step,
+-- which building never meets, is told as 0
 unfoldable pub failTo : ℕ → Step → ℕ
 failTo zero t = 0
 failTo (suc q) (To n moves) = n
@@ -90,7 +91,7 @@ failTo (suc q) Wrong = 0
 abbrev pub childNumber : List ℕ → ℕ → ℕ → ℕ → ℕ
 childNumber l q k c = k + onesBelow l q c
 
--- it, with one more tag
+-- it, with one more tag: in the table l of s slots, the child on byte c of state q, which fails to f and has d letters; k states are placed, u is the tag
 abbrev pub sownBy : List ℕ → ℕ → ℕ → ℕ → ℕ → ℕ → ℕ → ℕ → List ℕ
 sownBy l s q f d k c u = placed l (childNumber l q k c) (d + 1) (failTo q (step s l f c)) (vectorAt l (childNumber l q k c) + 2 ^ u)
 
@@ -110,7 +111,7 @@ unfoldable pub inherits : ℕ → List ℕ → ℕ → ℕ
 inherits zero l f = 0
 inherits (suc q) l f = vectorAt l f
 
--- the first of n children behind k states
+-- the first of n children behind k states; 0 if there are none
 abbrev pub firstBehind : ℕ → ℕ → ℕ
 firstBehind k n = cond (eqb n 0) 0 k
 

@@ -1,4 +1,4 @@
--- The tags that go through a word: those that it begins. A state that waits to be settled keeps them as a mask.
+-- The tags that go through a word, those that it begins, and those that are the word itself. A state that waits to be settled keeps the first as a mask.
 use Prim.Native.Nat.{ℕ}
 use mathlib.Core.List.{List}
 use mathlib.Core.Path.{_≡_}

@@ -9,7 +9,7 @@ use lib.Dec.{ltb}
 use lib.ListN.{getD, length}
 use borrow.Author.Tests.{le-ltb, lt-ltb, ltb-false, ltb-true}
 use Rattle.matching.specs.Refusal.{firstOf}
-use Rattle.matching.specs.Stepping.{OutcomeOf, goesTo}
+use Rattle.matching.specs.Stepping.{OutcomeOf, goesTo, isDamaged}
 use Rattle.matching.specs.Words.{Word}
 use Rattle.reading.specs.Laws.Outside.{KeptBy, by-grounds, by-keeps, by-long-iff, by-number, by-place-iff, numberBy}
 use Rattle.reading.specs.Outside.{ReadAt, listBy, readTo, refusedRead}
@@ -28,6 +28,8 @@ use Rattle.matching.specs.Reading.{onesOf}
 use Rattle.bitmap.specs.Steps.{step, vectorAt}
 use Rattle.bitmap.specs.declared.Step.{Step}
 use Rattle.bitmap.specs.declared.Step.the-variants.{To, Wrong}
+use Rattle.bitmap.specs.Ways.{Way}
+use Rattle.bitmap.specs.Laws.Ways.{way-iff}
 
 -- the answer names the refusal
 map-refused-iff : (place : ℕ) (r : ReadAt Standing) (why : ReadRefusal) → (mapBy place r .ending ≡ Refused why) ↔ (r ≡ refusedRead why)
@@ -66,7 +68,7 @@ module _ (table : List ℕ) (place count : ℕ) (piece : Word) (len : ℕ) where
       long : Bool
       long = ltb 4294967295 (count + length piece)
 
-  -- 14, LONG, exactly if it is, and the bytes taken and the piece pass 4,294,967,295
+  -- 14, LONG, exactly if the state is below s, and the bytes taken and the piece pass 4,294,967,295
   pub map-long-iff : RefusedWith ending 14 [] ↔ ((place < slots) × (4294967295 < count + length piece))
   unfolding readMapOf
   map-long-iff = (
@@ -128,10 +130,22 @@ map-idle table place count piece list e = go _ (map-keeps table place count piec
     go (readTo o) k e = let i = k .idle e in (ap (λ (x : Standing). x .state) (i .0), i .1, ap (λ (x : Standing). x .moves) (i .0), i .2)
 
 -- why a reading over any run of numbers stops: at the piece's end; or FULL before a byte whose matches find no room; or DAMAGED before a byte on whose
--- way a number is wrong, which `way-iff` of the step says in the rules' words
+-- way a number is wrong
 pub map-stops : (s : ℕ) (table : List ℕ) (place count room : ℕ) (piece : Word) → Why (mapStep s table) room piece (readMap s table place count room piece)
 unfolding readMap
 map-stops s table place count room piece = went (mapStep s table) piece (record { state = place; moves = 0 }) count room .why
+
+-- and that is just where the byte's way is wrong, in the rules' words: a child that is no state, or a failure state that is not below its own
+pub map-damaged-iff : (s : ℕ) (table : List ℕ) (at : Standing) (c : ℕ) → (mapStep s table at c ≡ isDamaged) ↔ Way s table c (at .state) Wrong
+unfolding mapStep
+map-damaged-iff s table at c = (
+  λ e. way-iff s table c (at .state) Wrong .0 (go (step s table (at .state) c) e),
+  λ w. ap (landed table (at .moves)) (way-iff s table c (at .state) Wrong .1 w),
+)
+  where
+    go : (t : Step) → landed table (at .moves) t ≡ isDamaged → t ≡ Wrong
+    go (To n m) e = absurd (let z : _≡_ {A = ℕ} 0 1 = cc in omega arith)
+    go Wrong e = refl
 
 -- the tags of a step rise, and so the records are by end, then by tag number
 landed-rising : (table : List ℕ) (moves : ℕ) (t : Step) (to : Standing) (tags : List ℕ) → landed table moves t ≡ goesTo to tags → Rising tags

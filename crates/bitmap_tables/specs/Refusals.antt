@@ -1,4 +1,4 @@
--- When building a bitmap table is refused, and when it is done, in the rules' words; Laws.Exact shows that it is exactly then.
+-- When building a bitmap table is refused, and when it is done, in the rules' words; Laws.Exact shows that it is exactly then, for a set of bytes.
 use Prim.Native.Nat.{_<_, _≤_, ℕ}
 use mathlib.Core.List.{List}
 use mathlib.Core.Path.{_≡_}
@@ -29,6 +29,6 @@ pub record MapBuilds (bytes : List ℕ) (len count : ℕ) : Type 0 where
 abbrev pub MapAnswers : List ℕ → ℕ → ℕ → List ℕ → Type 0
 MapAnswers bytes len number values = AnswersBy (MapBuilds bytes len) (MapTooFewSlots bytes len) bytes number values
 
--- the same number by number, 0 to 7: each, with what is returned with it, exactly if
+-- the same number by number, 0 to 7: each, with what is returned with it, exactly if its condition holds and none earlier does
 abbrev pub MapBuildExact : List ℕ → ℕ → ℕ → List ℕ → Type 0
 MapBuildExact bytes len number values = BuildExactBy (MapBuilds bytes len) (MapTooFewSlots bytes len) bytes number values

@@ -1,7 +1,7 @@
 -- Laws of calls: from what the parts of a call ensure to what the call did.
 use Prim.Native.Nat.{ℕ, _+_, _-_, _≤_}
 use native.Mathlib.Omega.{arith}
-use mathlib.Core.List.{List, [], _∷_, _++_}
+use mathlib.Core.List.{List, _++_}
 use mathlib.Core.Path.{_≡_, refl, ap, subst, _∙_}
 use lib.ListN.{length, take, drop, length-replicate}
 use lib.Seq.{length-take-le, paste}

@@ -42,7 +42,7 @@ pub data AnswersBy (Done : ℕ → Type 0) (Short : ℕ → ℕ → Type 0) (byt
   aTable : {name needs : ℕ} → Short name needs → AnswersBy Done Short bytes 7 (name ∷ needs ∷ [])
   aTags : {count : ℕ} → Done count → AnswersBy Done Short bytes 0 (count ∷ [])
 
--- the same number by number: each, with what is returned with it, exactly if
+-- the same number by number: each, with what is returned with it, exactly if what stands on the right holds
 pub record BuildExactBy (Done : ℕ → Type 0) (Short : ℕ → ℕ → Type 0) (bytes : List ℕ) (number : ℕ) (values : List ℕ) : Type 0 where
   pub done : (count : ℕ) → ((number ≡ 0) × (values ≡ count ∷ [])) ↔ Done count
   pub cut : (entry : ℕ) → ((number ≡ 1) × (values ≡ entry ∷ [])) ↔ Refused bytes (Cut entry)

@@ -5,17 +5,17 @@ use mathlib.Core.List.{List, [], _++_, _∷_, append-assoc, append-nil}
 use mathlib.Core.Path.{_∙_, _≡_, ap, ap₂, refl, subst, subst₂, sym}
 use native.Mathlib.Omega.{arith}
 use lib.Dec.{ltb}
-use lib.ListN.{length, length-append, take}
+use lib.ListN.{getD, length, length-append, take}
 use lib.Seq.{length-take-le}
 use borrow.Author.Tests.{lt-ltb, ltb-false, ltb-true}
-use Rattle.matching.specs.Laws.Prefixes.{lt-tree}
+use Rattle.matching.specs.Laws.Prefixes.{Tree, lt-tree, tree, walk-tree}
 use Rattle.matching.specs.Laws.Prefixes.{tree}
 use Rattle.matching.specs.Limits.{largest}
-use Rattle.matching.specs.Machine.{prefixes, walk}
+use Rattle.matching.specs.Machine.{longest, prefixes, walk}
 use Rattle.matching.specs.Occurrence.{Occurrence, occurrencesBy, occurrencesFrom, tagsEnding}
 use Rattle.matching.specs.Stepping.{OutcomeOf}
-use Rattle.matching.specs.Words.{Below, Lawful, Word}
-use Rattle.reading.specs.Outside.{ReadAt, readBy}
+use Rattle.matching.specs.Words.{Below, Lawful, Word, among, indexOf}
+use Rattle.reading.specs.Outside.{ReadAt, readBy, readTo}
 use Rattle.tagset.specs.Grammar.{goodSet}
 use Rattle.tagset.specs.Laws.Places.{tags-of}
 use Rattle.history.specs.Readings.{Turn, TurnsOfBytes}
@@ -35,6 +35,17 @@ use Rattle.bitmap_tables.specs.Laws.Left.{map-left-holds, map-left-length}
 use Rattle.tagset.specs.Laws.Exact.{accepted-iff}
 use Rattle.matching.specs.Laws.Inputs.{done-by}
 use Rattle.matching.specs.Laws.Occurrences.{occurrencesBy-append}
+use Rattle.matching.specs.Laws.Machine.{longest-hit, longest-nil}
+use Rattle.matching.specs.Laws.Words.{among-getD, indexOf-getD}
+
+-- a state of a tree of prefixes is the one after its own prefix
+pub own-prefix : (ps : List Word) → Tree ps → indexOf [] ps ≡ 0 → (q : ℕ) → q < length ps → walk ps 0 (getD ps q []) ≡ q
+own-prefix ps t first q h =
+    walk-tree ps t first (getD ps q []) ∙ ap (λ (w : Word). indexOf w ps) (whole (getD ps q []) (among-getD ps q h)) ∙ indexOf-getD ps q (t .distinct) h
+  where
+    whole : (w : Word) → among w ps ≡ true → longest ps w ≡ w
+    whole [] e = longest-nil ps
+    whole (x ∷ w) e = longest-hit ps x w e
 
 module _ (set run : List ℕ) (ts : List Word) (b : MapAsBuilt set run ts) where
   abbrev pub table : List ℕ
@@ -105,6 +116,18 @@ module _ (set run : List ℕ) (ts : List Word) (b : MapAsBuilt set run ts) where
       go : (long : Bool) → ltb largest (count + length piece) ≡ long → MapReads ts v count piece list (readBy (readAfter v piece count list) true long)
       go true e = isLong (ltb-true _ _ e)
       go false e = isRead (ltb-false _ _ e) (readAfter v piece count list) (as-tags v piece count list hp)
+
+  pub start-few : (piece : Word) (count list : ℕ) → Below 256 piece → (r : OutcomeOf Standing) → readMapOf table 0 count piece list ≡ readTo r
+      → r .place .moves ≤ r .taken
+  unfolding walk
+  start-few piece count list hp r e = go (readMapOf table 0 count piece list) (reads-so [] piece count list hp) e
+    where
+      go : (x : ReadAt Standing) → MapReads ts [] count piece list x → x ≡ readTo r → r .place .moves ≤ r .taken
+      go x (isLong l) q = absurd (let z : _≡_ {A = ℕ} 0 1 = cc in omega arith)
+      go x (isRead l o a) q =
+          let same : o ≡ r = cc in
+          subst (λ (y : OutcomeOf Standing). y .place .moves ≤ y .taken) same
+          (omega (arith, a .few, ap {B = ℕ} length (longest-nil (prefixes ts))))
 
   -- ---- a row of them
 

@@ -5,10 +5,10 @@ use mathlib.Core.List.{List, [], _++_, _∷_, tail}
 use mathlib.Core.Path.{_∙_, _≡_, ap, subst, sym}
 use native.Mathlib.Omega.{arith}
 use lib.ListN.{length}
-use Rattle.matching.specs.Laws.Links.{failure, failure-child, failure-first}
+use Rattle.matching.specs.Laws.Links.{failure-child, failure-first}
 use Rattle.matching.specs.Laws.Machine.{longest-among}
 use Rattle.matching.specs.Laws.Words.{indexOf-getD, indexOf-lt}
-use Rattle.matching.specs.Machine.{longest, next}
+use Rattle.matching.specs.Machine.{failure, longest, next}
 use Rattle.matching.specs.Words.{Lawful, Word, among, indexOf}
 use Rattle.bitmap.specs.Laws.Built.{Settled, failure-lower, led, level-first, level-tree, nonempty, word-zero}
 use Rattle.bitmap.specs.Laws.Children.{forward-goes, goes}

@@ -11,9 +11,8 @@ use lib.ListN.{getD, length, length-set, set}
 use lib.Pow.{pow-mono}
 use lib.Seq.{getD-set-other, getD-set-same, lt-length-set}
 use borrow.Author.Tests.{eq-eqb, ne-eqb}
-use Rattle.matching.specs.Laws.Links.{failure}
 use Rattle.matching.specs.Laws.Vectors.{vector-lt}
-use Rattle.matching.specs.Machine.{vector, vectorBy}
+use Rattle.matching.specs.Machine.{failure, vector, vectorBy}
 use Rattle.matching.specs.Words.{Lawful, Word, beginsOne}
 use Rattle.bitmap.specs.Laws.Built.{built-only, word-zero}
 use Rattle.bitmap.specs.Laws.Children.{goes}

@@ -13,7 +13,6 @@ use lib.ListN.{getD, length, length-append, take}
 use lib.Seq.{length-take-le, take-all}
 use borrow.Author.Tests.{eq-eqb, eqb-true, lt-ltb, ltb-true, not-false, not-true}
 use Rattle.matching.specs.Laws.Bools.{and-both, and-l, and-r, is-false, not-both, or-cases, or-l, or-r}
-use Rattle.matching.specs.Laws.Links.{failure}
 use Rattle.matching.specs.Laws.Words.{getD-indexOf, indexOf-getD}
 use Rattle.matching.specs.Words.{AllShort, Word, begins, beginsOne, indexOf}
 use Rattle.bitmap.specs.Laws.Built.{level-tree}
@@ -31,6 +30,7 @@ use Rattle.bitmap_growing.specs.Growing.{Found, Growing, Sowable, Sowing
 use Rattle.bitmap_growing.specs.Laws.Cells.{placed-bare, placed-cell, placed-depth, placed-fail, placed-length, placed-mask, placed-other}
 use Rattle.bitmap_growing.specs.Laws.Failing.{failing, failure-state}
 use Rattle.bitmap_growing.specs.Laws.Numbers.{child-word, next-free, placed-few, placed-more, reached, tally-lt}
+use Rattle.matching.specs.Machine.{failure}
 
 -- ---- one tag
 

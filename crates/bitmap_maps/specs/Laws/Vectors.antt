@@ -5,10 +5,9 @@ use mathlib.Core.List.{List, [], _∷_, tail}
 use mathlib.Core.Path.{_∙_, _≡_, ap, refl, sym}
 use native.Mathlib.Omega.{arith}
 use lib.ListN.{getD, length}
-use Rattle.matching.specs.Laws.Links.{failure}
 use Rattle.matching.specs.Laws.Machine.{AllAmong, ends-longest, longest-among}
 use Rattle.matching.specs.Laws.Words.{ends-short, getD-indexOf, indexOf-getD, same-eq}
-use Rattle.matching.specs.Machine.{longest, vector, vectorBy}
+use Rattle.matching.specs.Machine.{failure, longest, vector, vectorBy}
 use Rattle.matching.specs.Words.{Lawful, Word, ends, indexOf, same}
 use Rattle.bitmap.specs.Laws.Built.{level-first, level-tags, level-tree, nonempty, word-zero}
 use Rattle.bitmap.specs.Levels.{byLevel}
