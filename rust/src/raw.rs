@@ -91,22 +91,15 @@ struct SplitReply {
     place: [u16; 8],
 }
 
+/// Over a table with one machine: the whole-byte and the bitmap table.
 #[repr(C)]
-struct WholeReply {
-    answer: Answer,
-    place: u16,
-}
-
-#[repr(C)]
-struct BitmapReply {
+struct OneReply {
     answer: Answer,
     place: u16,
 }
 
 mod archive {
-    use super::{
-        Answer, BitmapReply, GateImage, GateReply, Image, Reply, SplitReply, TakenMany, WholeReply,
-    };
+    use super::{Answer, GateImage, GateReply, Image, OneReply, Reply, SplitReply, TakenMany};
 
     extern "C" {
         pub fn sleet_version() -> u64;
@@ -187,7 +180,7 @@ mod archive {
             piece_length: usize,
             list: *mut u32,
             list_length: usize,
-        ) -> WholeReply;
+        ) -> OneReply;
         pub fn sleet_read_bitmap(
             table: *const u16,
             table_length: usize,
@@ -197,7 +190,7 @@ mod archive {
             piece_length: usize,
             list: *mut u32,
             list_length: usize,
-        ) -> BitmapReply;
+        ) -> OneReply;
     }
 }
 
@@ -327,7 +320,20 @@ pub fn read_split(
     reply.answer
 }
 
-pub fn read_whole(
+/// A call that reads over a table with one machine.
+type ReadOne = unsafe extern "C" fn(
+    table: *const u16,
+    table_length: usize,
+    place: u16,
+    count: u32,
+    piece: *const u8,
+    piece_length: usize,
+    list: *mut u32,
+    list_length: usize,
+) -> OneReply;
+
+fn read_one(
+    call: ReadOne,
     table: &[u16],
     place: &mut u16,
     count: u32,
@@ -335,7 +341,7 @@ pub fn read_whole(
     list: &mut [u32],
 ) -> Answer {
     let reply = unsafe {
-        archive::sleet_read_whole(
+        call(
             table.as_ptr(),
             table.len(),
             *place,
@@ -348,6 +354,16 @@ pub fn read_whole(
     };
     *place = reply.place;
     reply.answer
+}
+
+pub fn read_whole(
+    table: &[u16],
+    place: &mut u16,
+    count: u32,
+    piece: &[u8],
+    list: &mut [u32],
+) -> Answer {
+    read_one(archive::sleet_read_whole, table, place, count, piece, list)
 }
 
 pub fn read_bitmap(
@@ -357,20 +373,7 @@ pub fn read_bitmap(
     piece: &[u8],
     list: &mut [u32],
 ) -> Answer {
-    let reply = unsafe {
-        archive::sleet_read_bitmap(
-            table.as_ptr(),
-            table.len(),
-            *place,
-            count,
-            piece.as_ptr(),
-            piece.len(),
-            list.as_mut_ptr(),
-            list.len(),
-        )
-    };
-    *place = reply.place;
-    reply.answer
+    read_one(archive::sleet_read_bitmap, table, place, count, piece, list)
 }
 
 // The layout of the archive, as include/sleet.h states it. (That the answer stands behind the desk,
@@ -380,8 +383,7 @@ const _: () = {
     assert!(size_of::<Answer>() == 64 && size_of::<Ticket>() == 28 && size_of::<Record>() == 16);
     assert!(size_of::<Image>() == 4576 && size_of::<Reply>() == 4640);
     assert!(size_of::<TakenMany>() == 4584);
-    assert!(size_of::<SplitReply>() == 80 && size_of::<WholeReply>() == 72);
-    assert!(size_of::<BitmapReply>() == 72);
+    assert!(size_of::<SplitReply>() == 80 && size_of::<OneReply>() == 72);
     assert!(size_of::<Seen>() == 16 && size_of::<GateImage>() == 4832);
     assert!(size_of::<GateReply>() == 4896);
 };
