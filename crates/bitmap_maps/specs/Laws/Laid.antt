@@ -1,4 +1,4 @@
--- A laid map is that of the state in the machine, and its ones are the state's children.
+-- A laid map is that of the state in the machine, and as many bytes lead on as the state has children.
 use Prim.Native.Nat.{_*_, _<_, suc, zero, ℕ}
 use mathlib.Core.Bool.{Bool, cond, false, true}
 use mathlib.Core.List.{List}
@@ -10,10 +10,10 @@ use Rattle.matching.specs.Laws.Bools.{decided}
 use Rattle.matching.specs.Words.{Lawful, Word}
 use Rattle.bitmap.specs.Laws.Children.{forward-goes, goes}
 use Rattle.bitmap.specs.Laws.Levels.{children-hit, children-miss}
-use Rattle.bitmap.specs.Laws.Maps.{onesOver-is, tallyFrom}
+use Rattle.bitmap.specs.Laws.Maps.{tallyFrom}
 use Rattle.bitmap.specs.Levels.{byLevel, childrenFrom, forward}
 use Rattle.bitmap.specs.Slots.{mapWord}
-use Rattle.bitmap.specs.Steps.{numberAt, onesOver}
+use Rattle.bitmap.specs.Steps.{numberAt}
 use Rattle.bitmap_maps.specs.Laid.{MapLaid}
 use Rattle.bitmap_maps.specs.Laws.Bits.{bits-same}
 
@@ -35,8 +35,3 @@ tally-children ts p (suc n) c = go (decided (goes ts p c)) (tally-children ts p 
         omega (arith, ih, ap {B = ℕ} (λ (b : Bool). cond b 1 0) e, ap (λ (l : List Word). length l) (children-hit ts p c n e))
     go (inr e) ih =
         omega (arith, ih, ap {B = ℕ} (λ (b : Bool). cond b 1 0) e, ap (λ (l : List Word). length l) (children-miss ts p c n e))
-
--- what `children` counts
-pub laid-children : (ts : List Word) (p : Word) (q : ℕ) (before after : List ℕ) → MapLaid ts p q before after
-    → onesOver after q 0 16 ≡ length (childrenFrom ts p 0 256)
-laid-children ts p q before after laid = onesOver-is after q (goes ts p) (laid .map) 16 0 (omega arith) ∙ tally-children ts p 256 0
