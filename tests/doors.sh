@@ -35,13 +35,17 @@ door() { # DEFINITIONS FILE_THAT_MAY...
   done
 }
 
-# how the desk's table is laid out: its laws, the three functions of code that lay it out and what their proofs share, and the samples, which
+# how the desk's tables are laid out: its laws, the functions of code that lay them out and what their proofs share, and the samples, which
 # are computed
 door crates/desk/specs/Layout.antt crates/desk/specs/Laws/Layout.antt crates/desk/proofs/ByAnswer.antt crates/desk/proofs/layout/build_if/Proof.antt \
   crates/desk/proofs/rooms/new_ticket/Proof.antt crates/desk/proofs/scan/read_for/Proof.antt crates/samples/specs/Samples.antt
 
-# when a tag of a set ends an input: its laws, and those of readings and tables of tags that are matched byte for byte
-door crates/matching/specs/Tags.antt crates/matching/specs/Laws/Tags.antt crates/desk/specs/Laws/Layout.antt crates/history/specs/Laws/Rows.antt
+# when a tag of a set ends an input: its laws, those of readings and tables by kind, what chooses the tags of a kind, and the samples, which are
+# computed
+laws=crates/matching/specs/Laws
+door crates/matching/specs/Tags.antt $laws/Tags.antt $laws/AsRules.antt $laws/Kinds.antt $laws/Dealt.antt $laws/OnePart.antt $laws/Parts.antt $laws/Layouts.antt \
+  crates/tagset/specs/Laws/Places.antt crates/choosing/specs/Laws/Choosing.antt crates/desk/specs/Laws/Layout.antt crates/history/specs/Demand2.antt \
+  crates/samples/specs/Samples.antt crates/samples/specs/BuiltSample.antt crates/bitmap_alike/specs/Sample.antt
 
 # and as equations of the rules it is for readers alone: a proof that used them would look inside
 inside=$(grep -rl --include='*.antt' --include='*.rt' 'as-the-rules' crates | grep -v '^crates/desk/specs/Laws/Layout.antt$' || true)

@@ -35,17 +35,19 @@ int main() {
     static sleet_gateway gateway;
     sleet_gateway_start(&gateway);
     sleet_tags tags = sleet_tags_none();
-    if (!sleet_tags_add(&tags, "he", 2) || sleet_change(&gateway, tags.bytes, tags.length).tags != 1) return 1;
+    if (!sleet_tags_add(&tags, "he", 2) || !sleet_tags_add_folded(&tags, "he", 2)) return 1;
+    if (sleet_change(&gateway, tags.bytes, tags.length).tags != 2) return 1;
     uint32_t serial = sleet_begin(&gateway).serial;
-    if (!sleet_piece(&gateway, serial, reinterpret_cast<const uint8_t *>("she"), 3).whole) return 1;
-    return sleet_decide(&gateway, serial).verdict != SLEET_HOLD;
+    if (!sleet_piece(&gateway, serial, reinterpret_cast<const uint8_t *>("SHE"), 3).whole) return 1;
+    return sleet_decide(&gateway, serial).mask != 2;
 }' >"$out/in-cpp.cpp"
 "$CXX" -std=c++11 $warnings "$out/in-cpp.cpp" $flags -o "$out/in-cpp"
 $RUN "$out/in-cpp"
 
 note 'an answer that says what nothing else says cannot be ignored without a warning'
 for ignored in 'sleet_decide(&g, 1)' 'sleet_piece(&g, 1, 0, 0)' 'sleet_change(&g, 0, 0)' 'sleet_tags_add(&t, "he", 2)' \
-  'sleet_set_add(t.bytes, 580, 0, "he", 2)'; do
+  'sleet_set_add(t.bytes, 580, 0, "he", 2)' 'sleet_tags_add_folded(&t, "he", 2)' \
+  'sleet_set_add_folded(t.bytes, 580, 0, "he", 2)'; do
   echo "#include <sleet.h>
 void ignore(void); sleet_gateway g; sleet_tags t; void ignore(void) { $ignored; }" >"$out/ignored.c"
   if "$CC" -std=c11 $warnings -I "$out/include" -c "$out/ignored.c" -o "$out/ignored.o" 2>"$out/ignored.txt"; then
@@ -55,29 +57,42 @@ void ignore(void); sleet_gateway g; sleet_tags t; void ignore(void) { $ignored; 
   grep -q 'warn_unused_result\|unused-result' "$out/ignored.txt"
 done
 
-note "the desk's calls, and those of tables, compile on a desk and a table of one's own, and not on a gate's"
+note "the desk's calls, and those of tables, compile on a desk and tables of one's own, and not on a gate's"
 compiles() { # COMPILER LANGUAGE DESK TABLE CALL
   "$1" -x "${2%%[0-9]*}" -std="$2" "-DDESK=$3" "-DTABLE=$4" -I "$out/include" -fsyntax-only - 2>"$out/refused.txt" <<END
 #include <sleet.h>
-sleet_gateway g; sleet_desk d; uint16_t t[9], p[8];
+sleet_gateway g; sleet_desk d; uint16_t t[9], u[9], p[8]; sleet_split_place s;
 uint64_t call(void); uint64_t call(void) { return $5; }
 END
 }
-for call in 'sleet_replace(DESK, 0, 0, TABLE, 9).refusal' 'sleet_feed(DESK, 1, TABLE, 9, 0, 0).refusal' 'sleet_open(DESK).refusal' \
-  'sleet_close(DESK, 1).refusal' 'sleet_take(DESK).refusal' 'sleet_take_many(DESK, 0, 0)' 'sleet_state(DESK, 1).state' \
-  'sleet_make_split(0, 0, TABLE, 9).refusal' 'sleet_scan_split(TABLE, 9, p, 0, 0, 0, 0, 0).refusal' \
+for call in 'sleet_replace(DESK, 0, 0, TABLE, 9, u, 9).refusal' 'sleet_replace(DESK, 0, 0, u, 9, TABLE, 9).refusal' \
+  'sleet_feed(DESK, 1, TABLE, 9, u, 9, 0, 0).refusal' 'sleet_feed(DESK, 1, u, 9, TABLE, 9, 0, 0).refusal' \
+  'sleet_open(DESK).refusal' 'sleet_close(DESK, 1).refusal' 'sleet_take(DESK).refusal' 'sleet_take_many(DESK, 0, 0)' \
+  'sleet_state(DESK, 1).state' 'sleet_make_split(0, 0, TABLE, 9, u, 9).refusal' 'sleet_make_split(0, 0, u, 9, TABLE, 9).refusal' \
+  'sleet_scan_split(TABLE, 9, u, 9, &s, 0, 0, 0, 0, 0).refusal' 'sleet_scan_split(u, 9, TABLE, 9, &s, 0, 0, 0, 0, 0).refusal' \
   'sleet_make_bitmap(0, 0, TABLE, 9).refusal' 'sleet_scan_bitmap(TABLE, 9, p, 0, 0, 0, 0, 0).refusal'; do
   for with in "$CC c11" "$CXX c++11"; do
     compiles $with '&d' t "$call" || { cat "$out/refused.txt" >&2; exit 1; }
-    for of_the_gate in '&g.gate.desk t' '&d g.table'; do
+    for of_the_gate in '&g.gate.desk t' '&d g.first' '&d g.second'; do
       # a call that has no such argument has nothing to refuse
-      [[ $of_the_gate == *desk* && $call != *DESK* || $of_the_gate == *table && $call != *TABLE* ]] && continue
+      [[ $of_the_gate == *desk* && $call != *DESK* || $of_the_gate == '&d '* && $call != *TABLE* ]] && continue
       if compiles $with $of_the_gate "$call"; then
         echo "library.sh: $call compiles on $of_the_gate with $with" >&2
         exit 1
       fi
       grep -q 'sleet_gate_desk\|sleet_gate_table' "$out/refused.txt"
     done
+  done
+done
+
+note 'a place of fewer states than sixteen does not compile, nor does a call with one table'
+for with in "$CC c11" "$CXX c++11"; do
+  for call in 'sleet_scan_split(t, 9, u, 9, p, 0, 0, 0, 0, 0).refusal' 'sleet_scan_split(t, 9, p, 0, 0, 0, 0, 0).refusal' \
+    'sleet_replace(&d, 0, 0, t, 9).refusal' 'sleet_feed(&d, 1, t, 9, 0, 0).refusal' 'sleet_make_split(0, 0, t, 9).refusal'; do
+    if compiles $with '&d' t "$call"; then
+      echo "library.sh: $call compiles with $with" >&2
+      exit 1
+    fi
   done
 done
 

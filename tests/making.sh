@@ -1,8 +1,14 @@
 # Words in which the samples of tests/bench/*/make are written.
 
-# a set: one entry of kind 1 for each word
+# a set: an entry for each word, of kind 1, or of kind 2 and without its first letter where that is ~
 tags() {
-  for tag; do printf "\\$(printf %03o ${#tag})\\000\\001\\000%s" "$tag"; done
+  local tag word kind
+  for tag; do
+    word=${tag#\~}
+    kind=1
+    [[ $word == "$tag" ]] || kind=2
+    printf "\\$(printf %03o ${#word})\\000\\00$kind\\000%s" "$word"
+  done
 }
 
 # a byte, so many times
@@ -16,18 +22,21 @@ sixteen_of_32() {
 # set.bin and input.bin of a seed, and a script of the same bytes in pieces of 8, after each of which every record is taken: 8 bytes
 # of at most 8 tags have no more than 64 matches
 random_case() {
-  awk -v seed="$1" 'BEGIN {
-    srand(seed); letters = 2 + int(rand() * 3); count = 1 + int(rand() * 8); set = "set"
+  awk -v seed="$1" '
+  function letter() { return substr(rand() < 0.5 ? "abcd" : "ABCD", 1 + int(rand() * letters), 1) }
+  BEGIN {
+    srand(seed); letters = 1 + int(rand() * 3); count = 1 + int(rand() * 8); set = "set"
     while (made < count && tries++ < 99) {
       word = ""; size = 1 + int(rand() * 5)
-      for (i = 0; i < size; i++) word = word substr("abcd", 1 + int(rand() * letters), 1)
-      if (!(word in seen)) { seen[word]; made++; set = set " \"" word "\""; print word >"words" }
+      for (i = 0; i < size; i++) word = word letter()
+      mark = rand() < 0.5 ? "~" : ""; key = mark == "" ? word : mark tolower(word)
+      if (!(key in seen)) { seen[key]; made++; set = set " " mark "\"" word "\""; print mark word >"words" }
     }
     print set >"script"; print "replace\nopen" >"script"
     size = 4000 + int(rand() * 400)
     for (at = 0; at < size; at += 8) {
       piece = ""
-      for (i = at; i < at + 8 && i < size; i++) piece = piece substr("abcd", 1 + int(rand() * letters), 1)
+      for (i = at; i < at + 8 && i < size; i++) piece = piece letter()
       printf "%s", piece >"input.bin"
       print "feed 1 \"" piece "\"" >"script"
       for (i = 0; i < 64; i++) print "take" >"script"

@@ -3,16 +3,24 @@
    what began under the old list can't pass any more, not even where its last piece was read before,
    and is read again from its first byte.
 
+   People type the names of cases, and phones rewrite them in capitals, so these are folded: matched in
+   either letter case. In the code of a scan a capital is another letter, so that is exact.
+
    cc -std=c11 -I target/library/include examples/c/approvals.c target/library/lib/libsleet.a */
 #include <inttypes.h>
 #include <sleet.h>
 #include <stdio.h>
 #include <stdlib.h>
 
+typedef struct withdrawn {
+    const char *name;
+    int folded; /* else it is exact */
+} withdrawn;
+
 /* The gate, and the cases of the list in force, to say which one holds an approval. */
 typedef struct office {
     sleet_gateway gateway;
-    const char *const *cases;
+    const withdrawn *cases;
     size_t count;
 } office;
 
@@ -32,12 +40,18 @@ static void need(int fact, const char *what)
     exit(1);
 }
 
+static int add(sleet_tags *tags, const withdrawn *one)
+{
+    size_t length = strlen(one->name);
+    return one->folded ? sleet_tags_add_folded(tags, one->name, length) : sleet_tags_add(tags, one->name, length);
+}
+
 /* Puts a new list of withdrawn cases in force, if it is lawful. */
-static void install(office *o, const char *const *cases, size_t count)
+static void install(office *o, const withdrawn *cases, size_t count)
 {
     sleet_tags tags = sleet_tags_none();
     for (size_t i = 0; i < count; i++)
-        need(sleet_tags_add(&tags, cases[i], strlen(cases[i])), "the list of cases is too long");
+        need(add(&tags, &cases[i]), "the list of cases is too long");
     sleet_replaced said = sleet_change(&o->gateway, tags.bytes, tags.length);
     if (said.refusal != SLEET_ACCEPTED) {
         printf("list refused with %" PRIu64 " at entry %zu; the old one stays\n", said.refusal, said.entry);
@@ -98,35 +112,35 @@ static void decide(office *o, approval *one)
     printf("%s: held for", one->name);
     for (size_t i = 0; i < o->count; i++)
         if (sleet_mask_has(said.mask, i))
-            printf(" %s", o->cases[i]);
+            printf(" %s", o->cases[i].name);
     printf("\n");
 }
 
 int main(void)
 {
-    static const char *const first[] = {"K-1041", "K-2200"};
-    static const char *const faulty[] = {"K-1041", "K-2200", "a name of more than thirty-two bytes"};
-    static const char *const second[] = {"K-1041", "K-2200", "K-3007", "K-300"};
+    static const withdrawn first[] = {{"k-1041", 1}, {"k-2200", 1}, {"scan-aZ9", 0}};
+    static const withdrawn faulty[] = {{"k-1041", 1}, {"k-2200", 1}, {"K-1041", 1}}; /* a folded name again */
+    static const withdrawn second[] = {{"k-1041", 1}, {"k-2200", 1}, {"k-3007", 1}, {"k-300", 1}, {"scan-aZ9", 0}};
     static office o;
     static approval all[] = {{.name = "north"}, {.name = "south"}, {.name = "east"}, {.name = "west"}};
     approval *north = &all[0], *south = &all[1], *east = &all[2], *west = &all[3];
     need(sleet_version() == SLEET_VERSION, "the archive is of another version than its header");
     sleet_gateway_start(&o.gateway);
     printf("without a list, an approval is refused with %" PRIu64 "\n", sleet_begin(&o.gateway).refusal);
-    install(&o, first, 2);
+    install(&o, first, 3);
     for (size_t i = 0; i < 4; i++)
         begin(&o, &all[i]);
-    receive(&o, north, "batch 7 after K-10");
+    receive(&o, north, "BATCH 7 AFTER K-10");
     receive(&o, south, "batch 8 as K-3007");
-    receive(&o, north, "41 was repeated");
+    receive(&o, north, "41 WAS REPEATED");
     receive(&o, east, "batch 9, nothing to say");
-    receive(&o, west, "batch 10");
+    receive(&o, west, "batch 10 by scan-AZ9");
     receive(&o, south, ", signed");
     decide(&o, north);
     decide(&o, west);
     printf("west: decided again, it is refused with %" PRIu64 "\n", sleet_decide(&o.gateway, west->serial).refusal);
     install(&o, faulty, 3);
-    install(&o, second, 4);
+    install(&o, second, 5);
     decide(&o, south);
     receive(&o, east, ", signed");
     decide(&o, east);

@@ -8,11 +8,14 @@
 
 enum { LONGEST_LINE = 20000, MOST_WORDS = LONGEST_LINE / 2 + 1 };
 
-/* A word of a line; of a quoted one, what stands between its marks. */
+/* How a word is written: as it is, between quotation marks, or so with a ~ before them. */
+typedef enum form { PLAIN, QUOTED, FOLDED } form;
+
+/* A word of a line; of one between marks, what stands there. */
 typedef struct word {
     const uint8_t *at;
     size_t length;
-    int quoted;
+    form form;
 } word;
 
 /* Reads a line without its end, at most room bytes of it; -1 where there is none, else its length,
@@ -34,14 +37,16 @@ static long next_line(FILE *input, uint8_t *line, long room)
 /* The bytes of the word at the front, its marks counted; 0 where no word stands there. */
 static size_t first_word(const uint8_t *rest, size_t length, word *first)
 {
-    first->quoted = length > 0 && rest[0] == '"';
-    first->at = rest + first->quoted;
-    size_t room = length - (size_t)first->quoted;
-    const uint8_t *end = room > 0 ? memchr(first->at, first->quoted ? '"' : ' ', room) : NULL;
-    if (first->quoted && end == NULL)
+    size_t sign = length > 1 && rest[0] == '~' && rest[1] == '"';
+    size_t mark = length > sign && rest[sign] == '"';
+    first->form = sign ? FOLDED : mark ? QUOTED : PLAIN;
+    first->at = rest + sign + mark;
+    size_t room = length - sign - mark;
+    const uint8_t *end = room > 0 ? memchr(first->at, mark ? '"' : ' ', room) : NULL;
+    if (mark && end == NULL)
         return 0;
     first->length = end == NULL ? room : (size_t)(end - first->at);
-    return first->length + 2 * (size_t)first->quoted;
+    return first->length + sign + 2 * mark;
 }
 
 /* The words of a line, parted by single blanks; 0 where it isn't made of words. */
@@ -64,14 +69,14 @@ static size_t words_of(const uint8_t *line, size_t length, word *words)
 
 static int is(word w, const char *text)
 {
-    return !w.quoted && w.length == strlen(text) && memcmp(w.at, text, w.length) == 0;
+    return w.form == PLAIN && w.length == strlen(text) && memcmp(w.at, text, w.length) == 0;
 }
 
 /* A decimal number that is at most the bound; 0 where the word is none. */
 static int number(word w, uint64_t bound, uint64_t *value)
 {
     *value = 0;
-    if (w.quoted || w.length == 0)
+    if (w.form != PLAIN || w.length == 0)
         return 0;
     for (size_t i = 0; i < w.length; i++) {
         if (w.at[i] < '0' || w.at[i] > '9')
@@ -94,12 +99,12 @@ static int digit(uint8_t byte)
    says none of these. */
 static int bytes_of(word w, uint8_t *bytes, size_t *length)
 {
-    *length = w.quoted ? w.length : 0;
-    if (w.quoted)
+    *length = w.form == QUOTED ? w.length : 0;
+    if (w.form == QUOTED)
         memcpy(bytes, w.at, w.length);
-    if (w.quoted || is(w, "-"))
+    if (w.form == QUOTED || is(w, "-"))
         return 1;
-    if (w.length % 2 == 0 || w.at[0] != 'x')
+    if (w.form == FOLDED || w.length % 2 == 0 || w.at[0] != 'x')
         return 0;
     for (size_t i = 1; i < w.length; i += 2) {
         int high = digit(w.at[i]), low = digit(w.at[i + 1]);

@@ -1,19 +1,19 @@
 // What the gate's calls cost beside the desk's that they are made of, each pair timed in turn in one run.
 use crate::exports::{GateImage, Image};
 use crate::inputs::{self, Kind};
-use crate::ours::{set_of, slots_of, SPLIT_SLOT};
+use crate::ours::{set_of, SplitTables};
 use crate::timing::best_of;
 
 const RECORDS: usize = 256;
 const ROUNDS: usize = 5;
 const SIZES: [usize; 4] = [0, 16, 256, 4096];
 
-/// A gate and a desk under the same set of 16 tags, each with its own table.
+/// A gate and a desk under the same set of 16 tags, each with its own tables.
 struct Both {
     gate: GateImage,
-    gate_table: Vec<u16>,
+    of_the_gate: SplitTables,
     desk: Image,
-    desk_table: Vec<u16>,
+    of_the_desk: SplitTables,
     list: Vec<u32>,
     loud: Vec<u8>,
 }
@@ -22,19 +22,24 @@ impl Both {
     fn new() -> Both {
         let case = inputs::case(Kind::Many, 16, 1 << 16);
         let set = set_of(&case.tags);
-        let slots = slots_of(&set).0 * SPLIT_SLOT;
-        let (mut gate_table, mut desk_table) = (vec![0; slots], vec![0; slots]);
+        let (mut of_the_gate, mut of_the_desk) =
+            (SplitTables::room_for(&set), SplitTables::room_for(&set));
         let (mut gate, mut desk) = (GateImage::new(), Image::new());
         let said = [
-            gate.replace(&set, &mut gate_table).refusal,
-            desk.replace(&set, &mut desk_table).refusal,
+            gate.replace(&set, &mut of_the_gate.first, &mut of_the_gate.second),
+            desk.replace(&set, &mut of_the_desk.first, &mut of_the_desk.second),
         ];
-        assert_eq!(said, [0, 0], "the tables have the slots that the set needs");
+        let refusals = said.map(|answer| answer.refusal);
+        assert_eq!(
+            refusals,
+            [0, 0],
+            "the tables have the slots that the set needs"
+        );
         Both {
             gate,
-            gate_table,
+            of_the_gate,
             desk,
-            desk_table,
+            of_the_desk,
             list: vec![0; 4 * RECORDS],
             loud: case.input,
         }
@@ -42,8 +47,9 @@ impl Both {
 
     fn approval(&mut self, pieces: &[&[u8]]) {
         let serial = self.gate.begin().a as u32;
+        let (first, second) = (&self.of_the_gate.first, &self.of_the_gate.second);
         for piece in pieces {
-            let said = self.gate.piece(serial, &self.gate_table, piece);
+            let said = self.gate.piece(serial, first, second, piece);
             assert_eq!((said.refusal, said.a), (0, 1), "the piece is read whole");
         }
         assert_eq!(self.gate.decide(serial).refusal, 0, "it is decided");
@@ -52,10 +58,11 @@ impl Both {
     /// The same by a careful caller of the desk: feed on, take all, ask for the state, close.
     fn ticket(&mut self, pieces: &[&[u8]]) {
         let serial = self.desk.open().a as u32;
+        let (first, second) = (&self.of_the_desk.first, &self.of_the_desk.second);
         for piece in pieces {
             let mut at = 0;
             loop {
-                let fed = self.desk.feed(serial, &self.desk_table, &piece[at..]);
+                let fed = self.desk.feed(serial, first, second, &piece[at..]);
                 assert_eq!(fed.refusal, 0, "a live ticket's feed is not refused");
                 at += fed.a as usize;
                 if fed.c > 0 {
@@ -76,13 +83,22 @@ pub fn table() -> Result<String, String> {
     let mut both = Both::new();
     let quiet = vec![b'.'; 4096];
     let loud = both.loud[..4096].to_vec();
-    let mut page = String::from("| an approval of | gate, ns | desk, ns | times |\n|---|---:|---:|---:|\n");
+    let mut page =
+        String::from("| an approval of | gate, ns | desk, ns | times |\n|---|---:|---:|---:|\n");
     for size in SIZES {
-        page += &row(&mut both, &format!("one piece of {size} bytes"), &[&quiet[..size]]);
+        page += &row(
+            &mut both,
+            &format!("one piece of {size} bytes"),
+            &[&quiet[..size]],
+        );
     }
     let pieces: Vec<&[u8]> = quiet.chunks(256).collect();
     page += &row(&mut both, "16 pieces of 256 bytes", &pieces);
-    page += &row(&mut both, "one piece of 4,096 bytes with many matches", &[&loud]);
+    page += &row(
+        &mut both,
+        "one piece of 4,096 bytes with many matches",
+        &[&loud],
+    );
     print!("{page}");
     Ok(page)
 }

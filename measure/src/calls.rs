@@ -1,7 +1,7 @@
 // The desk timed call by call, as a caller has it: the desk goes in by value, and what comes back is kept.
 use crate::exports::{self, Image};
 use crate::inputs::{self, Kind};
-use crate::ours::{set_of, slots_of, SPLIT_SLOT};
+use crate::ours::{set_of, SplitTables};
 use crate::timing::best_of;
 use std::hint::black_box;
 use std::time::{Duration, Instant};
@@ -24,7 +24,7 @@ pub struct Call {
 struct Office {
     desk: Image,
     set: Vec<u8>,
-    table: Vec<u16>,
+    tables: SplitTables,
     quiet: Vec<u8>,
     loud: Vec<u8>,
 }
@@ -34,17 +34,18 @@ impl Office {
     fn new() -> Office {
         let case = inputs::case(Kind::Many, 16, 1 << 16);
         let set = set_of(&case.tags);
-        let mut table = vec![0; slots_of(&set).0 * SPLIT_SLOT];
+        let mut tables = SplitTables::room_for(&set);
         let mut desk = Image::new();
         assert_eq!(
-            desk.replace(&set, &mut table).refusal,
+            desk.replace(&set, &mut tables.first, &mut tables.second)
+                .refusal,
             0,
-            "the table has the slots that the set needs"
+            "the tables have the slots that the set needs"
         );
         Office {
             desk,
             set,
-            table,
+            tables,
             quiet: vec![b'.'; 4096],
             loud: case.input,
         }
@@ -63,7 +64,8 @@ impl Office {
     /// Feeds until the list holds all the records it can.
     fn fill_the_list(&mut self) {
         let serial = self.open();
-        let fed = self.desk.feed(serial, &self.table, &self.loud);
+        let (first, second) = (&self.tables.first, &self.tables.second);
+        let fed = self.desk.feed(serial, first, second, &self.loud);
         assert_eq!(
             (fed.refusal, fed.c),
             (0, RECORDS as u64),
@@ -150,9 +152,10 @@ fn feeding_of(size: usize) -> f64 {
             serial = office.open();
             taken = 0;
         }
+        let (first, second) = (&office.tables.first, &office.tables.second);
         let fed = office
             .desk
-            .feed(serial, &office.table, &office.quiet[..size]);
+            .feed(serial, first, second, &office.quiet[..size]);
         assert_eq!(
             (fed.refusal, fed.a, fed.c),
             (0, size as u64, 0),
@@ -168,17 +171,14 @@ fn reading_outside() -> Call {
     let mut list = [0; 2 * RECORDS];
     let nanos = best_of(|| {
         let read = exports::read_split(
-            &office.table,
-            &mut [0; 8],
+            &office.tables.first,
+            &office.tables.second,
+            &mut [0; 16],
             0,
             black_box(&office.quiet),
             &mut list,
         );
-        assert_eq!(
-            (read.refusal, read.a),
-            (0, 4096),
-            "all is taken"
-        );
+        assert_eq!((read.refusal, read.a), (0, 4096), "all is taken");
     });
     Call {
         call: READ_4096,
@@ -235,11 +235,11 @@ fn taking_by(mut take_all: impl FnMut(&mut Image)) -> f64 {
 fn replacing() -> Call {
     let mut office = Office::new();
     let nanos = best_of(|| {
-        assert_eq!(
-            office.desk.replace(&office.set, &mut office.table).refusal,
-            0,
-            "the set is good"
-        );
+        let tables = &mut office.tables;
+        let said = office
+            .desk
+            .replace(&office.set, &mut tables.first, &mut tables.second);
+        assert_eq!(said.refusal, 0, "the set is good");
     });
     Call {
         call: "replace, 16 tags of 8 to 32 bytes",

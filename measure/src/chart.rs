@@ -1,7 +1,7 @@
 // The figures of reading as bars: nanoseconds a byte, on a scale on which twice as slow is always as far.
 use crate::engines::OURS;
 use crate::figures::Figures;
-use crate::inputs::{Kind, KINDS};
+use crate::inputs::{self, Kind};
 use crate::reading::TAG_COUNTS;
 
 const BAR: f64 = 13.0;
@@ -26,7 +26,7 @@ fn text(x: f64, y: f64, words: &str, more: &str) -> String {
 
 pub fn svg(figures: &Figures) -> String {
     let group = HEADING + BAR * figures.engines().len() as f64;
-    let height = TOP + group * KINDS.len() as f64 + 20.0;
+    let height = TOP + group * inputs::all().count() as f64 + 20.0;
     let width = COLUMN * TAG_COUNTS.len() as f64 + 20.0;
     let mut svg = format!(
         "<svg xmlns=\"http://www.w3.org/2000/svg\" viewBox=\"0 0 {width:.0} {height:.0}\" width=\"{width:.0}\" \
@@ -52,9 +52,9 @@ fn column(figures: &Figures, tags: usize, left: f64, group: f64) -> String {
         &format!("{tags} tags of 8 to 32 bytes"),
         "font-size=\"13\" font-weight=\"bold\"",
     );
-    svg += &scale(left + NAMES, TOP + group * KINDS.len() as f64);
-    for (i, kind) in KINDS.iter().enumerate() {
-        svg += &bars(figures, tags, *kind, left, TOP + group * i as f64);
+    svg += &scale(left + NAMES, TOP + group * inputs::all().count() as f64);
+    for (i, kind) in inputs::all().enumerate() {
+        svg += &bars(figures, tags, kind, left, TOP + group * i as f64);
     }
     svg
 }

@@ -1,12 +1,13 @@
-// The direct comparison: after each byte, each tag is held against the bytes that end there.
+// The direct comparison: after each byte, each tag is held against the bytes that end there, by its kind.
 use crate::engine::{Engine, Out};
+use crate::tags::Tag;
 
 pub struct Direct {
-    tags: Vec<Vec<u8>>,
+    tags: Vec<Tag>,
 }
 
 impl Direct {
-    pub fn new(tags: &[Vec<u8>]) -> Direct {
+    pub fn new(tags: &[Tag]) -> Direct {
         Direct {
             tags: tags.to_vec(),
         }
@@ -24,9 +25,9 @@ impl Engine for Direct {
     }
 }
 
-fn compare(tags: &[Vec<u8>], read: &[u8], end: usize, out: &mut Out) {
+fn compare(tags: &[Tag], read: &[u8], end: usize, out: &mut Out) {
     for (number, tag) in tags.iter().enumerate() {
-        if read.ends_with(tag) {
+        if tag.ends(read) {
             out.push(end as u32, number as u32);
         }
     }
@@ -34,11 +35,11 @@ fn compare(tags: &[Vec<u8>], read: &[u8], end: usize, out: &mut Out) {
 
 /// A wrong engine, on which the check of the records must stop: it misses a tag that is cut by the end of a piece.
 pub struct Blind {
-    tags: Vec<Vec<u8>>,
+    tags: Vec<Tag>,
 }
 
 impl Blind {
-    pub fn new(tags: &[Vec<u8>]) -> Blind {
+    pub fn new(tags: &[Tag]) -> Blind {
         Blind {
             tags: tags.to_vec(),
         }

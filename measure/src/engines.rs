@@ -4,7 +4,9 @@ use crate::engine::Engine;
 use crate::ours::{AtTheDesk, Bitmap, OneBit, WholeByte};
 use crate::peers;
 use crate::plain_loop::{PlainOneBit, PlainWholeByte};
+use crate::plan::Wrong;
 use crate::same_shape::{BitmapInRust, OneBitInRust, WholeByteInRust};
+use crate::tags::{any_folded, exact, Tag};
 
 pub const ONE_BIT: &str = "one-bit";
 pub const WHOLE_BYTE: &str = "whole-byte";
@@ -22,14 +24,35 @@ pub const AHO_CORASICK: &str = "aho-corasick DFA";
 pub const HYPERSCAN: &str = "Hyperscan, streaming";
 pub const DIRECT: &str = "direct comparison";
 const BLIND: &str = "direct comparison that forgets the pieces before";
+const UNFOLDED: &str = "direct comparison that takes every tag as exact";
 
 /// The engines that the library gives, whose order of records is promised.
 pub const OURS: [&str; 4] = [ONE_BIT, WHOLE_BYTE, BITMAP, DESK];
 
+/// Those that take exact tags alone.
+const EXACT_ALONE: [&str; 7] = [
+    WHOLE_BYTE,
+    BITMAP,
+    WHOLE_BYTE_CHECKED,
+    WHOLE_BYTE_UNCHECKED,
+    BITMAP_CHECKED,
+    BITMAP_UNCHECKED,
+    WHOLE_BYTE_PLAIN,
+];
+
 /// An engine's name, and how it is made for some tags.
 pub struct Maker {
     pub name: &'static str,
-    pub make: fn(&[Vec<u8>]) -> Box<dyn Engine>,
+    pub make: fn(&[Tag]) -> Box<dyn Engine>,
+}
+
+/// Those that can be made for these tags.
+pub fn all_for(tags: &[Tag]) -> Vec<Maker> {
+    let mut makers = all();
+    if any_folded(tags) {
+        makers.retain(|maker| !EXACT_ALONE.contains(&maker.name));
+    }
+    makers
 }
 
 pub fn all() -> Vec<Maker> {
@@ -102,9 +125,19 @@ fn in_rust() -> [Maker; 6] {
 }
 
 /// A wrong engine, which the check of the records must find out.
-pub fn wrong() -> Maker {
-    Maker {
-        name: BLIND,
-        make: |tags| Box::new(Blind::new(tags)),
+pub fn wrong(how: Wrong) -> Maker {
+    match how {
+        Wrong::Pieces => Maker {
+            name: BLIND,
+            make: |tags| Box::new(Blind::new(tags)),
+        },
+        Wrong::Kinds => Maker {
+            name: UNFOLDED,
+            make: |tags| {
+                Box::new(Direct::new(&exact(
+                    tags.iter().map(|tag| tag.bytes.clone()),
+                )))
+            },
+        },
     }
 }

@@ -3,7 +3,7 @@ use crate::building::{self, BITMAP_OURS, DFA_BUILD, SPLIT_LINKS, SPLIT_OURS, WHO
 use crate::calls::{FEED_4096, FEED_NONE, READ_4096, TAKE_MANY};
 use crate::engines::*;
 use crate::figures::Figures;
-use crate::inputs::{Kind, KINDS, WITH_FEW_MATCHES};
+use crate::inputs::{Kind, ALIKE, KINDS, WITH_FEW_MATCHES};
 use crate::reading::TAG_COUNTS;
 
 // Whose speed is to be the same on every input, and far above the direct comparison's. The bitmap engine's is not: it has other
@@ -63,6 +63,7 @@ pub fn goals(figures: &Figures) -> Vec<Goal> {
     beside(BITMAP, WHOLE_BYTE, &[Kind::Random, Kind::English], 0.3);
     beside(BITMAP, WHOLE_BYTE, &[Kind::Near], 0.12);
     beside(BITMAP, WHOLE_BYTE, &[Kind::NearRuns], 0.12);
+    goals.push(both_kinds(figures));
     goals.extend(STEADY.map(|engine| steadiness(figures, engine)));
     goals.extend(STEADY.map(|engine| beside_direct(figures, engine)));
     goals.extend(building_goals(figures));
@@ -72,7 +73,7 @@ pub fn goals(figures: &Figures) -> Vec<Goal> {
 
 fn names(kinds: &[Kind]) -> String {
     match kinds {
-        _ if kinds == KINDS => "all inputs".into(),
+        _ if kinds == KINDS => "all inputs of exact tags".into(),
         _ if kinds == WITH_FEW_MATCHES => "few matches".into(),
         _ => kinds
             .iter()
@@ -107,6 +108,29 @@ fn worst_ratio(
         .iter()
         .filter_map(ratio)
         .min_by(|a, b| a.0.total_cmp(&b.0))
+}
+
+/// One-bit over tags of both kinds beside as many exact tags of the same lengths, in an input that is alike: half of the tags stand
+/// in each of two tables then, and both are walked.
+fn both_kinds(figures: &Figures) -> Goal {
+    let ratio = |tags: usize, both: Kind, exact: Kind| {
+        let [both_kinds, exact_alone] =
+            [both, exact].map(|kind| figures.timed(ONE_BIT, tags, kind));
+        let ratio = exact_alone?.best() / both_kinds?.best();
+        let place = format!("{tags} tags, {} / {}", both.name(), exact.name());
+        Some((ratio, place))
+    };
+    let worst = |tags: &usize| {
+        ALIKE
+            .iter()
+            .filter_map(|(both, exact)| ratio(*tags, *both, *exact))
+            .min_by(|a, b| a.0.total_cmp(&b.0))
+    };
+    Goal {
+        what: format!("{ONE_BIT}: tags of both kinds / exact tags"),
+        wanted: Wanted::AtLeast(0.45),
+        reached: TAG_COUNTS.iter().filter_map(worst).collect(),
+    }
 }
 
 fn beside_direct(figures: &Figures, engine: &str) -> Goal {

@@ -1,10 +1,12 @@
 // Hyperscan in streaming mode: a stream is written piece by piece, and each match is called back.
 use crate::engine::{Engine, Out};
+use crate::tags::Tag;
 use std::ffi::{c_char, c_int, c_uint, c_ulonglong, c_void};
 use std::ptr::null_mut;
 
 const SUCCESS: c_int = 0;
 const STREAMING: c_uint = 2;
+const CASELESS: c_uint = 1;
 
 #[repr(C)]
 struct CompileError {
@@ -69,11 +71,13 @@ pub fn runs_here() -> bool {
 pub struct Database(*mut c_void);
 
 impl Database {
-    pub fn compile(tags: &[Vec<u8>]) -> Database {
-        let addresses: Vec<*const c_char> = tags.iter().map(|tag| tag.as_ptr().cast()).collect();
-        let flags = vec![0; tags.len()];
+    pub fn compile(tags: &[Tag]) -> Database {
+        let addresses: Vec<*const c_char> =
+            tags.iter().map(|tag| tag.bytes.as_ptr().cast()).collect();
+        let flag = |tag: &Tag| if tag.folded { CASELESS } else { 0 };
+        let flags: Vec<c_uint> = tags.iter().map(flag).collect();
         let ids: Vec<c_uint> = (0..tags.len() as c_uint).collect();
-        let lens: Vec<usize> = tags.iter().map(Vec::len).collect();
+        let lens: Vec<usize> = tags.iter().map(|tag| tag.bytes.len()).collect();
         let (mut db, mut error) = (null_mut(), null_mut());
         let said = unsafe {
             hs_compile_lit_multi(
@@ -106,7 +110,7 @@ pub struct Hyperscan {
 }
 
 impl Hyperscan {
-    pub fn new(tags: &[Vec<u8>]) -> Hyperscan {
+    pub fn new(tags: &[Tag]) -> Hyperscan {
         let database = Database::compile(tags);
         let (mut scratch, mut stream) = (null_mut(), null_mut());
         let said = unsafe {

@@ -32,12 +32,14 @@ mod report;
 mod same_shape;
 mod same_shape_bitmap;
 mod same_shape_split;
+mod same_shape_steps;
 mod same_shape_whole;
+mod tags;
 mod timing;
 mod tree;
 
 use figures::Figures;
-use plan::Plan;
+use plan::{Plan, Wrong};
 use std::env;
 use std::fs;
 use std::path::Path;
@@ -46,6 +48,7 @@ use std::process::ExitCode;
 const USAGE: &str = "speed FOLDER: measure all, and write table.md, figures.csv and chart.svg into FOLDER
 speed quick FOLDER: check that all engines give the same records, on short inputs, and judge no figure
 speed wrong FOLDER: the same with a wrong engine among them, on which it must stop
+speed wrong-kind FOLDER: the same with one that is wrong about folded tags alone
 speed gate FOLDER: the gate's calls beside the desk's, and write gate.md into FOLDER
 speed counts FOLDER: count instructions and loads by valgrind, and write counts.md into FOLDER";
 
@@ -54,13 +57,8 @@ fn main() -> ExitCode {
     let words: Vec<&str> = words.iter().map(String::as_str).collect();
     let done = match words[..] {
         ["quick", folder] => measure(&Plan::quick(), Path::new(folder)),
-        ["wrong", folder] => measure(
-            &Plan {
-                wrong_engine: true,
-                ..Plan::quick()
-            },
-            Path::new(folder),
-        ),
+        ["wrong", folder] => measure_with(Wrong::Pieces, Path::new(folder)),
+        ["wrong-kind", folder] => measure_with(Wrong::Kinds, Path::new(folder)),
         ["counts", folder] => {
             counts::table().and_then(|table| write(Path::new(folder), "counts.md", &table))
         }
@@ -78,6 +76,15 @@ fn main() -> ExitCode {
             ExitCode::FAILURE
         }
     }
+}
+
+/// A quick run with a wrong engine.
+fn measure_with(wrong: Wrong, folder: &Path) -> Result<(), String> {
+    let plan = Plan {
+        wrong_engine: Some(wrong),
+        ..Plan::quick()
+    };
+    measure(&plan, folder)
 }
 
 fn measure(plan: &Plan, folder: &Path) -> Result<(), String> {

@@ -1,6 +1,7 @@
 // Our builder of bitmap tables, its shape written in Rust: in place, slot by slot. A slot that waits holds what is known of its
 // state before its map is made: the bytes of its prefix in the first word, its failure state, and in the vector's place the mask
 // of the tags that begin with its prefix.
+use crate::tags::Tag;
 
 const SLOT: usize = 19;
 const CHILD: usize = 16;
@@ -9,13 +10,13 @@ const VECTOR: usize = 18;
 
 /// The first states of a table that are settled, and the next number that no state has yet.
 struct Growing<'a> {
-    tags: &'a [Vec<u8>],
+    tags: &'a [Tag],
     table: &'a mut [u16],
     states: usize,
 }
 
-/// Fills a table that has a slot for each state.
-pub fn build(tags: &[Vec<u8>], table: &mut [u16]) {
+/// Fills a table of exact tags that has a slot for each state.
+pub fn build(tags: &[Tag], table: &mut [u16]) {
     table.fill(0);
     table[VECTOR] = ((1u32 << tags.len()) - 1) as u16;
     let mut growing = Growing {
@@ -65,7 +66,7 @@ impl Growing<'_> {
         self.table[q * SLOT] = 0;
         let mut ending = 0;
         for u in (0..self.tags.len()).filter(|u| mask >> u & 1 != 0) {
-            match self.tags[u].get(depth) {
+            match self.tags[u].bytes.get(depth) {
                 Some(c) => self.table[q * SLOT + usize::from(c / 16)] |= 1 << (c % 16),
                 None => ending |= 1 << u,
             }
@@ -85,7 +86,7 @@ impl Growing<'_> {
     fn plant(&mut self, q: usize, depth: usize, failure: usize, mask: u16) -> usize {
         let tags = self.tags;
         let mut children = 0;
-        for (u, tag) in tags.iter().enumerate() {
+        for (u, tag) in tags.iter().map(|tag| &tag.bytes).enumerate() {
             if mask >> u & 1 == 0 || tag.len() <= depth {
                 continue;
             }

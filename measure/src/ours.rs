@@ -1,6 +1,7 @@
 // Our engines, as the archive gives them: one-bit, whole-byte and bitmap outside the desk, and the desk.
 use crate::engine::{Engine, Out};
-use crate::exports::{self, Answer, Image};
+use crate::exports::{self, Answer, Image, Place};
+use crate::tags::Tag;
 
 const FULL: u64 = 1;
 const RECORDS_OF_A_DESK: usize = 256;
@@ -10,33 +11,63 @@ pub const SPLIT_SLOT: usize = 24;
 pub const WHOLE_SLOT: usize = 257;
 pub const BITMAP_SLOT: usize = 19;
 
-/// The bytes of a set: for each tag its length, its kind 1, and the tag.
-pub fn set_of(tags: &[Vec<u8>]) -> Vec<u8> {
-    let entry = |tag: &Vec<u8>| [&[tag.len() as u8, 0, 1, 0], tag.as_slice()].concat();
+/// The bytes of a set: for each tag its length, its kind, 1 or 2, and the tag.
+pub fn set_of(tags: &[Tag]) -> Vec<u8> {
+    let kind = |tag: &Tag| if tag.folded { 2 } else { 1 };
+    let entry = |tag: &Tag| {
+        let head = [tag.bytes.len() as u8, 0, kind(tag), 0];
+        [&head, tag.bytes.as_slice()].concat()
+    };
     tags.iter().flat_map(entry).collect()
 }
 
-/// The slots that the split and the whole-byte table of a set need; the bitmap table needs as many as the whole-byte one.
-pub fn slots_of(set: &[u8]) -> (usize, usize) {
+/// The slots that the first and the second split table of a set need.
+pub fn slots_of(set: &[u8]) -> [usize; 2] {
     let needed = exports::slots_needed(set);
     assert_eq!(needed.refusal, 0, "the tags of a benchmark make a good set");
-    (needed.a as usize, needed.b as usize)
+    [needed.a as usize, needed.b as usize]
 }
 
-pub fn split_table(tags: &[Vec<u8>]) -> Vec<u16> {
-    let set = set_of(tags);
-    let mut table = vec![0; slots_of(&set).0 * SPLIT_SLOT];
-    assert_eq!(
-        exports::build_split(&set, &mut table).refusal,
-        0,
-        "the table has the slots that the set needs"
-    );
-    table
+/// The slots that the whole-byte table of a set of exact tags needs; the bitmap table needs as many.
+pub fn whole_slots_of(set: &[u8]) -> usize {
+    let needed = exports::whole_slots_needed(set);
+    assert_eq!(needed.refusal, 0, "exact tags make a good set");
+    needed.a as usize
 }
 
-pub fn whole_table(tags: &[Vec<u8>]) -> Vec<u16> {
+/// The two tables of the split layout: for exact tags, and for folded ones.
+pub struct SplitTables {
+    pub first: Vec<u16>,
+    pub second: Vec<u16>,
+}
+
+impl SplitTables {
+    /// Zeros for the slots that a set needs.
+    pub fn room_for(set: &[u8]) -> SplitTables {
+        let [first, second] = slots_of(set).map(|slots| vec![0; slots * SPLIT_SLOT]);
+        SplitTables { first, second }
+    }
+
+    pub fn built(tags: &[Tag]) -> SplitTables {
+        let set = set_of(tags);
+        let mut tables = SplitTables::room_for(&set);
+        assert_eq!(
+            exports::build_split(&set, &mut tables.first, &mut tables.second).refusal,
+            0,
+            "the tables have the slots that the set needs"
+        );
+        tables
+    }
+
+    /// The slots of each.
+    pub fn slots(&self) -> [usize; 2] {
+        [&self.first, &self.second].map(|table| table.len() / SPLIT_SLOT)
+    }
+}
+
+pub fn whole_table(tags: &[Tag]) -> Vec<u16> {
     let set = set_of(tags);
-    let mut table = vec![0; slots_of(&set).1 * WHOLE_SLOT];
+    let mut table = vec![0; whole_slots_of(&set) * WHOLE_SLOT];
     assert_eq!(
         exports::build_whole(&set, &mut table).refusal,
         0,
@@ -45,9 +76,9 @@ pub fn whole_table(tags: &[Vec<u8>]) -> Vec<u16> {
     table
 }
 
-pub fn bitmap_table(tags: &[Vec<u8>]) -> Vec<u16> {
+pub fn bitmap_table(tags: &[Tag]) -> Vec<u16> {
     let set = set_of(tags);
-    let mut table = vec![0; slots_of(&set).1 * BITMAP_SLOT];
+    let mut table = vec![0; whole_slots_of(&set) * BITMAP_SLOT];
     assert_eq!(
         exports::build_bitmap(&set, &mut table).refusal,
         0,
@@ -57,15 +88,15 @@ pub fn bitmap_table(tags: &[Vec<u8>]) -> Vec<u16> {
 }
 
 pub struct OneBit {
-    table: Vec<u16>,
-    place: [u16; 8],
+    tables: SplitTables,
+    place: Place,
 }
 
 impl OneBit {
-    pub fn new(tags: &[Vec<u8>]) -> OneBit {
+    pub fn new(tags: &[Tag]) -> OneBit {
         OneBit {
-            table: split_table(tags),
-            place: [0; 8],
+            tables: SplitTables::built(tags),
+            place: [0; 16],
         }
     }
 }
@@ -92,13 +123,13 @@ fn read_on(
 
 impl Engine for OneBit {
     fn begin(&mut self) {
-        self.place = [0; 8];
+        self.place = [0; 16];
     }
 
     fn piece(&mut self, input: &[u8], from: usize, to: usize, out: &mut Out) {
-        let (table, place) = (&self.table, &mut self.place);
+        let (tables, place) = (&self.tables, &mut self.place);
         read_on(input, from, to, out, |count, piece, list| {
-            exports::read_split(table, place, count, piece, list)
+            exports::read_split(&tables.first, &tables.second, place, count, piece, list)
         });
     }
 }
@@ -109,7 +140,7 @@ pub struct WholeByte {
 }
 
 impl WholeByte {
-    pub fn new(tags: &[Vec<u8>]) -> WholeByte {
+    pub fn new(tags: &[Tag]) -> WholeByte {
         WholeByte {
             table: whole_table(tags),
             place: 0,
@@ -137,7 +168,7 @@ pub struct Bitmap {
 }
 
 impl Bitmap {
-    pub fn new(tags: &[Vec<u8>]) -> Bitmap {
+    pub fn new(tags: &[Tag]) -> Bitmap {
         Bitmap {
             table: bitmap_table(tags),
             place: 0,
@@ -168,24 +199,25 @@ impl Engine for Bitmap {
 
 /// A ticket that is fed, and all records taken after each feed.
 pub struct AtTheDesk {
-    table: Vec<u16>,
+    tables: SplitTables,
     desk: Image,
     serial: u32,
     taken: Vec<u32>,
 }
 
 impl AtTheDesk {
-    pub fn new(tags: &[Vec<u8>]) -> AtTheDesk {
+    pub fn new(tags: &[Tag]) -> AtTheDesk {
         let set = set_of(tags);
-        let mut table = vec![0; slots_of(&set).0 * SPLIT_SLOT];
+        let mut tables = SplitTables::room_for(&set);
         let mut desk = Image::new();
         assert_eq!(
-            desk.replace(&set, &mut table).refusal,
+            desk.replace(&set, &mut tables.first, &mut tables.second)
+                .refusal,
             0,
-            "the table has the slots that the set needs"
+            "the tables have the slots that the set needs"
         );
         AtTheDesk {
-            table,
+            tables,
             desk,
             serial: 0,
             taken: vec![0; 4 * RECORDS_OF_A_DESK],
@@ -219,9 +251,10 @@ impl Engine for AtTheDesk {
     fn piece(&mut self, input: &[u8], from: usize, to: usize, out: &mut Out) {
         let mut at = from;
         while at < to {
-            let fed = self.desk.feed(self.serial, &self.table, &input[at..to]);
+            let (first, second) = (&self.tables.first, &self.tables.second);
+            let fed = self.desk.feed(self.serial, first, second, &input[at..to]);
             assert_eq!(fed.refusal, 0, "a live ticket's feed is not refused");
-            assert!(fed.b <= FULL, "the table is as replacement left it");
+            assert!(fed.b <= FULL, "the tables are as replacement left them");
             at += fed.a as usize;
             if fed.c > 0 {
                 self.hand_over(out);

@@ -1,42 +1,52 @@
-// The plain loops over an array of states: what the engines would be without passing over quiet bytes.
+// The plain loops over an array of states: what the engines would be without blocks and without passing over quiet bytes.
 use crate::engine::{Engine, Out};
-use crate::ours::{self, SPLIT_SLOT, WHOLE_SLOT};
+use crate::ours::{self, SplitTables, WHOLE_SLOT};
+use crate::tags::Tag;
 
 pub struct PlainOneBit {
-    table: Vec<u16>,
-    place: [usize; 8],
+    tables: SplitTables,
+    /// The states over the first table, and over the second.
+    places: [[usize; 8]; 2],
 }
 
 impl PlainOneBit {
-    pub fn new(tags: &[Vec<u8>]) -> PlainOneBit {
+    pub fn new(tags: &[Tag]) -> PlainOneBit {
         PlainOneBit {
-            table: ours::split_table(tags),
-            place: [0; 8],
+            tables: SplitTables::built(tags),
+            places: [[0; 8]; 2],
         }
     }
+}
 
-    /// The vectors ANDed after a step of all machines.
-    fn step(&mut self, s: usize, c: u8) -> u16 {
-        let mut hits = 65535;
-        for m in 0..8 {
-            let slot = (m * s + self.place[m]) * 3;
-            self.place[m] = usize::from(self.table[slot + usize::from(c >> m & 1)]);
-            assert!(self.place[m] < s, "the table was built");
-            hits &= self.table[(m * s + self.place[m]) * 3 + 2];
-        }
-        hits
+/// The vectors ANDed after a step of all machines of a table.
+#[inline(always)]
+fn step(table: &[u16], s: usize, place: &mut [usize; 8], c: u8) -> u16 {
+    let mut hits = 65535;
+    for (m, state) in place.iter_mut().enumerate() {
+        let slot = (m * s + *state) * 3;
+        *state = usize::from(table[slot + usize::from(c >> m & 1)]);
+        assert!(*state < s, "the table was built");
+        hits &= table[(m * s + *state) * 3 + 2];
     }
+    hits
 }
 
 impl Engine for PlainOneBit {
     fn begin(&mut self) {
-        self.place = [0; 8];
+        self.places = [[0; 8]; 2];
     }
 
     fn piece(&mut self, input: &[u8], from: usize, to: usize, out: &mut Out) {
-        let s = self.table.len() / SPLIT_SLOT;
+        let [s, of_second] = self.tables.slots();
+        let [exact, folded] = &mut self.places;
         for i in from..to {
-            let hits = self.step(s, input[i]);
+            let c = input[i];
+            let mut hits = step(&self.tables.first, s, exact, c);
+            // A second table of one slot has no tags: the engines leave it out too.
+            if of_second > 1 {
+                let c = c.to_ascii_lowercase();
+                hits |= step(&self.tables.second, of_second, folded, c);
+            }
             if hits != 0 {
                 push_all(hits, i + 1, out);
             }
@@ -51,7 +61,7 @@ pub struct PlainWholeByte {
 }
 
 impl PlainWholeByte {
-    pub fn new(tags: &[Vec<u8>]) -> PlainWholeByte {
+    pub fn new(tags: &[Tag]) -> PlainWholeByte {
         PlainWholeByte {
             table: ours::whole_table(tags),
             state: 0,

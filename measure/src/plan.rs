@@ -4,14 +4,23 @@ use std::fs;
 use std::io::{self, IsTerminal, Write};
 use std::thread;
 
+/// What an engine does wrongly.
+#[derive(Clone, Copy)]
+pub enum Wrong {
+    /// It forgets the pieces before.
+    Pieces,
+    /// It takes every tag as exact.
+    Kinds,
+}
+
 pub struct Plan {
     /// Bytes of each input.
     pub size: usize,
     pub rounds: usize,
     /// Whether figures are judged: not where the input is too short for them.
     pub judged: bool,
-    /// Whether an engine is among them that the check of the records must find out.
-    pub wrong_engine: bool,
+    /// An engine among them that the check of the records must find out.
+    pub wrong_engine: Option<Wrong>,
     pub machine: String,
 }
 
@@ -21,7 +30,7 @@ impl Plan {
             size: 16 << 20,
             rounds: 12,
             judged: true,
-            wrong_engine: false,
+            wrong_engine: None,
             machine: machine(),
         }
     }
@@ -32,7 +41,7 @@ impl Plan {
             size: 1 << 18,
             rounds: 1,
             judged: false,
-            wrong_engine: false,
+            wrong_engine: None,
             machine: machine(),
         }
     }

@@ -2,7 +2,7 @@
 use crate::agreement::agree;
 use crate::engine::{read_all, Engine, Out};
 use crate::engines;
-use crate::inputs::{self, Case, Kind, KINDS};
+use crate::inputs::{self, Case, Kind};
 use crate::plan::Plan;
 use crate::timing::processor_time;
 
@@ -35,7 +35,7 @@ impl Timed {
 pub fn prepared(plan: &Plan) -> Result<Vec<Race>, String> {
     let mut races = Vec::new();
     for tag_count in TAG_COUNTS {
-        for kind in KINDS {
+        for kind in inputs::all() {
             let case = inputs::case(kind, tag_count, plan.size);
             races.push(Race::prepared(plan, case)?);
         }
@@ -54,10 +54,8 @@ impl Race {
     /// No engine runs before all have given the same records.
     fn prepared(plan: &Plan, case: Case) -> Result<Race, String> {
         let title = format!("{} tags, {}", case.tags.len(), case.kind.name());
-        let mut makers = engines::all();
-        if plan.wrong_engine {
-            makers.push(engines::wrong());
-        }
+        let mut makers = engines::all_for(&case.tags);
+        makers.extend(plan.wrong_engine.map(engines::wrong));
         plan.progress(&format!(
             "do the records of {} engines agree? {title}",
             makers.len()

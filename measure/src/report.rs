@@ -4,7 +4,7 @@ use crate::engines::{AHO_CORASICK, DIRECT};
 use crate::english;
 use crate::figures::Figures;
 use crate::goals::{goals, Wanted};
-use crate::inputs::{Kind, KINDS};
+use crate::inputs::{self, Kind};
 use crate::memory;
 use crate::peers;
 use crate::plan::Plan;
@@ -87,24 +87,21 @@ fn nanoseconds(figures: &Figures, engine: &str, tags: usize, kind: Kind) -> Opti
     Some(format!("{:.2}", figures.timed(engine, tags, kind)?.best()))
 }
 
-/// A row for each engine, a column for each input; the last row has the matches in a thousand bytes.
+/// A row for each engine, a column for each input, empty where the engine takes no folded tags and the input is one of both kinds;
+/// the last row has the matches in a thousand bytes.
 fn reading(
     figures: &Figures,
     tags: usize,
     cell: impl Fn(&Figures, &str, usize, Kind) -> Option<String>,
 ) -> String {
     let mut titles = vec!["engine"];
-    titles.extend(KINDS.iter().map(|kind| kind.name()));
+    titles.extend(inputs::all().map(Kind::name));
     let mut table = head(&titles);
     for engine in figures.engines() {
-        let cells = KINDS
-            .iter()
-            .map(|kind| cell(figures, engine, tags, *kind).unwrap_or_default());
+        let cells = inputs::all().map(|kind| cell(figures, engine, tags, kind).unwrap_or_default());
         table += &row(std::iter::once(engine.to_string()).chain(cells));
     }
-    let matches = KINDS
-        .iter()
-        .map(|kind| matches_in_a_thousand(figures, tags, *kind));
+    let matches = inputs::all().map(|kind| matches_in_a_thousand(figures, tags, kind));
     table + &row(std::iter::once("*matches in 1,000 bytes*".to_string()).chain(matches))
 }
 
@@ -119,7 +116,7 @@ fn matches_in_a_thousand(figures: &Figures, tags: usize, kind: Kind) -> String {
 }
 
 fn builds(figures: &Figures) -> String {
-    let sets: Vec<&str> = building::sets().iter().map(|(set, _)| *set).collect();
+    let sets: Vec<&str> = building::all_sets().iter().map(|(set, _)| *set).collect();
     let mut table = head(&[&["builder"], sets.as_slice()].concat());
     let mut named: Vec<&str> = Vec::new();
     for build in &figures.building {

@@ -1,10 +1,11 @@
 // Our engines' shapes written in Rust, function for function: what the proved code is held against. CHECKED says whether each
 // index is tested, as Rust's own indexing does, or not, as the proved code need not.
 use crate::engine::{Engine, Out};
-use crate::ours::{self, BITMAP_SLOT, SPLIT_SLOT, WHOLE_SLOT};
+use crate::ours::{self, SplitTables, BITMAP_SLOT, WHOLE_SLOT};
 use crate::same_shape_bitmap::on_bitmap;
 use crate::same_shape_split::on_split;
 use crate::same_shape_whole::on_whole;
+use crate::tags::Tag;
 
 #[derive(Clone, Copy, PartialEq)]
 pub enum Stop {
@@ -23,7 +24,8 @@ pub struct Went<P> {
 
 #[inline(always)]
 pub fn at<const CHECKED: bool, T: Copy>(run: &[T], i: usize) -> T {
-    // Sound for the callers here: a table that was built has each number that a step reads, and i is below the piece's length.
+    // Sound for the callers here: a table that was built has each number that a step reads, and i is below the length of the piece
+    // or of the block.
     if CHECKED {
         run[i]
     } else {
@@ -41,11 +43,20 @@ pub fn after<const CHECKED: bool, T>(run: &[T], from: usize) -> &[T] {
 }
 
 #[inline(always)]
-fn set<const CHECKED: bool>(list: &mut [u32], i: usize, x: u32) {
+pub fn between<const CHECKED: bool, T>(run: &[T], from: usize, to: usize) -> &[T] {
     if CHECKED {
-        list[i] = x
+        &run[from..to]
     } else {
-        unsafe { *list.get_unchecked_mut(i) = x }
+        unsafe { run.get_unchecked(from..to) }
+    }
+}
+
+#[inline(always)]
+pub fn set<const CHECKED: bool, T>(run: &mut [T], i: usize, x: T) {
+    if CHECKED {
+        run[i] = x
+    } else {
+        unsafe { *run.get_unchecked_mut(i) = x }
     }
 }
 
@@ -54,8 +65,8 @@ fn put<const CHECKED: bool>(list: &mut [u32], from: usize, end: u32, hits: u16) 
     let mut rest = hits;
     for tag in 0..16 {
         if rest % 2 != 0 {
-            set::<CHECKED>(list, 2 * w, end);
-            set::<CHECKED>(list, 2 * w + 1, tag);
+            set::<CHECKED, u32>(list, 2 * w, end);
+            set::<CHECKED, u32>(list, 2 * w + 1, tag);
             w += 1;
         }
         rest /= 2;
@@ -89,37 +100,37 @@ pub fn soon(at: usize, len: usize) -> usize {
 }
 
 pub struct OneBitInRust<const CHECKED: bool> {
-    table: Vec<u16>,
-    place: [usize; 8],
+    tables: SplitTables,
+    place: [usize; 16],
 }
 
 impl<const CHECKED: bool> OneBitInRust<CHECKED> {
-    pub fn new(tags: &[Vec<u8>]) -> Self {
+    pub fn new(tags: &[Tag]) -> Self {
         OneBitInRust {
-            table: ours::split_table(tags),
-            place: [0; 8],
+            tables: SplitTables::built(tags),
+            place: [0; 16],
         }
     }
 }
 
 impl<const CHECKED: bool> Engine for OneBitInRust<CHECKED> {
     fn begin(&mut self) {
-        self.place = [0; 8];
+        self.place = [0; 16];
     }
 
     fn piece(&mut self, input: &[u8], from: usize, to: usize, out: &mut Out) {
-        let s = self.table.len() / SPLIT_SLOT;
+        let slots = self.tables.slots();
         let mut at = from;
         while at < to {
             let went = on_split::<CHECKED>(
-                &self.table,
-                s,
+                [&self.tables.first, &self.tables.second],
+                slots,
                 self.place,
                 at as u32,
                 &input[at..to],
                 &mut out.list,
             );
-            assert!(went.stop != Stop::Damaged, "the table was built");
+            assert!(went.stop != Stop::Damaged, "the tables were built");
             self.place = went.place;
             at += went.taken;
             out.take(went.records);
@@ -133,7 +144,7 @@ pub struct WholeByteInRust<const CHECKED: bool> {
 }
 
 impl<const CHECKED: bool> WholeByteInRust<CHECKED> {
-    pub fn new(tags: &[Vec<u8>]) -> Self {
+    pub fn new(tags: &[Tag]) -> Self {
         WholeByteInRust {
             table: ours::whole_table(tags),
             place: 0,
@@ -173,7 +184,7 @@ pub struct BitmapInRust<const CHECKED: bool> {
 }
 
 impl<const CHECKED: bool> BitmapInRust<CHECKED> {
-    pub fn new(tags: &[Vec<u8>]) -> Self {
+    pub fn new(tags: &[Tag]) -> Self {
         BitmapInRust {
             table: ours::bitmap_table(tags),
             place: 0,

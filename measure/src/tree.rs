@@ -1,6 +1,8 @@
 // Our builder's shape written in Rust: each machine's states are counted, its tree of prefixes is planted, and its slots are
 // made level by level along failure links. Vectors come by the plain test of tags' ends, as ours do, or along the links: what
 // the test costs, and what is left without it, is the difference.
+use crate::ours::SplitTables;
+use crate::tags::{of_kind, Tag};
 
 /// How the vectors are made.
 #[derive(Clone, Copy, PartialEq)]
@@ -13,43 +15,51 @@ pub enum Vectors {
 
 /// So many bits for each of the machines.
 #[derive(Clone, Copy)]
-pub struct Slicing {
-    pub bits: usize,
-    pub machines: usize,
+struct Slicing {
+    bits: usize,
+    machines: usize,
 }
 
-pub const SPLIT: Slicing = Slicing {
+const SPLIT: Slicing = Slicing {
     bits: 1,
     machines: 8,
 };
-pub const WHOLE: Slicing = Slicing {
+const WHOLE: Slicing = Slicing {
     bits: 8,
     machines: 1,
 };
 
-/// What one machine reads of at most 16 tags of at most 32 bytes.
+/// What one machine reads of at most 16 tags of one kind, of at most 32 bytes, and their numbers in the whole set.
 struct Words {
     letters: [[u8; 32]; 16],
     lengths: [usize; 16],
+    numbers: [usize; 16],
     count: usize,
 }
 
 impl Words {
-    fn spelled(tags: &[Vec<u8>], bits: usize, machine: usize) -> Words {
+    fn spelled(tags: &[Tag], folded: bool, bits: usize, machine: usize) -> Words {
         let mask = ((1u16 << bits) - 1) as u8;
-        let (mut letters, mut lengths) = ([[0; 32]; 16], [0; 16]);
-        for (t, tag) in tags.iter().enumerate() {
-            lengths[t] = tag.len();
-            for (i, c) in tag.iter().enumerate() {
-                letters[t][i] = c >> (machine * bits) & mask;
+        let mut words = Words {
+            letters: [[0; 32]; 16],
+            lengths: [0; 16],
+            numbers: [0; 16],
+            count: 0,
+        };
+        for (t, (number, tag)) in of_kind(tags, folded).enumerate() {
+            words.lengths[t] = tag.bytes.len();
+            words.numbers[t] = number;
+            words.count = t + 1;
+            for (letter, byte) in words.letters[t].iter_mut().zip(&tag.bytes) {
+                let read = if folded {
+                    byte.to_ascii_lowercase()
+                } else {
+                    *byte
+                };
+                *letter = read >> (machine * bits) & mask;
             }
         }
-        let count = tags.len();
-        Words {
-            letters,
-            lengths,
-            count,
-        }
+        words
     }
 
     fn word(&self, t: usize) -> &[u8] {
@@ -71,11 +81,28 @@ impl Words {
     }
 }
 
-/// Fills a table, if it has slots enough for every machine.
-pub fn build(tags: &[Vec<u8>], slicing: Slicing, vectors: Vectors, table: &mut [u16]) -> bool {
+/// Fills the two split tables, if they have slots enough for every machine.
+pub fn build_split(tags: &[Tag], vectors: Vectors, tables: &mut SplitTables) -> bool {
+    build(tags, false, SPLIT, vectors, &mut tables.first)
+        && build(tags, true, SPLIT, vectors, &mut tables.second)
+}
+
+/// The same for a whole-byte table, of exact tags.
+pub fn build_whole(tags: &[Tag], vectors: Vectors, table: &mut [u16]) -> bool {
+    build(tags, false, WHOLE, vectors, table)
+}
+
+/// A table of the tags of one kind.
+fn build(
+    tags: &[Tag],
+    folded: bool,
+    slicing: Slicing,
+    vectors: Vectors,
+    table: &mut [u16],
+) -> bool {
     let size = table.len() / slicing.machines;
     let width = (1 << slicing.bits) + 1;
-    let words = |m| Words::spelled(tags, slicing.bits, m);
+    let words = |m| Words::spelled(tags, folded, slicing.bits, m);
     if (0..slicing.machines).any(|m| size / width < words(m).states()) {
         return false;
     }
@@ -120,7 +147,7 @@ fn plant(words: &Words, width: usize, vectors: Vectors, part: &mut [u16]) {
             q = usize::from(*next);
         }
         if vectors == Vectors::ByLinks {
-            part[q * width + width - 1] |= 1 << t;
+            part[q * width + width - 1] |= 1 << words.numbers[t];
         }
     }
 }
@@ -185,8 +212,6 @@ fn tag_ends(word: &[u8], tag: &[u8]) -> bool {
 }
 
 fn vector_of(word: &[u8], words: &Words) -> u16 {
-    let bit = |t| u16::from(tag_ends(word, words.word(t)));
-    (0..words.count)
-        .rev()
-        .fold(0, |vector, t| vector * 2 + bit(t))
+    let bit = |t| u16::from(tag_ends(word, words.word(t))) << words.numbers[t];
+    (0..words.count).fold(0, |vector, t| vector | bit(t))
 }

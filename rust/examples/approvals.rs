@@ -3,10 +3,13 @@
 //! approvals begun under the old list are stale, at their next piece or at their decision, and are
 //! read again from their first byte.
 //!
+//! People type the names of cases, and phones rewrite them in capitals, so these are folded: matched in
+//! either letter case. In the code of a scan a capital is another letter, so that is exact.
+//!
 //! It writes what `examples/c/approvals.c` writes.
 
 use sleetbarley::text::escaped;
-use sleetbarley::{Gate, Piece, Refusal, Serial, TagSet, Verdict};
+use sleetbarley::{Entry, Gate, Piece, Refusal, Serial, TagSet, Verdict};
 
 /// An approval keeps what it has sent, to be read again under a new list.
 struct Approval {
@@ -16,7 +19,7 @@ struct Approval {
 }
 
 /// Puts a new list of withdrawn cases in force, if it is lawful.
-fn install(gate: &mut Gate, cases: &[&str]) {
+fn install(gate: &mut Gate, cases: &[Entry]) {
     match TagSet::new(cases).and_then(|set| gate.replace(&set)) {
         Ok(now) => println!("edition {}: {} withdrawn cases", now.edition, now.tags),
         Err(refusal) => println!(
@@ -67,7 +70,8 @@ fn decide(gate: &mut Gate, one: &mut Approval) -> Result<(), Refusal> {
         match gate.decide(one.serial)? {
             Verdict::Pass => println!("{}: passed", one.name),
             Verdict::Hold(held) => {
-                let cases = held.tags().map(|(_, case)| format!(" {}", escaped(case)));
+                let cases = held.tags().map(|(_, case)| escaped(case.bytes()));
+                let cases = cases.map(|case| format!(" {case}"));
                 println!("{}: held for{}", one.name, cases.collect::<String>());
             }
             Verdict::Unread => println!("{}: held, for it was not read whole", one.name),
@@ -92,16 +96,18 @@ fn main() -> Result<(), Refusal> {
             refusal.number()
         );
     }
-    install(&mut gate, &["K-1041", "K-2200"]);
+    let names = ["k-1041", "k-2200", "k-3007", "k-300"].map(Entry::folded);
+    let scan = Entry::exact("scan-aZ9");
+    install(&mut gate, &[names[0], names[1], scan]);
     let mut north = begin(&mut gate, "north")?;
     let mut south = begin(&mut gate, "south")?;
     let mut east = begin(&mut gate, "east")?;
     let mut west = begin(&mut gate, "west")?;
-    receive(&mut gate, &mut north, "batch 7 after K-10")?;
+    receive(&mut gate, &mut north, "BATCH 7 AFTER K-10")?;
     receive(&mut gate, &mut south, "batch 8 as K-3007")?;
-    receive(&mut gate, &mut north, "41 was repeated")?;
+    receive(&mut gate, &mut north, "41 WAS REPEATED")?;
     receive(&mut gate, &mut east, "batch 9, nothing to say")?;
-    receive(&mut gate, &mut west, "batch 10")?;
+    receive(&mut gate, &mut west, "batch 10 by scan-AZ9")?;
     receive(&mut gate, &mut south, ", signed")?;
     decide(&mut gate, &mut north)?;
     decide(&mut gate, &mut west)?;
@@ -111,11 +117,10 @@ fn main() -> Result<(), Refusal> {
             refusal.number()
         );
     }
-    install(
-        &mut gate,
-        &["K-1041", "K-2200", "a name of more than thirty-two bytes"],
-    );
-    install(&mut gate, &["K-1041", "K-2200", "K-3007", "K-300"]);
+    // A folded name again is refused, in capitals too.
+    install(&mut gate, &[names[0], names[1], Entry::folded("K-1041")]);
+    let [first, second, third, fourth] = names;
+    install(&mut gate, &[first, second, third, fourth, scan]);
     decide(&mut gate, &mut south)?;
     receive(&mut gate, &mut east, ", signed")?;
     decide(&mut gate, &mut east)

@@ -3,7 +3,7 @@
 
 mod rules;
 
-use crate::raw::{GateImage, Image, Record, Seen, Ticket};
+use crate::raw::{GateImage, Image, Place, Record, Seen, Ticket};
 use crate::set::TagSet;
 use rules::{answer, begun, closed, decided, fed, opened, pieced, refused, stated, taken, FREE};
 
@@ -43,7 +43,7 @@ impl Random {
             serial: self.number(),
             edition: self.number(),
             taken: self.number(),
-            place: [0; 8].map(|_: u16| self.below(5) as u16),
+            place: [0; 16].map(|_: u16| self.below(5) as u16),
         }
     }
 
@@ -64,7 +64,7 @@ impl Random {
             count: self.wide(),
             edition: self.number(),
             serial: self.number(),
-            slots: self.below(6),
+            slots: [self.below(6), self.below(6)],
         }
     }
 
@@ -79,6 +79,26 @@ impl Random {
         }
     }
 
+    /// Slots of two tables, mostly one at least.
+    fn slots(&mut self) -> [u64; 2] {
+        let mut slots = || match self.below(12) {
+            0 => 0,
+            _ => 1 + self.below(5),
+        };
+        [slots(), slots()]
+    }
+
+    /// Two tables of so many slots.
+    fn tables(&mut self, slots: [u64; 2]) -> [Vec<u16>; 2] {
+        slots.map(|slots| self.table(slots))
+    }
+
+    /// Two tables for the set of both kinds, of which either may be short: it needs 10 slots and 3.
+    fn runs_of_sevens(&mut self) -> [Vec<u16>; 2] {
+        let (first, second) = (9 + self.below(3), [0, 2, 3, 4][self.below(4) as usize]);
+        [first, second].map(|slots| vec![7; (24 * slots + self.below(24)) as usize])
+    }
+
     /// A table of so many slots, with nexts that are mostly below them and vectors of many ones.
     fn table(&mut self, slots: u64) -> Vec<u16> {
         let length = 24 * slots + self.below(24);
@@ -89,6 +109,30 @@ impl Random {
         };
         (0..length).map(&mut number).collect()
     }
+}
+
+/// he, she, his, hers, which need 10 slots of the first table, and He, folded, which needs 3 of the
+/// second.
+fn set_of_both_kinds() -> TagSet {
+    let exact = ["he", "she", "his", "hers"];
+    let builder = exact
+        .iter()
+        .fold(TagSet::builder(), |set, tag| set.tag(tag));
+    builder.folded("He").build().expect("a lawful set")
+}
+
+fn slots_of(tables: &[Vec<u16>; 2]) -> [u64; 2] {
+    let slots = |table: &Vec<u16>| table.len() as u64 / 24;
+    [slots(&tables[0]), slots(&tables[1])]
+}
+
+/// The last state of each machine in tables of so many slots.
+fn last_of(slots: [u64; 2]) -> Place {
+    let mut place = [0; 16];
+    for (machine, state) in place.iter_mut().enumerate() {
+        *state = slots[machine / 8].saturating_sub(1) as u16;
+    }
+    place
 }
 
 #[test]
@@ -146,19 +190,19 @@ fn feed_gives_its_answer_over_any_image_and_table() {
     let mut stops = [0; 3];
     for _ in 0..20_000 {
         let mut image = random.image();
-        let slots = random.below(6);
-        let table = random.table(slots);
+        let slots = random.slots();
+        let [first, second] = &random.tables(slots);
         let room = random.below(16) as usize;
         if random.below(8) > 0 {
             image.slots = slots;
             image.tickets[room].edition = image.edition;
-            image.tickets[room].place = [slots.saturating_sub(1) as u16; 8];
+            image.tickets[room].place = last_of(slots);
         }
         let serial = image.tickets[room].serial;
         let piece: Vec<u8> = (0..random.below(40)).map(|_| random.next() as u8).collect();
         let mut expected = image;
-        let rule = fed(&mut expected, serial, &table, &piece);
-        assert_eq!(image.feed(serial, &table, &piece), rule);
+        let rule = fed(&mut expected, serial, [first, second], &piece);
+        assert_eq!(image.feed(serial, first, second, &piece), rule);
         assert!(image == expected);
         refusals[rule.refusal as usize] += 1;
         stops[rule.b as usize] += usize::from(rule.refusal == 0 && rule.a > 0);
@@ -172,22 +216,30 @@ fn feed_gives_its_answer_over_any_image_and_table() {
 #[test]
 fn replace_gives_its_answer_over_any_image() {
     let mut random = Random(0x5EED_0004);
-    let set = TagSet::new(["he", "she", "his", "hers"]).expect("a lawful set");
+    let set = set_of_both_kinds();
+    let mut refusals = [0; 17];
     for _ in 0..2_000 {
-        let (mut image, length) = (random.image(), 24 * (9 + random.below(3)) as usize);
-        let (mut expected, mut table, mut rule_table) = (image, vec![7; length], vec![7; length]);
-        let rule = match (length / 24, image.edition) {
-            (9, _) => answer(7, [3, 10, 0, 0]),
+        let (mut image, lent) = (random.image(), random.runs_of_sevens());
+        let (mut expected, mut tables, mut rule_tables) = (image, lent.clone(), lent);
+        let rule = match (slots_of(&tables), image.edition) {
+            ([9, _], _) => answer(7, [3, 10, 0, 0]),
+            ([_, 0 | 2], _) => answer(7, [8, 3, 0, 0]),
             (_, u32::MAX) => refused(8),
             (slots, edition) => {
                 expected.edition = edition + 1;
-                expected.slots = slots as u64;
-                crate::raw::build_split(set.as_bytes(), &mut rule_table);
-                answer(0, [u64::from(edition) + 1, 4, 0, 0])
+                expected.slots = slots;
+                let [first, second] = &mut rule_tables;
+                crate::raw::build_split(set.as_bytes(), first, second);
+                answer(0, [u64::from(edition) + 1, 5, 0, 0])
             }
         };
-        assert_eq!(image.replace(set.as_bytes(), &mut table), rule);
-        assert!(image == expected && table == rule_table);
+        let [first, second] = &mut tables;
+        assert_eq!(image.replace(set.as_bytes(), first, second), rule);
+        assert!(image == expected && tables == rule_tables);
+        refusals[rule.refusal as usize] += 1;
+    }
+    for number in [0, 7, 8] {
+        assert!(refusals[number] > 50, "refusals: {refusals:?}");
     }
 }
 
@@ -210,13 +262,13 @@ fn the_gate_gives_its_answers_over_any_image_and_table() {
     let (mut refusals, mut verdicts, mut pieces) = ([0; 17], [0; 5], [0; 2]);
     for _ in 0..10_000 {
         let mut gate = random.gate();
-        let slots = random.below(6);
-        let table = random.table(slots);
+        let slots = random.slots();
+        let [first, second] = &random.tables(slots);
         let room = random.below(16) as usize;
         if random.below(8) > 0 {
             gate.desk.slots = slots;
             gate.desk.tickets[room].edition = gate.desk.edition;
-            gate.desk.tickets[room].place = [slots.saturating_sub(1) as u16; 8];
+            gate.desk.tickets[room].place = last_of(slots);
             gate.desk.count = random.below(300);
         }
         if random.below(3) == 0 {
@@ -230,8 +282,8 @@ fn the_gate_gives_its_answers_over_any_image_and_table() {
             let (said, rule) = match call {
                 0 => (gate.begin(), begun(&mut expected)),
                 1 => (
-                    gate.piece(serial, &table, &piece),
-                    pieced(&mut expected, serial, &table, &piece),
+                    gate.piece(serial, first, second, &piece),
+                    pieced(&mut expected, serial, [first, second], &piece),
                 ),
                 _ => (gate.decide(serial), decided(&mut expected, serial)),
             };
@@ -256,12 +308,14 @@ fn the_gate_gives_its_answers_over_any_image_and_table() {
 #[test]
 fn a_gates_replacement_is_its_desks_over_any_image() {
     let mut random = Random(0x5EED_0008);
-    let set = TagSet::new(["he", "she", "his", "hers"]).expect("a lawful set");
+    let set = set_of_both_kinds();
     for _ in 0..500 {
-        let (mut gate, length) = (random.gate(), 24 * (9 + random.below(3)) as usize);
-        let (mut expected, mut table, mut rule_table) = (gate, vec![7; length], vec![7; length]);
-        let rule = expected.desk.replace(set.as_bytes(), &mut rule_table);
-        assert_eq!(gate.replace(set.as_bytes(), &mut table), rule);
-        assert!(gate == expected && table == rule_table);
+        let (mut gate, lent) = (random.gate(), random.runs_of_sevens());
+        let (mut expected, mut tables, mut rule_tables) = (gate, lent.clone(), lent);
+        let [first, second] = &mut rule_tables;
+        let rule = expected.desk.replace(set.as_bytes(), first, second);
+        let [first, second] = &mut tables;
+        assert_eq!(gate.replace(set.as_bytes(), first, second), rule);
+        assert!(gate == expected && tables == rule_tables);
     }
 }

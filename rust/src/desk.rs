@@ -1,22 +1,22 @@
-//! The desk that owns its table.
+//! The desk that owns its tables.
 
+use crate::entry::Entry;
 use crate::kept::Kept;
 use crate::lent::{LentDesk, SPLIT_SLOT, SPLIT_TABLE};
 use crate::numbers::{Edition, Fed, Record, Replaced, Serial, Stop, Tag, Ticket, TicketState};
 use crate::refusal::Refusal;
 use crate::set::TagSet;
+use crate::split::SplitNumbers;
 use std::fmt::{self, Debug, Formatter};
 
 /// Records that a desk holds at most.
 const MOST_RECORDS: usize = 256;
-/// Slots beyond these are never used.
-const MOST_SLOTS: usize = 513;
 
 /// A desk: up to 16 tickets that are read side by side, one list of up to 256 records shared by
-/// all, and the table of the set in force.
+/// all, and the two tables of the set in force, for its exact and its folded tags.
 ///
-/// The table is the desk's own, and only an accepted replacement writes it, so every feed reads
-/// over the table of the set in force. Hence, by the theorems that `docs/PROMISES.md` names:
+/// The tables are the desk's own, and only an accepted replacement writes them, so every feed reads
+/// over the tables of the set in force. Hence, by the theorems that `docs/PROMISES.md` names:
 ///
 /// - a ticket's records are exactly the occurrences, in the bytes taken for it, of the tags of the
 ///   set under which it was opened, wherever its pieces are cut;
@@ -30,7 +30,7 @@ const MOST_SLOTS: usize = 513;
 /// ticket may be handed out while another is fed.
 ///
 /// ```
-/// use sleetbarley::{Desk, Edition, Record, Refusal, Stop, Tag, TagSet, TicketState};
+/// use sleetbarley::{Desk, Edition, Entry, Record, Refusal, Stop, Tag, TagSet, TicketState};
 ///
 /// let mut desk = Desk::new();
 /// let replaced = desk.replace(&TagSet::new(["he", "she", "his", "hers"])?)?;
@@ -49,14 +49,14 @@ const MOST_SLOTS: usize = 513;
 /// assert_eq!(refused, Refusal::Stale { edition: Edition(1) });
 /// assert_eq!(refused.number(), 13);
 /// // The ticket isn't closed, so the desk still has the set of its records.
-/// assert_eq!(desk.tag_bytes(Edition(1), Tag(3)), Some(&b"hers"[..]));
+/// assert_eq!(desk.tag(Edition(1), Tag(3)), Some(Entry::exact("hers")));
 /// desk.close(serial)?;
 /// # Ok::<(), Refusal>(())
 /// ```
 #[derive(Clone)]
 pub struct Desk {
     desk: LentDesk,
-    table: Box<[u16]>,
+    tables: SplitNumbers,
     kept: Kept,
 }
 
@@ -67,17 +67,19 @@ impl Default for Desk {
 }
 
 impl Desk {
-    /// A new desk with a table that is enough for every set: 22,992 bytes.
+    /// A new desk with two tables that are enough for every set: 22,992 bytes each.
     pub fn new() -> Desk {
-        Desk::with_slots(SPLIT_TABLE / SPLIT_SLOT)
+        Desk::with_slots([SPLIT_TABLE / SPLIT_SLOT; 2])
     }
 
-    /// A new desk with a table of so many slots, 48 bytes each. A set that needs more is refused as
-    /// [`Refusal::Table`]; [`TagSet::split_slots`](crate::TagSet::split_slots) says what it needs.
-    pub fn with_slots(slots: usize) -> Desk {
+    /// A new desk with so many slots in its first table, for exact tags, and in its second, for folded
+    /// ones, 48 bytes each; 0 counts as 1, which a table without tags needs. A set that needs more is
+    /// refused as [`Refusal::Table`]; [`TagSet::split_slots`](crate::TagSet::split_slots) says what it
+    /// needs.
+    pub fn with_slots(slots: [usize; 2]) -> Desk {
         Desk {
             desk: LentDesk::new(),
-            table: vec![0; slots.min(MOST_SLOTS) * SPLIT_SLOT].into(),
+            tables: SplitNumbers::with_slots(slots),
             kept: Kept::default(),
         }
     }
@@ -91,16 +93,22 @@ impl Desk {
     /// desk.replace("preview-17");
     /// ```
     pub fn replace(&mut self, set: &TagSet) -> Result<Replaced, Refusal> {
-        let replaced = self.desk.replace(set.as_bytes(), &mut self.table)?;
+        let replaced = self.install(set.as_bytes())?;
         self.keep(replaced, set.clone());
         Ok(replaced)
     }
 
     /// Puts in force the set that stands in these bytes, as [`TagSet::from_bytes`] reads them.
     pub fn replace_bytes(&mut self, set: &[u8]) -> Result<Replaced, Refusal> {
-        let replaced = self.desk.replace(set, &mut self.table)?;
+        let replaced = self.install(set)?;
         self.keep(replaced, TagSet::accepted(set));
         Ok(replaced)
+    }
+
+    fn install(&mut self, set: &[u8]) -> Result<Replaced, Refusal> {
+        let tables = &mut self.tables;
+        self.desk
+            .replace(set, &mut tables.first, &mut tables.second)
     }
 
     /// Lets go the sets that no ticket in use and no held record is of.
@@ -118,7 +126,8 @@ impl Desk {
 
     /// Reads a piece for a ticket, as far as its records find room.
     pub fn feed(&mut self, serial: Serial, piece: &[u8]) -> Result<Fed, Refusal> {
-        self.desk.feed(serial, &self.table, piece)
+        let [first, second] = self.tables.both();
+        self.desk.feed(serial, first, second, piece)
     }
 
     /// Reads a piece for a ticket to its end, and hands out every record, oldest first: those held
@@ -205,10 +214,10 @@ impl Desk {
         self.kept.set(edition)
     }
 
-    /// The bytes of a tag, by its edition and its number, as records have them; see [`Desk::set`]
-    /// for which editions.
-    pub fn tag_bytes(&self, edition: Edition, tag: Tag) -> Option<&[u8]> {
-        self.kept.tag_bytes(edition, tag)
+    /// A tag with its kind, by its edition and its number, as records have them; see [`Desk::set`] for
+    /// which editions.
+    pub fn tag(&self, edition: Edition, tag: Tag) -> Option<Entry<'_>> {
+        self.kept.tag(edition, tag)
     }
 
     /// The last serial given; 0 where none was.
@@ -226,9 +235,9 @@ impl Desk {
         self.desk.tickets()
     }
 
-    /// The numbers of the table.
-    pub fn table(&self) -> &[u16] {
-        &self.table
+    /// The numbers of the first and of the second table.
+    pub fn tables(&self) -> [&[u16]; 2] {
+        self.tables.both()
     }
 }
 
@@ -236,7 +245,7 @@ impl Debug for Desk {
     fn fmt(&self, f: &mut Formatter) -> fmt::Result {
         f.debug_struct("Desk")
             .field("desk", &self.desk)
-            .field("slots", &(self.table.len() / SPLIT_SLOT))
+            .field("slots", &self.tables.slots())
             .finish()
     }
 }

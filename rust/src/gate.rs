@@ -1,26 +1,24 @@
 //! The gate: the one way to decide about approvals.
 
+use crate::entry::{Entry, Kind};
 use crate::kept::Kept;
 use crate::lent::{tickets_of, SPLIT_SLOT, SPLIT_TABLE};
 use crate::numbers::{Edition, Replaced, Serial, Tag, Ticket, TicketState};
 use crate::raw::GateImage;
 use crate::refusal::Refusal;
 use crate::set::TagSet;
-use crate::text::escaped;
+use crate::split::SplitNumbers;
 use std::fmt::{self, Debug, Display, Formatter};
-
-/// Slots beyond these are never used.
-const MOST_SLOTS: usize = 513;
 
 /// A gate: it reads up to 16 approvals side by side, and decides about each.
 ///
 /// An approval is begun, handed in piece by piece, and decided. However it was cut and whatever came
 /// between, after any history of calls [`Gate::decide`] answers [`Verdict::Pass`] exactly if no
 /// replacement was accepted since the approval began, every byte handed in was taken, and no tag of
-/// the set in force ends anywhere in those bytes. That is proved (`exactly` in
+/// the set in force, by its kind, ends anywhere in those bytes. That is proved (`exactly` in
 /// `crates/verdicts/specs/Exactly.antt`).
 ///
-/// The gate owns its desk and its table, notes each record for its own approval, and frees the
+/// The gate owns its desk and its tables, notes each record for its own approval, and frees the
 /// approval's ticket when it decides, so there is no list to empty and no ticket to close. It can't be
 /// cloned: a copy would decide by a set that was replaced on the other. Who wants to know where tags
 /// end has a [`Desk`](crate::Desk) beside it, and hands each piece to both.
@@ -40,6 +38,8 @@ const MOST_SLOTS: usize = 513;
 ///   with the number that is to go out, before it goes out.
 /// - **A refused set withdraws nothing.** Let nothing through until the list that was refused is in
 ///   force, put right; the last good list again is not enough.
+/// - **An exact tag is matched byte for byte.** Where people type tags, or phones rewrite them in
+///   capitals, an exact `preview-17` lets `PREVIEW-17` through: fold it.
 /// - **An empty list is no set.** When no tag is withdrawn any more, put one in force that no approval
 ///   carries: 32 random bytes.
 /// - **More than 16 tags** need several gates that all read every approval, under one lock, and it
@@ -76,12 +76,19 @@ const MOST_SLOTS: usize = 513;
 /// // A serial is decided once.
 /// let refused = gate.decide(again);
 /// assert_eq!(refused, Err(Refusal::NoTicket));
+///
+/// // A phone has written a tag in capitals: a folded tag is found all the same.
+/// gate.replace(&TagSet::builder().folded("preview-17").tag("preview-23").build()?)?;
+/// let phone = gate.begin()?;
+/// gate.piece(phone, b"APPROVED: CROWN 26, FROM PREVIEW-17 AND PREVIEW-23")?;
+/// let words = gate.decide(phone)?.to_string();
+/// assert_eq!(words, r"hold: it carries \~preview-17 (tag 0 of edition 3)");
 /// # Ok::<(), Refusal>(())
 /// ```
 pub struct Gate {
-    // An image has 4,832 bytes.
+    // An image has 5,096 bytes.
     image: Box<GateImage>,
-    table: Box<[u16]>,
+    tables: SplitNumbers,
     kept: Kept,
 }
 
@@ -92,17 +99,19 @@ impl Default for Gate {
 }
 
 impl Gate {
-    /// A new gate, with no set in force, and a table that is enough for every set: 22,992 bytes.
+    /// A new gate, with no set in force, and two tables that are enough for every set: 22,992 bytes
+    /// each.
     pub fn new() -> Gate {
-        Gate::with_slots(SPLIT_TABLE / SPLIT_SLOT)
+        Gate::with_slots([SPLIT_TABLE / SPLIT_SLOT; 2])
     }
 
-    /// A new gate with a table of so many slots, 48 bytes each. A set that needs more is refused as
-    /// [`Refusal::Table`]; [`TagSet::split_slots`] says what it needs.
-    pub fn with_slots(slots: usize) -> Gate {
+    /// A new gate with so many slots in its first table, for exact tags, and in its second, for folded
+    /// ones, 48 bytes each; 0 counts as 1, which a table without tags needs. A set that needs more is
+    /// refused as [`Refusal::Table`]; [`TagSet::split_slots`] says what it needs.
+    pub fn with_slots(slots: [usize; 2]) -> Gate {
         Gate {
             image: Box::new(GateImage::new()),
-            table: vec![0; slots.min(MOST_SLOTS) * SPLIT_SLOT].into(),
+            tables: SplitNumbers::with_slots(slots),
             kept: Kept::default(),
         }
     }
@@ -144,7 +153,11 @@ impl Gate {
     }
 
     fn install(&mut self, set: &[u8]) -> Result<Replaced, Refusal> {
-        Refusal::or(self.image.replace(set, &mut self.table)).map(Replaced::of)
+        let tables = &mut self.tables;
+        let said = self
+            .image
+            .replace(set, &mut tables.first, &mut tables.second);
+        Refusal::or(said).map(Replaced::of)
     }
 
     /// Lets go the sets that no undecided approval was begun under.
@@ -170,7 +183,8 @@ impl Gate {
     /// begin it anew and hand in all of it, from its first byte. Refused as [`Refusal::NoTicket`]
     /// where no approval has this serial: nobody read the piece, and no decision knows of it.
     pub fn piece(&mut self, serial: Serial, piece: &[u8]) -> Result<Piece, Refusal> {
-        let said = Refusal::or(self.image.piece(serial.0, &self.table, piece))?;
+        let [first, second] = self.tables.both();
+        let said = Refusal::or(self.image.piece(serial.0, first, second, piece))?;
         let taken = said.b as usize;
         Ok(match said.a {
             1 => Piece::Read,
@@ -207,11 +221,14 @@ impl Gate {
     /// The tags of a mask, by the set in force.
     fn held(&self, mask: u64) -> Held {
         let edition = self.edition();
-        let bytes = |tag| self.tag_bytes(edition, tag).unwrap_or_default().to_vec();
+        let held = |tag| {
+            let entry = self.tag(edition, tag).unwrap_or_else(|| Entry::exact(""));
+            (tag, entry.kind(), entry.bytes().to_vec())
+        };
         let in_mask = (0..64).filter(|tag| mask >> tag & 1 == 1).map(Tag);
         Held {
             edition,
-            tags: in_mask.map(|tag| (tag, bytes(tag))).collect(),
+            tags: in_mask.map(held).collect(),
         }
     }
 
@@ -242,9 +259,9 @@ impl Gate {
         self.kept.set(edition)
     }
 
-    /// The bytes of a tag, by its edition and its number; see [`Gate::set`] for which editions.
-    pub fn tag_bytes(&self, edition: Edition, tag: Tag) -> Option<&[u8]> {
-        self.kept.tag_bytes(edition, tag)
+    /// A tag with its kind, by its edition and its number; see [`Gate::set`] for which editions.
+    pub fn tag(&self, edition: Edition, tag: Tag) -> Option<Entry<'_>> {
+        self.kept.tag(edition, tag)
     }
 }
 
@@ -254,7 +271,7 @@ impl Debug for Gate {
             .field("edition", &self.edition())
             .field("last_serial", &self.last_serial())
             .field("approvals", &self.approvals())
-            .field("slots", &(self.table.len() / SPLIT_SLOT))
+            .field("slots", &self.tables.slots())
             .finish()
     }
 }
@@ -315,7 +332,7 @@ impl Display for Verdict {
 #[derive(Clone, Debug, PartialEq, Eq, Hash)]
 pub struct Held {
     edition: Edition,
-    tags: Vec<(Tag, Vec<u8>)>,
+    tags: Vec<(Tag, Kind, Vec<u8>)>,
 }
 
 impl Held {
@@ -324,28 +341,26 @@ impl Held {
         self.edition
     }
 
-    /// Each tag's number and its bytes, by number.
-    pub fn tags(&self) -> impl Iterator<Item = (Tag, &[u8])> {
-        self.tags.iter().map(|(tag, bytes)| (*tag, &bytes[..]))
+    /// Each tag's number, and the tag as the set has it, by number. What stands in the approval for a
+    /// folded tag may be in another letter case.
+    pub fn tags(&self) -> impl Iterator<Item = (Tag, Entry<'_>)> {
+        let tags = self.tags.iter();
+        tags.map(|(tag, kind, bytes)| (*tag, Entry::new(*kind, bytes)))
     }
 
     /// Bit i is 1 where tag i is among them.
     pub fn mask(&self) -> u64 {
-        self.tags.iter().fold(0, |mask, (tag, _)| mask | 1 << tag.0)
+        self.tags().fold(0, |mask, (tag, _)| mask | 1 << tag.0)
     }
 }
 
 /// Each tag in the text form of sets ([`text`](crate::text)), with its number.
 impl Display for Held {
     fn fmt(&self, f: &mut Formatter) -> fmt::Result {
-        for (at, (tag, bytes)) in self.tags().enumerate() {
+        for (at, (tag, entry)) in self.tags().enumerate() {
             let between = if at == 0 { "" } else { ", " };
-            let bytes = escaped(bytes);
-            write!(
-                f,
-                "{between}{bytes} (tag {tag} of edition {})",
-                self.edition
-            )?;
+            let edition = self.edition;
+            write!(f, "{between}{entry} (tag {tag} of edition {edition})")?;
         }
         Ok(())
     }
@@ -379,14 +394,20 @@ mod tests {
 
     #[test]
     fn a_table_that_was_changed_cuts_and_can_not_pass() {
-        let mut gate = Gate::new();
-        let set = TagSet::new(["he"]).expect("a lawful set");
-        gate.replace(&set).expect("accepted");
-        let serial = gate.begin().expect("room");
-        gate.table[..3].fill(u16::MAX);
-        assert_eq!(gate.piece(serial, b"abc"), Ok(Piece::Cut { taken: 0 }));
-        let verdict = gate.decide(serial).expect("a verdict");
-        assert!(!verdict.passes());
-        assert_eq!(verdict, Verdict::Unread);
+        for second in [false, true] {
+            let mut gate = Gate::new();
+            let set = TagSet::new(["he"]).expect("a lawful set");
+            gate.replace(&set).expect("accepted");
+            let serial = gate.begin().expect("room");
+            let tables = &mut gate.tables;
+            match second {
+                false => tables.first[..3].fill(u16::MAX),
+                true => tables.second[..3].fill(u16::MAX),
+            }
+            assert_eq!(gate.piece(serial, b"abc"), Ok(Piece::Cut { taken: 0 }));
+            let verdict = gate.decide(serial).expect("a verdict");
+            assert!(!verdict.passes());
+            assert_eq!(verdict, Verdict::Unread);
+        }
     }
 }

@@ -1,5 +1,6 @@
 //! The sets of the editions that may still be named.
 
+use crate::entry::Entry;
 use crate::numbers::{Edition, Replaced, Tag};
 use crate::set::TagSet;
 
@@ -22,7 +23,7 @@ impl Kept {
         Some(set)
     }
 
-    pub fn tag_bytes(&self, edition: Edition, tag: Tag) -> Option<&[u8]> {
+    pub fn tag(&self, edition: Edition, tag: Tag) -> Option<Entry<'_>> {
         self.set(edition)?.tag(tag)
     }
 }

@@ -2,9 +2,12 @@
 //!
 //! A [`Desk`](crate::Desk), a [`SplitTable`](crate::SplitTable), a
 //! [`WholeTable`](crate::WholeTable) or a [`BitmapTable`](crate::BitmapTable) owns its numbers and so
-//! can't be lent wrong ones; prefer these.
+//! can't be lent wrong ones; prefer these. Of the split layout's two tables the first is for exact tags and
+//! the second for folded ones, and each needs a slot at least, one without tags too.
 //! What stands here is safe too: a table that isn't as building left it is walked exactly as its
-//! numbers say, and stops as [`Stop::Damaged`] where they lead outside it. To decide about approvals
+//! numbers say, and stops as [`Stop::Damaged`] where they lead outside it. That is so too where the two
+//! tables are changed over, or one is lent for both: with as many slots nothing stops, and other tags are
+//! searched than those of the set. To decide about approvals
 //! use a [`Gate`](crate::Gate).
 
 use crate::numbers::{
@@ -14,46 +17,50 @@ use crate::raw::{self, Image};
 use crate::refusal::Refusal;
 use std::fmt::{self, Debug, Formatter};
 
-/// Numbers of a split table that is enough for every set: 479 slots of 24.
+/// Numbers of each split table that are enough for every set: 479 slots of 24.
 pub const SPLIT_TABLE: usize = 479 * SPLIT_SLOT;
 /// Numbers of a whole-byte table that is enough for every set: 513 slots of 257.
 pub const WHOLE_TABLE: usize = 513 * WHOLE_SLOT;
 /// Numbers of a bitmap table that is enough for every set: 513 slots of 19.
 pub const BITMAP_TABLE: usize = 513 * BITMAP_SLOT;
-/// Numbers of a split table for each slot.
+/// Numbers of either split table for each slot.
 pub const SPLIT_SLOT: usize = 24;
 /// Numbers of a whole-byte table for each slot.
 pub const WHOLE_SLOT: usize = 257;
 /// Numbers of a bitmap table for each slot.
 pub const BITMAP_SLOT: usize = 19;
 
-/// The place at which a reading over a split table starts.
-pub const SPLIT_START: [u16; 8] = [0; 8];
+/// A place in the split layout: a state for each machine, those of the first table first.
+pub type SplitPlace = [u16; 16];
+
+/// The place at which a reading over split tables starts.
+pub const SPLIT_START: SplitPlace = [0; 16];
 /// The place at which a reading over a whole-byte table starts.
 pub const WHOLE_START: u16 = 0;
 /// The place at which a reading over a bitmap table starts.
 pub const BITMAP_START: u16 = 0;
 
-/// A desk that is lent its table at each call. Two are equal where every number in them is.
+/// A desk that is lent its two tables at each call. Two are equal where every number in them is.
 ///
 /// ```
 /// use sleetbarley::lent::{LentDesk, SPLIT_TABLE};
 /// use sleetbarley::{Refusal, Stop, TagSet};
 ///
-/// let mut table = vec![0; SPLIT_TABLE];
+/// let (mut first, mut second) = (vec![0; SPLIT_TABLE], vec![0; SPLIT_TABLE]);
+/// let set = TagSet::builder().tag("he").folded("she").build()?;
 /// let mut desk = LentDesk::new();
-/// desk.replace(TagSet::new(["he", "she"])?.as_bytes(), &mut table)?;
+/// desk.replace(set.as_bytes(), &mut first, &mut second)?;
 /// let serial = desk.open()?;
-/// let fed = desk.feed(serial, &table, b"she")?;
-/// assert_eq!(fed.records, 2);
+/// let fed = desk.feed(serial, &first, &second, b"SHE and she")?;
+/// assert_eq!(fed.records, 3);
 /// // A table of another length is not the one of the replacement.
-/// let fed = desk.feed(serial, &table[..240], b"she")?;
+/// let fed = desk.feed(serial, &first, &second[..240], b"she")?;
 /// assert_eq!(fed.stop, Stop::Damaged);
 /// # Ok::<(), Refusal>(())
 /// ```
 #[derive(Clone, PartialEq, Eq)]
 pub struct LentDesk {
-    // An image has 4,576 bytes.
+    // An image has 4,840 bytes.
     image: Box<Image>,
 }
 
@@ -70,9 +77,14 @@ impl LentDesk {
         LentDesk { image }
     }
 
-    /// Reads a set and builds its split table in the numbers lent. Every ticket becomes stale.
-    pub fn replace(&mut self, set: &[u8], table: &mut [u16]) -> Result<Replaced, Refusal> {
-        Refusal::or(self.image.replace(set, table)).map(Replaced::of)
+    /// Reads a set and builds its split tables in the numbers lent. Every ticket becomes stale.
+    pub fn replace(
+        &mut self,
+        set: &[u8],
+        first: &mut [u16],
+        second: &mut [u16],
+    ) -> Result<Replaced, Refusal> {
+        Refusal::or(self.image.replace(set, first, second)).map(Replaced::of)
     }
 
     /// Opens a ticket.
@@ -81,9 +93,15 @@ impl LentDesk {
         Ok(Serial(said.a as u32))
     }
 
-    /// Reads a piece for a ticket.
-    pub fn feed(&mut self, serial: Serial, table: &[u16], piece: &[u8]) -> Result<Fed, Refusal> {
-        Refusal::or(self.image.feed(serial.0, table, piece)).map(Fed::of)
+    /// Reads a piece for a ticket, over both tables as the last accepted replacement left them.
+    pub fn feed(
+        &mut self,
+        serial: Serial,
+        first: &[u16],
+        second: &[u16],
+        piece: &[u8],
+    ) -> Result<Fed, Refusal> {
+        Refusal::or(self.image.feed(serial.0, first, second, piece)).map(Fed::of)
     }
 
     /// Closes a ticket, open or stale.
@@ -167,9 +185,9 @@ impl Debug for LentDesk {
     }
 }
 
-/// Builds a split table in the numbers lent; gives the number of tags.
-pub fn build_split(set: &[u8], table: &mut [u16]) -> Result<usize, Refusal> {
-    Refusal::or(raw::build_split(set, table)).map(|said| said.a as usize)
+/// Builds both split tables in the numbers lent; gives the number of tags.
+pub fn build_split(set: &[u8], first: &mut [u16], second: &mut [u16]) -> Result<usize, Refusal> {
+    Refusal::or(raw::build_split(set, first, second)).map(|said| said.a as usize)
 }
 
 /// Builds a whole-byte table in the numbers lent; gives the number of tags.
@@ -217,17 +235,19 @@ impl<Place> Reading<Place> {
     }
 }
 
-/// Reads a piece over a split table, from a place and with so many bytes taken before it. Records
+/// Reads a piece over both split tables, from a place and with so many bytes taken before it. Records
 /// go into the list, two numbers each: end, tag.
 pub fn read_split(
-    table: &[u16],
-    place: [u16; 8],
+    first: &[u16],
+    second: &[u16],
+    place: SplitPlace,
     count: u32,
     piece: &[u8],
     list: &mut [u32],
-) -> Result<Reading<[u16; 8]>, Refusal> {
+) -> Result<Reading<SplitPlace>, Refusal> {
     let mut after = place;
-    let said = Refusal::or(raw::read_split(table, &mut after, count, piece, list))?;
+    let answer = raw::read_split(first, second, &mut after, count, piece, list);
+    let said = Refusal::or(answer)?;
     Ok(Reading::of(said, after))
 }
 

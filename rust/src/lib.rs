@@ -5,7 +5,7 @@
 //! every argument. This crate puts Rust's types around it:
 //!
 //! - [`Gate`]: the one way to decide: approvals begun, handed in piece by piece, and a [`Verdict`];
-//! - [`TagSet`]: a lawful set of tags, and [`text`], its form for people;
+//! - [`TagSet`]: a lawful set of tags, exact and folded, and [`text`], its form for people;
 //! - [`Desk`]: what a gate stands on, for those who want to know where each tag ends;
 //! - [`SplitTable`], [`WholeTable`] and [`BitmapTable`]: building and reading outside a desk;
 //! - [`Serial`], [`Edition`] and [`Tag`]: three kinds of number that can't be passed for one
@@ -41,9 +41,10 @@
 //!
 //! fn main() -> Result<(), Refusal> {
 //!     let mut gate = Gate::new();
-//!     gate.replace(&TagSet::new(["K-1041", "K-2200"])?)?;
-//!     let eighth = passes(&mut gate, &["batch 8 as ", "K-3007"])?;
-//!     let seventh = passes(&mut gate, &["batch 7 after K-10", "41 was repeated"])?;
+//!     // Phones rewrite a case's name in capitals, so it is matched in either case.
+//!     gate.replace(&TagSet::builder().folded("K-1041").tag("scan:aZ9").build()?)?;
+//!     let eighth = passes(&mut gate, &["batch 8 as ", "k-3007"])?;
+//!     let seventh = passes(&mut gate, &["batch 7 after k-10", "41 was repeated"])?;
 //!     assert!(eighth && !seventh);
 //!     Ok(())
 //! }
@@ -58,6 +59,7 @@
 #[cfg(test)]
 mod any_image;
 mod desk;
+mod entry;
 mod gate;
 mod kept;
 pub mod lent;
@@ -65,10 +67,12 @@ mod numbers;
 mod raw;
 mod refusal;
 mod set;
+mod split;
 mod table;
 pub mod text;
 
 pub use desk::{Desk, Drain};
+pub use entry::{AsEntry, Entry, Kind};
 pub use gate::{Gate, Held, Piece, Verdict};
 pub use numbers::{Edition, Fed, Found, Record, Replaced, Serial, Stop, Tag, Ticket, TicketState};
 pub use refusal::Refusal;

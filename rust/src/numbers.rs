@@ -59,8 +59,8 @@ pub enum Stop {
     All,
     /// The next byte's matches don't all fit: take records out, then feed the rest.
     Full,
-    /// The table isn't as building left it. A [`Desk`](crate::Desk), which owns its table, never
-    /// says so.
+    /// A table isn't as building left it. A [`Desk`](crate::Desk), which owns its tables, never says
+    /// so.
     Damaged,
 }
 
@@ -121,8 +121,8 @@ pub struct Record {
     pub edition: Edition,
     /// The ticket's bytes up to and including the occurrence's last.
     pub end: u32,
-    /// The tag's number in the set of that edition; [`Desk::tag_bytes`](crate::Desk::tag_bytes) has
-    /// its bytes.
+    /// The tag's number in the set of that edition; [`Desk::tag`](crate::Desk::tag) has its bytes and
+    /// its kind.
     pub tag: Tag,
 }
 
@@ -182,6 +182,6 @@ impl TicketState {
 pub struct Found {
     /// The count of bytes up to and including the occurrence's last.
     pub end: u32,
-    /// The tag's number in the set of the table.
+    /// The tag's number in the set of the table or tables.
     pub tag: Tag,
 }

@@ -19,13 +19,16 @@ pub struct Answer {
     pub g: u64,
 }
 
+/// A place in the split layout: a state for each machine, those of the first table first.
+pub type Place = [u16; 16];
+
 #[repr(C)]
 #[derive(Clone, Copy, PartialEq, Eq)]
 pub struct Ticket {
     pub serial: u32,
     pub edition: u32,
     pub taken: u32,
-    pub place: [u16; 8],
+    pub place: Place,
 }
 
 #[repr(C)]
@@ -47,7 +50,8 @@ pub struct Image {
     pub count: u64,
     pub edition: u32,
     pub serial: u32,
-    pub slots: u64,
+    /// Of the last accepted replacement's first and second table.
+    pub slots: [u64; 2],
 }
 
 /// What a gate saw for the ticket in a room: bit i of the mask for tag i, and 0 as long as every
@@ -68,38 +72,40 @@ pub struct GateImage {
 }
 
 #[repr(C)]
-struct Reply {
+pub struct Reply {
     desk: Image,
     answer: Answer,
 }
 
 #[repr(C)]
-struct GateReply {
+pub struct GateReply {
     gate: GateImage,
     answer: Answer,
 }
 
 #[repr(C)]
-struct TakenMany {
+pub struct TakenMany {
     desk: Image,
     count: u64,
 }
 
 #[repr(C)]
-struct SplitReply {
+pub struct SplitReply {
     answer: Answer,
-    place: [u16; 8],
+    place: Place,
 }
 
 /// Over a table with one machine: the whole-byte and the bitmap table.
 #[repr(C)]
-struct OneReply {
+pub struct OneReply {
     answer: Answer,
     place: u16,
 }
 
 mod archive {
-    use super::{Answer, GateImage, GateReply, Image, OneReply, Reply, SplitReply, TakenMany};
+    use super::{
+        Answer, GateImage, GateReply, Image, OneReply, Place, Reply, SplitReply, TakenMany,
+    };
 
     extern "C" {
         pub fn sleet_version() -> u64;
@@ -108,15 +114,19 @@ mod archive {
             desk: Image,
             set: *const u8,
             set_length: usize,
-            table: *mut u16,
-            table_length: usize,
+            first: *mut u16,
+            first_length: usize,
+            second: *mut u16,
+            second_length: usize,
         ) -> Reply;
         pub fn sleet_desk_open(desk: Image) -> Reply;
         pub fn sleet_desk_feed(
             desk: Image,
             serial: u32,
-            table: *const u16,
-            table_length: usize,
+            first: *const u16,
+            first_length: usize,
+            second: *const u16,
+            second_length: usize,
             piece: *const u8,
             piece_length: usize,
         ) -> Reply;
@@ -129,25 +139,32 @@ mod archive {
             gate: GateImage,
             set: *const u8,
             set_length: usize,
-            table: *mut u16,
-            table_length: usize,
+            first: *mut u16,
+            first_length: usize,
+            second: *mut u16,
+            second_length: usize,
         ) -> GateReply;
         pub fn sleet_gate_begin(gate: GateImage) -> GateReply;
         pub fn sleet_gate_piece(
             gate: GateImage,
             serial: u32,
-            table: *const u16,
-            table_length: usize,
+            first: *const u16,
+            first_length: usize,
+            second: *const u16,
+            second_length: usize,
             piece: *const u8,
             piece_length: usize,
         ) -> GateReply;
         pub fn sleet_gate_decide(gate: GateImage, serial: u32) -> GateReply;
         pub fn sleet_slots_needed(set: *const u8, set_length: usize) -> Answer;
+        pub fn sleet_whole_slots_needed(set: *const u8, set_length: usize) -> Answer;
         pub fn sleet_build_split(
             set: *const u8,
             set_length: usize,
-            table: *mut u16,
-            table_length: usize,
+            first: *mut u16,
+            first_length: usize,
+            second: *mut u16,
+            second_length: usize,
         ) -> Answer;
         pub fn sleet_build_whole(
             set: *const u8,
@@ -162,9 +179,11 @@ mod archive {
             table_length: usize,
         ) -> Answer;
         pub fn sleet_read_split(
-            table: *const u16,
-            table_length: usize,
-            place: *const u16,
+            first: *const u16,
+            first_length: usize,
+            second: *const u16,
+            second_length: usize,
+            place: *const Place,
             count: u32,
             piece: *const u8,
             piece_length: usize,
@@ -204,10 +223,17 @@ impl Image {
         reply.answer
     }
 
-    pub fn replace(&mut self, set: &[u8], table: &mut [u16]) -> Answer {
-        let (at, length) = (table.as_mut_ptr(), table.len());
+    pub fn replace(&mut self, set: &[u8], first: &mut [u16], second: &mut [u16]) -> Answer {
         self.keep(unsafe {
-            archive::sleet_desk_replace(*self, set.as_ptr(), set.len(), at, length)
+            archive::sleet_desk_replace(
+                *self,
+                set.as_ptr(),
+                set.len(),
+                first.as_mut_ptr(),
+                first.len(),
+                second.as_mut_ptr(),
+                second.len(),
+            )
         })
     }
 
@@ -215,10 +241,18 @@ impl Image {
         self.keep(unsafe { archive::sleet_desk_open(*self) })
     }
 
-    pub fn feed(&mut self, serial: u32, table: &[u16], piece: &[u8]) -> Answer {
-        let (at, length) = (table.as_ptr(), table.len());
+    pub fn feed(&mut self, serial: u32, first: &[u16], second: &[u16], piece: &[u8]) -> Answer {
         self.keep(unsafe {
-            archive::sleet_desk_feed(*self, serial, at, length, piece.as_ptr(), piece.len())
+            archive::sleet_desk_feed(
+                *self,
+                serial,
+                first.as_ptr(),
+                first.len(),
+                second.as_ptr(),
+                second.len(),
+                piece.as_ptr(),
+                piece.len(),
+            )
         })
     }
 
@@ -251,10 +285,17 @@ impl GateImage {
         reply.answer
     }
 
-    pub fn replace(&mut self, set: &[u8], table: &mut [u16]) -> Answer {
-        let (at, length) = (table.as_mut_ptr(), table.len());
+    pub fn replace(&mut self, set: &[u8], first: &mut [u16], second: &mut [u16]) -> Answer {
         self.keep(unsafe {
-            archive::sleet_gate_replace(*self, set.as_ptr(), set.len(), at, length)
+            archive::sleet_gate_replace(
+                *self,
+                set.as_ptr(),
+                set.len(),
+                first.as_mut_ptr(),
+                first.len(),
+                second.as_mut_ptr(),
+                second.len(),
+            )
         })
     }
 
@@ -262,10 +303,18 @@ impl GateImage {
         self.keep(unsafe { archive::sleet_gate_begin(*self) })
     }
 
-    pub fn piece(&mut self, serial: u32, table: &[u16], piece: &[u8]) -> Answer {
-        let (at, length) = (table.as_ptr(), table.len());
+    pub fn piece(&mut self, serial: u32, first: &[u16], second: &[u16], piece: &[u8]) -> Answer {
         self.keep(unsafe {
-            archive::sleet_gate_piece(*self, serial, at, length, piece.as_ptr(), piece.len())
+            archive::sleet_gate_piece(
+                *self,
+                serial,
+                first.as_ptr(),
+                first.len(),
+                second.as_ptr(),
+                second.len(),
+                piece.as_ptr(),
+                piece.len(),
+            )
         })
     }
 
@@ -282,9 +331,21 @@ pub fn slots_needed(set: &[u8]) -> Answer {
     unsafe { archive::sleet_slots_needed(set.as_ptr(), set.len()) }
 }
 
-pub fn build_split(set: &[u8], table: &mut [u16]) -> Answer {
-    let (at, length) = (table.as_mut_ptr(), table.len());
-    unsafe { archive::sleet_build_split(set.as_ptr(), set.len(), at, length) }
+pub fn whole_slots_needed(set: &[u8]) -> Answer {
+    unsafe { archive::sleet_whole_slots_needed(set.as_ptr(), set.len()) }
+}
+
+pub fn build_split(set: &[u8], first: &mut [u16], second: &mut [u16]) -> Answer {
+    unsafe {
+        archive::sleet_build_split(
+            set.as_ptr(),
+            set.len(),
+            first.as_mut_ptr(),
+            first.len(),
+            second.as_mut_ptr(),
+            second.len(),
+        )
+    }
 }
 
 pub fn build_whole(set: &[u8], table: &mut [u16]) -> Answer {
@@ -298,17 +359,20 @@ pub fn build_bitmap(set: &[u8], table: &mut [u16]) -> Answer {
 }
 
 pub fn read_split(
-    table: &[u16],
-    place: &mut [u16; 8],
+    first: &[u16],
+    second: &[u16],
+    place: &mut Place,
     count: u32,
     piece: &[u8],
     list: &mut [u32],
 ) -> Answer {
     let reply = unsafe {
         archive::sleet_read_split(
-            table.as_ptr(),
-            table.len(),
-            place.as_ptr(),
+            first.as_ptr(),
+            first.len(),
+            second.as_ptr(),
+            second.len(),
+            place,
             count,
             piece.as_ptr(),
             piece.len(),
@@ -380,10 +444,10 @@ pub fn read_bitmap(
 // or the place behind the answer, follows from the sizes: no member but the last has bytes behind it.)
 const _: () = {
     use std::mem::size_of;
-    assert!(size_of::<Answer>() == 64 && size_of::<Ticket>() == 28 && size_of::<Record>() == 16);
-    assert!(size_of::<Image>() == 4576 && size_of::<Reply>() == 4640);
-    assert!(size_of::<TakenMany>() == 4584);
-    assert!(size_of::<SplitReply>() == 80 && size_of::<OneReply>() == 72);
-    assert!(size_of::<Seen>() == 16 && size_of::<GateImage>() == 4832);
-    assert!(size_of::<GateReply>() == 4896);
+    assert!(size_of::<Answer>() == 64 && size_of::<Ticket>() == 44 && size_of::<Record>() == 16);
+    assert!(size_of::<Image>() == 4840 && size_of::<Reply>() == 4904);
+    assert!(size_of::<TakenMany>() == 4848);
+    assert!(size_of::<SplitReply>() == 96 && size_of::<OneReply>() == 72);
+    assert!(size_of::<Seen>() == 16 && size_of::<GateImage>() == 5096);
+    assert!(size_of::<GateReply>() == 5160);
 };

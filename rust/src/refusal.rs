@@ -19,7 +19,8 @@ pub enum Refusal {
         /// The entry, counted from 0.
         entry: usize,
     },
-    /// 3: an entry's kind isn't 1.
+    /// 3: an entry's kind isn't taken. Gates, desks and split tables take 1, exact, and 2, folded;
+    /// whole-byte and bitmap tables take 1 alone.
     Kind {
         /// The entry, counted from 0.
         entry: usize,
@@ -34,14 +35,16 @@ pub enum Refusal {
         /// The entry, counted from 0.
         entry: usize,
     },
-    /// 6: a tag equals an earlier one.
+    /// 6: a tag equals an earlier one of its kind, folded ones after folding; [`Entry`](crate::Entry)
+    /// compares so.
     Repeat {
         /// The entry, counted from 0.
         entry: usize,
     },
-    /// 7: the table is too short for the set.
+    /// 7: a table is too short for the set.
     Table {
-        /// The lowest machine that lacks slots; 254 for a whole-byte table, 253 for a bitmap table.
+        /// The lowest machine that lacks slots: 0 to 7 of the first split table, for exact tags, 8 to 15
+        /// of the second, for folded ones; 254 for a whole-byte table, 253 for a bitmap table.
         machine: usize,
         /// The states that it needs.
         states: usize,
@@ -63,7 +66,7 @@ pub enum Refusal {
     },
     /// 14: bytes taken and the piece pass 4,294,967,295.
     Long,
-    /// 15: a read outside the desk begins at a state that isn't below the slot count.
+    /// 15: a read outside the desk begins at a state that isn't below its table's slot count.
     Place,
     /// 16: no record is held.
     Nothing,
@@ -164,23 +167,45 @@ impl Refusal {
 impl Display for Refusal {
     fn fmt(&self, f: &mut Formatter) -> fmt::Result {
         write!(f, "refused with {}, {}: ", self.number(), self.name())?;
+        match *self {
+            Refusal::Cut { entry }
+            | Refusal::Many { entry }
+            | Refusal::Kind { entry }
+            | Refusal::Length { entry }
+            | Refusal::Empty { entry }
+            | Refusal::Repeat { entry } => self.say_of_the_set(entry, f),
+            Refusal::Table { machine, states } => say_of_a_table(machine, states, f),
+            _ => self.say_of_the_call(f),
+        }
+    }
+}
+
+impl Refusal {
+    /// What is wrong with a set, at its entry.
+    fn say_of_the_set(&self, entry: usize, f: &mut Formatter) -> fmt::Result {
         match self {
-            Refusal::Cut { entry } => write!(f, "entry {entry} of the set isn't whole"),
-            Refusal::Many { entry } => write!(f, "the set goes on with an entry {entry}"),
-            Refusal::Kind { entry } => write!(f, "the kind of entry {entry} isn't 1"),
-            Refusal::Length { entry } => {
+            Refusal::Cut { .. } => write!(f, "entry {entry} of the set isn't whole"),
+            Refusal::Many { .. } => write!(f, "the set goes on with an entry {entry}"),
+            Refusal::Kind { .. } => write!(
+                f,
+                "the kind of entry {entry} isn't taken: gates, desks and split tables take 1, \
+                 exact, and 2, folded; whole-byte and bitmap tables take 1 alone"
+            ),
+            Refusal::Length { .. } => {
                 write!(f, "the tag of entry {entry} has no byte, or over 32")
             }
-            Refusal::Empty { .. } => write!(f, "the set has no bytes"),
-            Refusal::Repeat { entry } => {
-                write!(f, "the tag of entry {entry} equals an earlier one")
-            }
-            Refusal::Table { machine, states } => {
-                write!(
-                    f,
-                    "machine {machine} needs {states} states, more than the table has slots"
-                )
-            }
+            Refusal::Repeat { .. } => write!(
+                f,
+                "the tag of entry {entry} equals an earlier one of its kind; folded tags are \
+                 compared with A to Z and a to z taken as equal"
+            ),
+            _ => write!(f, "the set has no bytes"),
+        }
+    }
+
+    /// What stands against a call with a lawful set, or with none.
+    fn say_of_the_call(&self, f: &mut Formatter) -> fmt::Result {
+        match self {
             Refusal::Edition => write!(
                 f,
                 "no edition is left, and the set isn't in force: hold all approvals until the \
@@ -193,28 +218,41 @@ impl Display for Refusal {
                  list in force"
             ),
             Refusal::NoRoom => {
-                write!(
-                    f,
-                    "16 tickets are in use: close or decide one, open or stale, first"
-                )
+                let words = "16 tickets are in use: close or decide one, open or stale, first";
+                f.write_str(words)
             }
             Refusal::NoTicket => {
-                write!(
-                    f,
-                    "the serial was never given, or its ticket is closed or decided"
-                )
+                let words = "the serial was never given, or its ticket is closed or decided";
+                f.write_str(words)
             }
-            Refusal::Stale { edition } => {
-                write!(
-                    f,
-                    "the ticket was opened under edition {edition}, which was replaced: \
-                     open another and read from the first byte"
-                )
-            }
+            Refusal::Stale { edition } => write!(
+                f,
+                "the ticket was opened under edition {edition}, which was replaced: \
+                 open another and read from the first byte"
+            ),
             Refusal::Long => write!(f, "the bytes taken and the piece pass 4294967295"),
             Refusal::Place => write!(f, "the place isn't one of this table"),
-            Refusal::Nothing => write!(f, "no record is held"),
+            _ => write!(f, "no record is held"),
         }
+    }
+}
+
+/// Which table is too short, by the machine that lacks slots in it.
+fn say_of_a_table(machine: usize, states: usize, f: &mut Formatter) -> fmt::Result {
+    let table = match machine {
+        0..=7 => "the first table, for exact tags,",
+        8..=15 => "the second table, for folded tags,",
+        _ => "the table",
+    };
+    match states {
+        1 => write!(
+            f,
+            "machine {machine} needs a slot, also where no tag is its own, and {table} has none"
+        ),
+        _ => write!(
+            f,
+            "machine {machine} needs {states} slots, and {table} has fewer"
+        ),
     }
 }
 

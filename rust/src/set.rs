@@ -1,14 +1,17 @@
 //! Sets of tags, checked when they are made.
 
+use crate::entry::{AsEntry, Entry, Kind};
 use crate::numbers::Tag;
 use crate::raw;
 use crate::refusal::Refusal;
 
-/// Kind 1 is a tag matched byte for byte.
-const KIND: [u8; 2] = [1, 0];
-
-/// A lawful set: 1 to 16 tags of 1 to 32 bytes, no two equal. It is the whole list: a tag that isn't in
-/// it is no longer withdrawn once it is in force.
+/// A lawful set: 1 to 16 tags of 1 to 32 bytes, no two of one kind equal. It is the whole list: a tag
+/// that isn't in it is no longer withdrawn once it is in force.
+///
+/// A tag is exact, and matched byte for byte, or folded, and matched with A to Z and a to z taken as
+/// equal: fold what people type, and what phones rewrite in capitals. Strings are exact tags, and
+/// [`TagSetBuilder::folded`] and [`Entry::folded`] make folded ones. Both kinds may stand in one set. An
+/// exact tag and a folded one may have the same bytes; two folded ones may not, in whatever letter case.
 ///
 /// A list without a tag is none, and is refused as [`Refusal::Empty`]: in its place put one tag in force
 /// that no approval carries, such as 32 random bytes.
@@ -18,25 +21,29 @@ const KIND: [u8; 2] = [1, 0];
 /// has the same for programs.
 ///
 /// ```
-/// use sleetbarley::{Refusal, Tag, TagSet};
+/// use sleetbarley::{Entry, Refusal, Tag, TagSet};
 ///
 /// let set = TagSet::new(["he", "she", "his", "hers"])?;
-/// assert_eq!(set.tag(Tag(1)), Some(&b"she"[..]));
-/// assert_eq!((set.split_slots(), set.whole_slots()), (10, 10));
+/// assert_eq!(set.tag(Tag(1)), Some(Entry::exact("she")));
+/// assert_eq!(set.split_slots(), [10, 1]);
 ///
-/// let twice = TagSet::builder().tag("he").tag("she").tag("he").build();
+/// let mixed = TagSet::builder().folded("K-1041").tag("scan:aZ9").build()?;
+/// assert_eq!(mixed.tag(Tag(0)), Some(Entry::folded("k-1041")));
+///
+/// let twice = TagSet::builder().tag("he").folded("she").folded("SHE").build();
 /// assert_eq!(twice, Err(Refusal::Repeat { entry: 2 }));
 ///
 /// let none: [&str; 0] = [];
 /// let empty = TagSet::new(none);
 /// assert_eq!(empty, Err(Refusal::Empty { entry: 0 }));
 ///
-/// // Two lists in one: the tags of both, and one that stands in both only once.
-/// let (monday, tuesday) = (TagSet::new(["he", "she"])?, TagSet::new(["she", "his"])?);
+/// // Two lists in one: the tags of both with their kinds, and one that stands in both only once.
+/// let monday = TagSet::builder().tag("he").folded("She").build()?;
+/// let tuesday = TagSet::builder().folded("SHE").tag("his").build()?;
 /// let new = tuesday.tags().filter(|tag| !monday.tags().any(|old| old == *tag));
 /// let both = TagSet::new(monday.tags().chain(new))?;
-/// let tags: Vec<&[u8]> = both.tags().collect();
-/// assert_eq!(tags, [&b"he"[..], b"she", b"his"]);
+/// let lines: Vec<String> = both.tags().map(|tag| tag.to_string()).collect();
+/// assert_eq!(lines, ["he", r"\~She", "his"]);
 /// # Ok::<(), Refusal>(())
 /// ```
 ///
@@ -51,16 +58,16 @@ const KIND: [u8; 2] = [1, 0];
 #[derive(Clone, Debug, PartialEq, Eq, Hash)]
 pub struct TagSet {
     bytes: Vec<u8>,
-    split_slots: usize,
-    whole_slots: usize,
+    split_slots: [usize; 2],
 }
 
 impl TagSet {
-    /// The set of these tags, numbered from 0 in their order.
+    /// The set of these tags, numbered from 0 in their order. Strings and bytes are exact tags; an
+    /// [`Entry`] has its kind.
     pub fn new<I>(tags: I) -> Result<TagSet, Refusal>
     where
         I: IntoIterator,
-        I::Item: AsRef<[u8]>,
+        I::Item: AsEntry,
     {
         let with = |builder: TagSetBuilder, tag: I::Item| builder.tag(tag);
         tags.into_iter().fold(TagSet::builder(), with).build()
@@ -71,15 +78,14 @@ impl TagSet {
         TagSetBuilder { bytes: Vec::new() }
     }
 
-    /// The set that stands in these bytes: for each tag its length and its kind, 1, two bytes each
-    /// with the lower first, then the tag itself.
+    /// The set that stands in these bytes: for each tag its length and its kind, 1 for exact and 2 for
+    /// folded, two bytes each with the lower first, then the tag itself.
     pub fn from_bytes(bytes: impl Into<Vec<u8>>) -> Result<TagSet, Refusal> {
         let bytes = bytes.into();
         let needed = Refusal::or(raw::slots_needed(&bytes))?;
         Ok(TagSet {
             bytes,
-            split_slots: needed.a as usize,
-            whole_slots: needed.b as usize,
+            split_slots: [needed.a as usize, needed.b as usize],
         })
     }
 
@@ -98,37 +104,51 @@ impl TagSet {
         &self.bytes
     }
 
-    /// The tags in their order.
-    pub fn tags(&self) -> impl Iterator<Item = &[u8]> {
+    /// The tags in their order, each with its kind.
+    pub fn tags(&self) -> impl Iterator<Item = Entry<'_>> {
         let mut rest = &self.bytes[..];
         std::iter::from_fn(move || {
             let length = usize::from(*rest.first()?);
             // The set was accepted, so a length is at most 32 and every entry is whole.
             let (entry, after) = rest.split_at(4 + length);
             rest = after;
-            Some(&entry[4..])
+            let kind = Kind::of(u16::from_le_bytes([entry[2], entry[3]]));
+            Some(Entry::new(kind, &entry[4..]))
         })
     }
 
     /// The tag of this number.
-    pub fn tag(&self, tag: Tag) -> Option<&[u8]> {
+    pub fn tag(&self, tag: Tag) -> Option<Entry<'_>> {
         self.tags().nth(usize::from(tag.0))
     }
 
-    /// The slots that a split table of this set needs.
-    pub fn split_slots(&self) -> usize {
+    /// The slots that the two split tables of this set need: the first, for its exact tags, and the
+    /// second, for its folded ones. A table without tags needs 1.
+    pub fn split_slots(&self) -> [usize; 2] {
         self.split_slots
     }
 
-    /// The slots that a whole-byte table of this set needs.
-    pub fn whole_slots(&self) -> usize {
-        self.whole_slots
+    /// The slots that a whole-byte table of this set needs. Such a table has exact tags alone: where one
+    /// is folded this is refused as [`Refusal::Kind`], with its entry.
+    ///
+    /// ```
+    /// use sleetbarley::{Refusal, TagSet};
+    ///
+    /// let exact = TagSet::new(["he", "she", "his", "hers"])?;
+    /// assert_eq!(exact.whole_slots(), Ok(10));
+    /// let mixed = TagSet::builder().tag("he").folded("she").build()?;
+    /// assert_eq!(mixed.whole_slots(), Err(Refusal::Kind { entry: 1 }));
+    /// # Ok::<(), Refusal>(())
+    /// ```
+    pub fn whole_slots(&self) -> Result<usize, Refusal> {
+        let needed = Refusal::or(raw::whole_slots_needed(&self.bytes))?;
+        Ok(needed.a as usize)
     }
 
     /// The slots that a bitmap table of this set needs: as many as a whole-byte table does, for it has
-    /// the same states.
-    pub fn bitmap_slots(&self) -> usize {
-        self.whole_slots
+    /// the same states, and refused as that is.
+    pub fn bitmap_slots(&self) -> Result<usize, Refusal> {
+        self.whole_slots()
     }
 }
 
@@ -140,15 +160,22 @@ pub struct TagSetBuilder {
 }
 
 impl TagSetBuilder {
-    /// Adds a tag behind those added before.
-    pub fn tag(mut self, tag: impl AsRef<[u8]>) -> TagSetBuilder {
-        let tag = tag.as_ref();
+    /// Adds a tag behind those added before: of strings and bytes an exact one, and an [`Entry`] as the
+    /// kind that it is.
+    pub fn tag(mut self, tag: impl AsEntry) -> TagSetBuilder {
+        let entry = tag.as_entry();
         // A length that two bytes can't say is written as the largest, and refused as LENGTH too.
-        let length = u16::try_from(tag.len()).unwrap_or(u16::MAX);
+        let length = u16::try_from(entry.bytes().len()).unwrap_or(u16::MAX);
         self.bytes.extend_from_slice(&length.to_le_bytes());
-        self.bytes.extend_from_slice(&KIND);
-        self.bytes.extend_from_slice(tag);
+        self.bytes
+            .extend_from_slice(&entry.kind().number().to_le_bytes());
+        self.bytes.extend_from_slice(entry.bytes());
         self
+    }
+
+    /// Adds a folded tag, which is matched with A to Z and a to z taken as equal.
+    pub fn folded(self, tag: impl AsRef<[u8]>) -> TagSetBuilder {
+        self.tag(Entry::folded(&tag))
     }
 
     /// The set, or why it isn't lawful.

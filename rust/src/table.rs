@@ -1,15 +1,17 @@
 //! Tables built and read outside the desk.
 
-use crate::lent::{self, BitmapReading, Reading};
-use crate::lent::{BITMAP_SLOT, BITMAP_START, SPLIT_SLOT, SPLIT_START, WHOLE_SLOT, WHOLE_START};
+use crate::lent::{self, BitmapReading, Reading, SplitPlace};
+use crate::lent::{BITMAP_SLOT, BITMAP_START, SPLIT_START, WHOLE_SLOT, WHOLE_START};
 use crate::numbers::{Found, Stop};
 use crate::refusal::Refusal;
 use crate::set::TagSet;
+use crate::split::SplitNumbers;
 
 /// Numbers of the list that `find_all` reads into: room for any byte's matches, and many more.
 const LIST: usize = 512;
 
-/// A split table, as building left it: eight machines, each reading one bit of every byte.
+/// The two split tables of a set, as building left them: of each kind of tag eight machines, each reading
+/// one bit of every byte, those of the folded tags of the byte folded.
 ///
 /// ```
 /// use sleetbarley::{lent, Found, Refusal, SplitTable, Stop, Tag, TagSet};
@@ -24,36 +26,44 @@ const LIST: usize = 512;
 /// let second = table.read(first.place, 1, b"a", &mut list)?;
 /// assert_eq!((second.taken, second.stop, second.records), (1, Stop::All, 2));
 /// assert_eq!(list, [2, 0, 2, 1]);
+///
+/// // Tags of both kinds.
+/// let table = SplitTable::build(&TagSet::builder().folded("He").tag("He").build()?)?;
+/// let found = table.find_all(b"hehEHe")?;
+/// let ends: Vec<(u32, Tag)> = found.iter().map(|found| (found.end, found.tag)).collect();
+/// assert_eq!(ends, [(2, Tag(0)), (4, Tag(0)), (6, Tag(0)), (6, Tag(1))]);
 /// # Ok::<(), Refusal>(())
 /// ```
 #[derive(Clone, Debug, PartialEq, Eq)]
 pub struct SplitTable {
-    numbers: Box<[u16]>,
+    numbers: SplitNumbers,
 }
 
 impl SplitTable {
-    /// A table with just the slots that the set needs.
+    /// Tables with just the slots that the set needs.
     pub fn build(set: &TagSet) -> Result<SplitTable, Refusal> {
-        let mut numbers: Box<[u16]> = vec![0; set.split_slots() * SPLIT_SLOT].into();
-        lent::build_split(set.as_bytes(), &mut numbers)?;
+        let mut numbers = SplitNumbers::with_slots(set.split_slots());
+        lent::build_split(set.as_bytes(), &mut numbers.first, &mut numbers.second)?;
         Ok(SplitTable { numbers })
     }
 
-    /// The table's numbers: machine 0 to 7, each with its slots of next on 0, next on 1, vector.
-    pub fn numbers(&self) -> &[u16] {
-        &self.numbers
+    /// The numbers of the first table, machines 0 to 7, and of the second, machines 8 to 15; each machine
+    /// with its slots of next on 0, next on 1, vector.
+    pub fn numbers(&self) -> [&[u16]; 2] {
+        self.numbers.both()
     }
 
     /// Reads a piece from a place with so many bytes taken before it, into a list with two numbers
     /// for each record: end, tag.
     pub fn read(
         &self,
-        place: [u16; 8],
+        place: SplitPlace,
         count: u32,
         piece: &[u8],
         list: &mut [u32],
-    ) -> Result<Reading<[u16; 8]>, Refusal> {
-        lent::read_split(&self.numbers, place, count, piece, list)
+    ) -> Result<Reading<SplitPlace>, Refusal> {
+        let [first, second] = self.numbers.both();
+        lent::read_split(first, second, place, count, piece, list)
     }
 
     /// Every occurrence in these bytes, by end, then by tag.
@@ -66,7 +76,8 @@ impl SplitTable {
 
 /// A whole-byte table, as building left it: one machine that reads whole bytes.
 ///
-/// It is larger than a [`SplitTable`], and finds the same.
+/// It is larger than a [`SplitTable`], and finds the same. It has exact tags alone: a set with a folded
+/// one is refused as [`Refusal::Kind`].
 ///
 /// ```
 /// use sleetbarley::{Refusal, SplitTable, TagSet, WholeTable};
@@ -83,9 +94,10 @@ pub struct WholeTable {
 }
 
 impl WholeTable {
-    /// A table with just the slots that the set needs.
+    /// A table with just the slots that the set needs. Refused as [`Refusal::Kind`] where a tag is
+    /// folded.
     pub fn build(set: &TagSet) -> Result<WholeTable, Refusal> {
-        let mut numbers: Box<[u16]> = vec![0; set.whole_slots() * WHOLE_SLOT].into();
+        let mut numbers: Box<[u16]> = vec![0; set.whole_slots()? * WHOLE_SLOT].into();
         lent::build_whole(set.as_bytes(), &mut numbers)?;
         Ok(WholeTable { numbers })
     }
@@ -119,7 +131,7 @@ impl WholeTable {
 /// numbers.
 ///
 /// It finds the same, more slowly: a byte that a state doesn't have in its map makes failure moves to
-/// shorter prefixes. From the start there are never more of them than bytes.
+/// shorter prefixes. From the start there are never more of them than bytes. It has exact tags alone too.
 ///
 /// ```
 /// use sleetbarley::{lent, BitmapTable, Refusal, TagSet, WholeTable};
@@ -142,9 +154,10 @@ pub struct BitmapTable {
 }
 
 impl BitmapTable {
-    /// A table with just the slots that the set needs.
+    /// A table with just the slots that the set needs. Refused as [`Refusal::Kind`] where a tag is
+    /// folded.
     pub fn build(set: &TagSet) -> Result<BitmapTable, Refusal> {
-        let mut numbers: Box<[u16]> = vec![0; set.bitmap_slots() * BITMAP_SLOT].into();
+        let mut numbers: Box<[u16]> = vec![0; set.bitmap_slots()? * BITMAP_SLOT].into();
         lent::build_bitmap(set.as_bytes(), &mut numbers)?;
         Ok(BitmapTable { numbers })
     }

@@ -33,7 +33,7 @@ fn failure_moves_are_told_piece_by_piece_and_are_no_more_than_bytes() {
 fn the_largest_set_has_513_slots_in_either_layout_of_one_machine() {
     let tags: Vec<[u8; 32]> = (0..16).map(|k| [k; 32]).collect();
     let set = TagSet::new(&tags).expect("lawful");
-    assert_eq!((set.whole_slots(), set.bitmap_slots()), (513, 513));
+    assert_eq!((set.whole_slots(), set.bitmap_slots()), (Ok(513), Ok(513)));
     let bitmap = BitmapTable::build(&set).expect("slots enough");
     assert_eq!(bitmap.numbers().len(), lent::BITMAP_TABLE);
     let whole = WholeTable::build(&set).expect("slots enough");

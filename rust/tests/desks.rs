@@ -1,7 +1,7 @@
 //! Desks side by side, in several threads, and emptied in several ways.
 
 use sleetbarley::{
-    BitmapTable, Desk, Edition, Record, Serial, SplitTable, Stop, Tag, TagSet, TicketState,
+    BitmapTable, Desk, Edition, Entry, Record, Serial, SplitTable, Stop, Tag, TagSet, TicketState,
     WholeTable,
 };
 use std::sync::mpsc::channel;
@@ -34,7 +34,7 @@ fn records_of(desk: &mut Desk, size: usize) -> Vec<(u32, Tag)> {
 /// The occurrences by comparing bytes, end by end and tag by tag.
 fn occurrences(set: &TagSet, text: &[u8]) -> Vec<(u32, Tag)> {
     let ends = |end: usize| {
-        let ended = move |(_, tag): &(u8, &[u8])| text[..end].ends_with(tag);
+        let ended = move |(_, tag): &(u8, Entry)| text[..end].ends_with(tag.bytes());
         let found = (0..).zip(set.tags()).filter(ended);
         found.map(move |(tag, _)| (end as u32, Tag(tag)))
     };
@@ -200,7 +200,10 @@ fn the_sets_of_tickets_in_use_and_of_held_records_are_kept() {
         let set = TagSet::new([tag]).expect("lawful");
         desk.replace(&set).expect("accepted");
     };
-    let bytes = |desk: &Desk, edition| desk.tag_bytes(Edition(edition), Tag(0)).map(<[u8]>::to_vec);
+    let bytes = |desk: &Desk, edition| {
+        let tag = desk.tag(Edition(edition), Tag(0));
+        tag.map(|tag| tag.bytes().to_vec())
+    };
     let ticket = desk.open().expect("a ticket");
     next(&mut desk, "two");
     let other = desk.open().expect("a ticket");
@@ -215,8 +218,8 @@ fn the_sets_of_tickets_in_use_and_of_held_records_are_kept() {
     assert_eq!(bytes(&desk, 4), Some(b"four".to_vec()));
     let record = desk.take().expect("held");
     assert_eq!(
-        desk.tag_bytes(record.edition, record.tag),
-        Some(&b"two"[..])
+        desk.tag(record.edition, record.tag),
+        Some(Entry::exact("two"))
     );
     desk.close(ticket).expect("stale");
     desk.replace_bytes(TagSet::new(["five"]).expect("lawful").as_bytes())

@@ -1,6 +1,8 @@
 //! The gate: what passes, what is held, and what is stale, whatever comes between.
 
-use sleetbarley::{Edition, Gate, Piece, Refusal, Serial, Tag, TagSet, TicketState, Verdict};
+use sleetbarley::{
+    Edition, Entry, Gate, Piece, Refusal, Serial, Tag, TagSet, TicketState, Verdict,
+};
 use std::thread;
 
 fn set(tags: &[&str]) -> TagSet {
@@ -87,7 +89,7 @@ fn a_refused_set_changes_nothing() {
         Err(Refusal::Kind { entry: 0 })
     );
     assert_eq!(
-        Gate::with_slots(1).replace(&set(&["he"])),
+        Gate::with_slots([1, 1]).replace(&set(&["he"])),
         Err(Refusal::Table {
             machine: 0,
             states: 3
@@ -211,8 +213,9 @@ fn what_is_held_names_the_tags_and_their_bytes() {
         Verdict::Hold(held) => held,
         other => panic!("{other}"),
     };
-    let tags: Vec<(Tag, &[u8])> = held.tags().collect();
-    let expected: [(Tag, &[u8]); 3] = [(Tag(0), b"he"), (Tag(1), b"she"), (Tag(3), b"hers")];
+    let tags: Vec<(Tag, Entry)> = held.tags().collect();
+    let expected = [(0, "he"), (1, "she"), (3, "hers")];
+    let expected = expected.map(|(tag, case)| (Tag(tag), Entry::exact(case)));
     assert_eq!((held.edition(), tags), (Edition(1), expected.to_vec()));
     assert_eq!(held.mask(), 0b1011);
     assert_eq!(
@@ -242,11 +245,14 @@ fn the_sets_of_undecided_approvals_are_kept() {
     for tags in [["two"], ["three"], ["four"]] {
         gate.replace(&set(&tags)).expect("accepted");
     }
-    let bytes = |gate: &Gate, edition| gate.tag_bytes(Edition(edition), Tag(0)).map(<[u8]>::to_vec);
+    let bytes = |gate: &Gate, edition| {
+        let tag = gate.tag(Edition(edition), Tag(0));
+        tag.map(|tag| tag.bytes().to_vec())
+    };
     assert_eq!(bytes(&gate, 1), Some(b"one".to_vec()));
     assert_eq!((bytes(&gate, 2), bytes(&gate, 3)), (None, None));
     assert_eq!(bytes(&gate, 4), Some(b"four".to_vec()));
-    assert_eq!(gate.tag_bytes(Edition(4), Tag(1)), None);
+    assert_eq!(gate.tag(Edition(4), Tag(1)), None);
     // Decided, its set is there until the next replacement.
     assert!(!decided(&mut gate, first).passes());
     assert_eq!(bytes(&gate, 1), Some(b"one".to_vec()));

@@ -1,15 +1,24 @@
 //! The text form of sets, and the program `sleet-set`.
 
 use sleetbarley::text::{read, written, What};
-use sleetbarley::{Tag, TagSet};
+use sleetbarley::{Entry, Kind, Tag, TagSet};
 use std::fs;
 use std::io::Write;
 use std::path::PathBuf;
 use std::process::{Command, Output, Stdio};
 
+/// The bytes of a text's tags, which are exact.
 fn tags_of(text: &[u8]) -> Vec<Vec<u8>> {
     let set = read(text).unwrap_or_else(|fault| panic!("{fault}"));
-    set.tags().map(<[u8]>::to_vec).collect()
+    assert!(set.tags().all(|tag| tag.kind() == Kind::Exact));
+    set.tags().map(|tag| tag.bytes().to_vec()).collect()
+}
+
+/// The kinds and bytes of a text's tags.
+fn kinds_of(text: &[u8]) -> Vec<(Kind, Vec<u8>)> {
+    let set = read(text).unwrap_or_else(|fault| panic!("{fault}"));
+    let tag = |tag: Entry| (tag.kind(), tag.bytes().to_vec());
+    set.tags().map(tag).collect()
 }
 
 #[test]
@@ -30,6 +39,93 @@ fn lines_are_tags_and_the_rest_is_passed_over() {
         tags_of(b"\\#not a remark\n\\x20#"),
         [&b"#not a remark"[..], b" #"]
     );
+}
+
+#[test]
+fn a_sign_in_front_makes_a_tag_folded() {
+    let (exact, folded) = (Kind::Exact, Kind::Folded);
+    let text =
+        b"preview-17\n\\~preview-17\r\n\\x7ea\n\\~\\x7ea\n\\\\~b\n\\~\\\\~b\n\\x7e\n\\~\\x20\\#c";
+    let expected: [(Kind, &[u8]); 8] = [
+        (exact, b"preview-17"),
+        (folded, b"preview-17"),
+        (exact, b"~a"),
+        (folded, b"~a"),
+        (exact, b"\\~b"),
+        (folded, b"\\~b"),
+        (exact, b"~"),
+        (folded, b" #c"),
+    ];
+    let expected = expected.map(|(kind, tag)| (kind, tag.to_vec()));
+    assert_eq!(kinds_of(text), expected);
+    // The bytes are kept as they are written, and so is the letter case.
+    assert_eq!(kinds_of(b"\\~Zo\\xC4\n"), [(folded, b"Zo\xc4".to_vec())]);
+    // Within a tag a tilde, a blank and a number sign need no escape.
+    assert_eq!(kinds_of(b"\\~a b#c~"), [(folded, b"a b#c~".to_vec())]);
+}
+
+#[test]
+fn the_rules_of_a_tags_front_hold_behind_the_sign() {
+    let high = |byte, place| What::High { byte, place };
+    let cases: [(&[u8], What); 19] = [
+        (b"\\~", What::NoBytes),
+        (b"\\~\r", What::NoBytes),
+        (b"\\~ ", What::BlankInFront),
+        (b"\\~ x", What::BlankInFront),
+        (b" \\~x", What::BlankInFront),
+        (b"\\~x ", What::BlankAtEnd),
+        (b"\\~#x", What::Remark),
+        (b"\\~x #y", What::Remark),
+        (b"~", What::Tilde),
+        (b"~preview-17", What::Tilde),
+        (b"\\~~x", What::Tilde),
+        (b"\\~\tx", What::Control { byte: 9 }),
+        (b"\\~\xc3\xbc", high(0xc3, 3)),
+        (b"\\~\xef\xbb\xbfx", What::Mark),
+        (b"\\~\\q", What::Escape),
+        (b"\\~\\~x", What::FoldedWithin),
+        (b"x\\~y", What::FoldedWithin),
+        (b"x\\~", What::FoldedWithin),
+        (b"\\\\\\~", What::FoldedWithin),
+    ];
+    for (line, what) in cases {
+        let text = [b"a\n\n", line, b"\n"].concat();
+        let fault = read(&text).expect_err("a fault");
+        assert_eq!((fault.line, fault.what), (3, what), "{fault}");
+    }
+    let plain = read(b"a\n~b\n").expect_err("a fault").to_string();
+    let words =
+        "line 2: a ~ at the front; a folded tag stands behind \\~, and where the tag has a \
+                 tilde there write \\x7e";
+    assert_eq!(plain, words);
+    let within = read(b"x\\~y\n").expect_err("a fault").to_string();
+    let words =
+        "line 1: a \\~ within the line; it stands at the front, where it says that the tag \
+                 is folded, and within a tag a tilde alone is written as it is";
+    assert_eq!(within, words);
+    let alone = read(b"a\n\\~\n").expect_err("a fault").to_string();
+    let words = "line 2: a \\~ with no tag behind it, and a tag has a byte at least";
+    assert_eq!(alone, words);
+}
+
+#[test]
+fn a_tag_again_is_found_by_kind_and_folding() {
+    let again = |text: &[u8]| {
+        let fault = read(text).expect_err("a fault");
+        (fault.line, fault.what)
+    };
+    let folded = |line| What::RepeatFolded { line };
+    assert_eq!(again(b"he\n\\~He\n\\~hE\n"), (3, folded(2)));
+    assert_eq!(again(b"\\~he\n#\n\\~he\n"), (3, folded(1)));
+    assert_eq!(again(b"\\~HE\nHE\nhe\nHE\n"), (4, What::Repeat { line: 2 }));
+    // Of several faults the lowest tag's is told, beside the first line that has it.
+    assert_eq!(again(b"\\~a\nb\n\\~A\nb\n\\~a\n"), (3, folded(1)));
+    // Other kinds and other bytes are other tags; folding knows A to Z alone.
+    let text = b"he\n\\~he\nHE\n\\~@\n\\~`\n\\~[\n\\~{\n\\~\\xc4\n\\~\\xe4\n";
+    assert_eq!(kinds_of(text).len(), 9);
+    let words = read(b"\\~he\n\\~HE\n").expect_err("a fault").to_string();
+    let expected = "line 2: the folded tag of line 1 again; in both A to Z and a to z are equal";
+    assert_eq!(words, expected);
 }
 
 #[test]
@@ -167,9 +263,9 @@ fn random(state: &mut u64) -> u64 {
 #[test]
 fn what_is_written_is_read_as_the_same_set() {
     let mut state = 0x5EED_0005;
-    let odd = b" #\\\n\r\tx4\0\x7f\xff\xef\xbb\xbf";
+    let odd = b" #\\~\n\r\tx4\0\x7f\xff\xef\xbb\xbfxX";
     for _ in 0..500 {
-        let mut tags: Vec<Vec<u8>> = Vec::new();
+        let mut tags: Vec<(Kind, Vec<u8>)> = Vec::new();
         for _ in 0..=random(&mut state) % 16 {
             let length = 1 + random(&mut state) % 32;
             let byte = |_| match random(&mut state) % 3 {
@@ -177,11 +273,14 @@ fn what_is_written_is_read_as_the_same_set() {
                 _ => odd[random(&mut state) as usize % odd.len()],
             };
             let tag: Vec<u8> = (0..length).map(byte).collect();
-            if !tags.contains(&tag) {
-                tags.push(tag);
+            let kind = [Kind::Exact, Kind::Folded][random(&mut state) as usize % 2];
+            let mut others = tags.iter().map(|(kind, other)| Entry::new(*kind, other));
+            if !others.any(|other| other == Entry::new(kind, &tag)) {
+                tags.push((kind, tag));
             }
         }
-        let set = TagSet::new(&tags).expect("a lawful set");
+        let entries = tags.iter().map(|(kind, tag)| Entry::new(*kind, tag));
+        let set = TagSet::new(entries).expect("a lawful set");
         let text = written(&set);
         assert!(text
             .bytes()
@@ -230,13 +329,14 @@ fn the_program_makes_a_set_and_lists_it() {
     let folder = folder("sleet-set");
     let file = |name: &str| folder.join(name).to_str().expect("a name").to_string();
     let (text, bin, again) = (file("in.txt"), file("set.bin"), file("again.bin"));
-    fs::write(&text, "# withdrawn\npreview-17\nfree \\#4\\x20\n").expect("written");
+    fs::write(&text, "# withdrawn\n\\~preview-17\nfree \\#4\\x20\n").expect("written");
     let nothing = (Some(0), String::new(), String::new());
     assert_eq!(said(&sleet_set(&["make", &text, &bin], b"")), nothing);
     let set = TagSet::from_bytes(fs::read(&bin).expect("made")).expect("lawful");
-    assert_eq!(set.tag(Tag(1)), Some(&b"free #4 "[..]));
+    assert_eq!(set.tag(Tag(0)), Some(Entry::folded("preview-17")));
+    assert_eq!(set.tag(Tag(1)), Some(Entry::exact("free #4 ")));
     let listed = sleet_set(&["list", &bin], b"");
-    let expected = "# tags: 2; bytes of the set: 26\n# tag 0, length 10\npreview-17\n\
+    let expected = "# tags: 2; bytes of the set: 26\n# tag 0, length 10, folded\n\\~preview-17\n\
                     # tag 1, length 8\nfree \\#4\\x20\n";
     assert_eq!(said(&listed), (Some(0), expected.into(), String::new()));
     // What is listed makes the same set, by pipes too, and over a file that is there.
@@ -305,8 +405,9 @@ fn the_program_says_what_is_wrong() {
     let folder = folder("sleet-set-wrong");
     let file = |name: &str| folder.join(name).to_str().expect("a name").to_string();
     let refused = said(&sleet_set(&["list", "-"], b"preview-17"));
-    let words =
-        "sleet-set: standard input or output: refused with 3, KIND: the kind of entry 0 isn't 1\n";
+    let words = "sleet-set: standard input or output: refused with 3, KIND: the kind of entry 0 \
+                 isn't taken: gates, desks and split tables take 1, exact, and 2, folded; \
+                 whole-byte and bitmap tables take 1 alone\n";
     assert_eq!(refused, (Some(1), String::new(), words.into()));
     for arguments in [
         &["make", &file("none.txt"), &file("out.bin")][..],

@@ -1,8 +1,9 @@
 //! The bitmap machine and its slots: docs/RULES.md, 2.7 and 3.4, from the
 //! definition.
 
-use crate::machine::vector_of;
-use crate::set::{TagSet, LONGEST_TAG};
+use crate::kind::Kind;
+use crate::machine::{own_tags, vector_of, OwnTag};
+use crate::set::TagSet;
 use std::collections::{BTreeSet, HashMap};
 
 /// A slot begins with 16 numbers of map; these follow.
@@ -10,19 +11,25 @@ pub const FIRST_CHILD: usize = 16;
 pub const FAILURE: usize = 17;
 pub const VECTOR: usize = 18;
 
+/// The tags of the whole-byte machine, and so of this one: those of kind 1.
+fn tags_of(set: &TagSet) -> Vec<OwnTag> {
+    own_tags(set, Kind::Exact, |byte| byte)
+}
+
 /// The prefix each state stands for, by state number.
 pub fn prefixes(set: &TagSet) -> Vec<Vec<u8>> {
-    Prefixes::of(set.tags()).in_order
+    Prefixes::of(&tags_of(set)).in_order
 }
 
 /// For each state its slot, by state number.
 pub fn slots(set: &TagSet) -> Vec<Vec<u16>> {
-    let prefixes = Prefixes::of(set.tags());
-    let slot = |p: &Vec<u8>| slot_of(p, &prefixes, set.tags());
+    let tags = tags_of(set);
+    let prefixes = Prefixes::of(&tags);
+    let slot = |p: &Vec<u8>| slot_of(p, &prefixes, &tags);
     prefixes.in_order.iter().map(slot).collect()
 }
 
-fn slot_of(p: &[u8], prefixes: &Prefixes, tags: &[Vec<u8>]) -> Vec<u16> {
+fn slot_of(p: &[u8], prefixes: &Prefixes, tags: &[OwnTag]) -> Vec<u16> {
     let mut slot = vec![0; VECTOR + 1];
     let followers = followers_of(p, tags);
     for c in &followers {
@@ -39,8 +46,8 @@ fn slot_of(p: &[u8], prefixes: &Prefixes, tags: &[Vec<u8>]) -> Vec<u16> {
 
 /// The bytes c such that p followed by c is a prefix of some tag: the tag
 /// begins with p, and goes on with c.
-fn followers_of(p: &[u8], tags: &[Vec<u8>]) -> BTreeSet<u8> {
-    let rests = tags.iter().filter_map(|tag| tag.strip_prefix(p));
+fn followers_of(p: &[u8], tags: &[OwnTag]) -> BTreeSet<u8> {
+    let rests = tags.iter().filter_map(|tag| tag.letters.strip_prefix(p));
     rests.filter_map(|rest| rest.first().copied()).collect()
 }
 
@@ -62,14 +69,15 @@ struct Prefixes {
 }
 
 impl Prefixes {
-    fn of(tags: &[Vec<u8>]) -> Prefixes {
+    fn of(tags: &[OwnTag]) -> Prefixes {
         let mut prefixes = Prefixes {
             in_order: vec![],
             numbers: HashMap::new(),
         };
         prefixes.add(vec![]);
-        for length in 1..=LONGEST_TAG {
-            let of_length = tags.iter().filter_map(|tag| tag.get(..length));
+        let longest = tags.iter().map(|tag| tag.letters.len()).max();
+        for length in 1..=longest.unwrap_or(0) {
+            let of_length = tags.iter().filter_map(|tag| tag.letters.get(..length));
             let mut level: Vec<Vec<u8>> = of_length.map(<[u8]>::to_vec).collect();
             // Without its last byte it is one of the level before, which has
             // its numbers already.

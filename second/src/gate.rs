@@ -1,10 +1,12 @@
 //! The gate, in the plainest way: it keeps the bytes handed in for each approval, and decides by
-//! searching them for each tag of the set in force. No machine, no table and no list of records.
+//! searching them for each tag of the set in force, by its kind. No machine, no table and no list of
+//! records.
 
 use crate::desk::{Edition, Serial, MOST_TICKETS};
+use crate::layout::Layout;
 use crate::occurrences::occurrences;
 use crate::refusal::Refusal;
-use crate::set::read_set;
+use crate::set::{read_set, Tag};
 
 /// The largest count of bytes taken for an approval.
 const LARGEST: u64 = 4_294_967_295;
@@ -49,7 +51,7 @@ pub struct Gate {
     edition: Edition,
     /// The last serial given.
     serial: Serial,
-    tags: Vec<Vec<u8>>,
+    tags: Vec<Tag>,
     /// In the order of their serials.
     approvals: Vec<Approval>,
 }
@@ -70,10 +72,11 @@ impl Gate {
         }
     }
 
-    /// Puts a lawful set in force; gives the edition and the number of tags. (The table is enough
-    /// for every set, so TABLE is never said.)
+    /// Puts a lawful set in force, with tags of the kinds that the desk's layout takes; gives the
+    /// edition and the number of tags. (The two tables are enough for every set, so TABLE is never
+    /// said.)
     pub fn replace(&mut self, set: &[u8]) -> Result<(Edition, usize), Refusal> {
-        let set = read_set(set)?;
+        let set = read_set(set, Layout::Split.kinds())?;
         let next = self.edition.0.checked_add(1).ok_or(Refusal::Edition)?;
         self.edition = Edition(next);
         self.tags = set.tags().to_vec();
@@ -147,7 +150,7 @@ impl Gate {
     }
 
     /// The tags of the set in force.
-    pub fn tags(&self) -> &[Vec<u8>] {
+    pub fn tags(&self) -> &[Tag] {
         &self.tags
     }
 
@@ -157,8 +160,8 @@ impl Gate {
     }
 }
 
-/// Bit i is 1 where tag i stands in the bytes.
-pub fn mask(tags: &[Vec<u8>], bytes: &[u8]) -> u64 {
+/// Bit i is 1 where tag i stands in the bytes, by its kind.
+pub fn mask(tags: &[Tag], bytes: &[u8]) -> u64 {
     let found = occurrences(tags, bytes);
     found.iter().fold(0, |mask, (_, tag)| mask | 1 << tag)
 }

@@ -5,30 +5,37 @@
 //! Refusals 8 (EDITION) and 10 (SERIAL) can't be reached by a script: they
 //! need 4,294,967,295 replacements or openings.
 
+pub(crate) mod bad_sets;
 mod bitmap_calls;
+pub(crate) mod cases;
+mod damage_calls;
 mod desk_calls;
+mod edge_lines;
+mod lend_calls;
 mod odd;
 mod outside_calls;
 pub(crate) mod pieces;
+mod set_calls;
 pub(crate) mod sets;
+mod split_calls;
 
-use crate::machine::Machine;
 use crate::replay::Replay;
 use crate::rng::Rng;
-use crate::set::{read_set, write_set};
-use crate::table::Layout;
+use crate::set::Tag;
+use lend_calls::Needed;
 
 /// The script of a seed, with exactly this many calls (lines that are
 /// answered); empty lines and comments come in addition.
 pub fn script(seed: u64, calls: usize) -> Vec<u8> {
+    let tags = vec![Tag::exact("a")];
     let mut generator = Generator {
         rng: Rng::new(seed),
         replay: Replay::new(),
         script: Vec::new(),
         calls: 0,
         most: calls,
-        tags: vec![b"a".to_vec()],
-        needed: [2, 2],
+        needed: Needed::by(&tags),
+        tags,
     };
     let menu = generator.menu();
     generator.begin();
@@ -52,15 +59,10 @@ struct Generator {
     calls: usize,
     most: usize,
     /// The tags of the last good set, of which pieces are made.
-    tags: Vec<Vec<u8>>,
-    /// The slots they need, split and whole (bitmap as many).
-    needed: [usize; 2],
+    tags: Vec<Tag>,
+    /// The slots that they need.
+    needed: Needed,
 }
-
-/// Lengths about the edges of one slot and of 513, in each layout.
-const LENGTHS: &[usize] = &[
-    0, 1, 18, 19, 20, 23, 24, 25, 256, 257, 258, 9_746, 9_747, 9_766, 12_311, 12_312, 12_336,
-];
 
 type Action = fn(&mut Generator);
 
@@ -68,6 +70,7 @@ type Action = fn(&mut Generator);
 const ACTIONS: &[(usize, Action)] = &[
     (8, Generator::feed),
     (4, Generator::feed_cut),
+    (1, Generator::feed_over_other_slots),
     (4, Generator::take),
     (3, Generator::open),
     (2, Generator::close),
@@ -76,8 +79,12 @@ const ACTIONS: &[(usize, Action)] = &[
     (3, Generator::replace),
     (1, Generator::fill_list),
     (3, Generator::damage),
-    (3, Generator::faulty_set),
-    (2, Generator::lend),
+    (2, Generator::damage_ahead),
+    (1, Generator::damage_when_full),
+    (1, Generator::flag_in_both),
+    (5, Generator::faulty_set),
+    (3, Generator::lend),
+    (1, Generator::split_short),
     (4, Generator::build_and_read),
     (4, Generator::read_anywhere),
     (1, Generator::read_at_brink),
@@ -143,6 +150,20 @@ impl Generator {
         self.line(&[front.as_bytes(), b" ", &word].concat())
     }
 
+    /// A line that ends with a table's number, which table 0 most often lacks.
+    /// Now and then a line comes before it with the number of no table.
+    fn say_of_table(&mut self, front: &str, table: usize) -> Vec<String> {
+        if self.rng.once_in(90) {
+            let none = self.rng.pick(&["2", "3", "02", "10", "4294967297"]);
+            self.say(&format!("{front} {}", none.unwrap_or("2")));
+        }
+        if table == 0 && !self.rng.once_in(4) {
+            return self.say(front);
+        }
+        let table = self.number(table as u64);
+        self.say(&format!("{front} {table}"))
+    }
+
     /// A number, with leading zeros now and then.
     fn number(&mut self, number: u64) -> String {
         let width = match self.rng.once_in(24) {
@@ -152,127 +173,17 @@ impl Generator {
         format!("{number:0>width$}")
     }
 
-    /// Gives the set of new tags, most often by quoted words where they can be.
-    fn good_set(&mut self) {
-        let tags = sets::good_tags(&mut self.rng);
-        self.use_tags(tags);
-        self.set_of_tags();
-    }
-
-    /// Makes these the tags of which pieces are made.
-    fn use_tags(&mut self, tags: Vec<Vec<u8>>) {
-        if let Ok(set) = read_set(&write_set(&tags)) {
-            let split = (0..8).map(|b| Machine::bit(&set, b).states()).max();
-            let whole = Machine::whole_byte(&set).states();
-            self.needed = [split.unwrap_or(whole), whole];
-        }
-        self.tags = tags;
-    }
-
-    fn set_of_tags(&mut self) {
-        let tags = self.tags.clone();
-        let quotable = tags.iter().all(|tag| pieces::can_be_quoted(tag));
-        if quotable && !self.rng.once_in(3) {
-            self.set_quoted(&tags);
-        } else {
-            let word = pieces::hexadecimal(&write_set(&tags));
-            self.line(&[b"set ", word.as_slice()].concat());
-        }
-    }
-
-    /// The slots a layout needs for the last good set.
-    fn needed(&self, layout: Layout) -> usize {
-        match layout {
-            Layout::Split => self.needed[0],
-            // As many states, in another order.
-            Layout::Whole | Layout::Bitmap => self.needed[1],
-        }
-    }
-
-    /// Lends as many numbers as the last good set needs, or more.
-    fn lend_enough(&mut self, layout: Layout) {
-        let a_slot = layout.machines() * layout.slot_length();
-        let exact = self.needed(layout) * a_slot;
-        let greatest = 513 * a_slot;
-        let odd = exact + self.rng.below(a_slot);
-        let more = self.rng.between(exact, greatest);
-        let beyond = self.rng.between(greatest, 131_841);
-        let lent = self.rng.one_of(&[exact, odd, more, beyond, 131_841]);
-        let lent = self.number(lent as u64);
-        self.say(&format!("lend {lent}"));
-    }
-
-    /// Lends anything: too short, exact, odd and too long.
-    fn lend(&mut self) {
-        let split = 24 * self.needed(Layout::Split);
-        let whole = 257 * self.needed(Layout::Whole);
-        let bitmap = 19 * self.needed(Layout::Bitmap);
-        let some = 24 * self.rng.between(0, split / 24);
-        let any = self.rng.below(131_842);
-        let lent = match self.rng.below(9) {
-            0 => self.rng.one_of(LENGTHS),
-            1 => self.rng.one_of(&[131_583, 131_584, 131_840, 131_841]),
-            2 => any,
-            3 => some,
-            4 => self.rng.one_of(&[whole, whole - 1, whole + 256]),
-            5 => self.rng.one_of(&[bitmap, bitmap - 1, bitmap + 18]),
-            _ => self.rng.one_of(&[split, split - 1, split + 23, split - 24]),
-        };
-        self.say(&format!("lend {lent}"));
-        match self.rng.below(5) {
-            0 => self.say("build split"),
-            1 => self.say("build whole"),
-            2 => self.say("build bitmap"),
-            3 => self.say("replace"),
-            _ => vec![],
-        };
-    }
-
-    fn set_quoted(&mut self, payloads: &[Vec<u8>]) {
-        let words: Vec<Vec<u8>> = payloads.iter().map(|p| pieces::quoted(p)).collect();
-        self.line(&[b"set ", words.join(&b' ').as_slice()].concat());
-    }
-
-    /// A faulty set, given to one building or more.
-    fn faulty_set(&mut self) {
-        match self.rng.below(24) {
-            0 => {
-                let line = odd::long_set(&mut self.rng);
-                self.line(&line);
-            }
-            1..=4 => {
-                let payloads = sets::bad_payloads(&mut self.rng);
-                self.set_quoted(&payloads);
-            }
-            _ => {
-                let set = sets::bad_set(&mut self.rng);
-                let word = match set.is_empty() {
-                    // A quoted word would be an entry of no length here.
-                    true => self.rng.pick(&[b"-", b"x"]).unwrap_or(b"-").to_vec(),
-                    false => pieces::hexadecimal(&set),
-                };
-                self.line(&[b"set ", word.as_slice()].concat());
-            }
-        }
-        for _ in 0..self.rng.between(1, 2) {
-            let builds = ["build split", "build whole", "build bitmap"];
-            let call = match self.rng.once_in(2) {
-                true => "replace",
-                false => self.rng.pick(&builds).unwrap_or("replace"),
-            };
-            self.say(call);
-        }
-        if self.rng.once_in(2) {
-            self.good_set();
-        }
+    /// The first byte of the first tag: most readings come past it.
+    fn first_byte(&self) -> u8 {
+        self.tags[0].bytes[0]
     }
 
     fn odd_line(&mut self) {
         let line = match self.rng.once_in(16) {
             true => {
                 let serial = self.serial();
-                let letter = self.tags.first().and_then(|tag| tag.first());
-                let filling = letter.copied().filter(|byte| !b"\"\n".contains(byte));
+                let letter = Some(self.first_byte());
+                let filling = letter.filter(|byte| !b"\"\n".contains(byte));
                 odd::long(&mut self.rng, serial, filling.unwrap_or(b'a'))
             }
             false => odd::line(&mut self.rng, &self.script),

@@ -5,7 +5,10 @@
 //! fourth histories of a gate.
 
 pub mod bitmap;
+pub mod build;
 pub mod desk;
+pub mod kind;
+pub mod layout;
 pub mod machine;
 pub mod occurrences;
 pub mod reading;
@@ -15,6 +18,7 @@ pub mod table;
 
 pub mod replay;
 pub mod script;
+pub mod words;
 
 pub mod differ;
 pub mod generate;

@@ -1,35 +1,75 @@
 //! The machines: docs/RULES.md, 2, from the definition.
 
+use crate::kind::Kind;
 use crate::set::TagSet;
 
-/// A machine of a list of tags. A symbol is a whole byte or one bit.
+/// A machine of the tags of one kind. A letter is a whole byte or one bit.
 pub struct Machine {
     /// The prefix each state stands for, by state number.
     prefixes: Vec<Vec<u8>>,
-    /// For each state, the next state on each symbol.
+    /// For each state, the next state on each letter.
     next: Vec<Vec<u16>>,
-    /// For each state, bit i set exactly if tag i is a suffix of its prefix.
+    /// For each state, bit i set exactly if tag i of the whole set is one of
+    /// the machine's own and a suffix of its prefix.
     vector: Vec<u16>,
 }
 
+/// A tag as its machine has it.
+#[derive(Clone, Debug, PartialEq, Eq)]
+pub struct OwnTag {
+    /// Its number in the whole set.
+    pub number: usize,
+    /// What the machine reads for its bytes.
+    pub letters: Vec<u8>,
+}
+
+/// The tags of a machine: those of one kind, reduced to the letters it reads.
+pub fn own_tags(set: &TagSet, kind: Kind, letter: impl Fn(u8) -> u8) -> Vec<OwnTag> {
+    let numbered = set.tags().iter().enumerate();
+    let own = numbered.filter(|(_, tag)| tag.kind == kind);
+    own.map(|(number, tag)| OwnTag {
+        number,
+        letters: tag.bytes.iter().map(|byte| letter(*byte)).collect(),
+    })
+    .collect()
+}
+
+/// The kind of the tags that a bit machine has.
+pub fn kind_of(machine: usize) -> Kind {
+    match machine {
+        0..=7 => Kind::Exact,
+        _ => Kind::Folded,
+    }
+}
+
+/// What a bit machine reads for a byte: machine b its bit b, machine 8 + b bit
+/// b of the byte folded.
+pub fn letter_of(machine: usize, byte: u8) -> u8 {
+    bit_of(kind_of(machine).reads(byte), machine % 8)
+}
+
+/// Bit b of a byte, 0 or 1; b from 0 (least bit) to 7.
+pub fn bit_of(byte: u8, b: usize) -> u8 {
+    u8::from(byte & (1 << b) != 0)
+}
+
 impl Machine {
-    /// The whole-byte machine.
+    /// The whole-byte machine, which has tags of kind 1 and reads bytes.
     pub fn whole_byte(set: &TagSet) -> Machine {
-        Machine::of(set.tags(), 256)
+        Machine::of(&own_tags(set, Kind::Exact, |byte| byte), 256)
     }
 
-    /// Bit machine b, b from 0 (least bit) to 7: the same, with each byte
-    /// replaced by its bit b.
-    pub fn bit(set: &TagSet, b: usize) -> Machine {
-        let reduce = |tag: &Vec<u8>| tag.iter().map(|byte| bit_of(*byte, b)).collect();
-        let reduced: Vec<Vec<u8>> = set.tags().iter().map(reduce).collect();
-        Machine::of(&reduced, 2)
+    /// A bit machine, 0 to 15.
+    pub fn bit(set: &TagSet, machine: usize) -> Machine {
+        let letter = |byte| letter_of(machine, byte);
+        Machine::of(&own_tags(set, kind_of(machine), letter), 2)
     }
 
-    /// At most 16 tags of at most 32 symbols, so at most 513 states: state
-    /// numbers fit 16 bits, and so does a vector.
-    fn of(tags: &[Vec<u8>], symbols: usize) -> Machine {
-        let distinct = Prefixes::of(tags, symbols);
+    /// At most 16 tags of at most 32 letters, so at most 513 states: state
+    /// numbers fit 16 bits, and so does a vector. Without tags there is the
+    /// empty prefix alone, one state.
+    fn of(tags: &[OwnTag], letters: usize) -> Machine {
+        let distinct = Prefixes::of(tags, letters);
         let prefixes = &distinct.prefixes;
         let next = prefixes.iter().map(|p| distinct.nexts_of(p)).collect();
         let vector = prefixes.iter().map(|p| vector_of(p, tags)).collect();
@@ -57,17 +97,12 @@ impl Machine {
     }
 }
 
-/// Bit b of a byte, 0 or 1.
-pub fn bit_of(byte: u8, b: usize) -> u8 {
-    u8::from(byte & (1 << (b % 8)) != 0)
-}
-
-/// Bit i set exactly if tag i is a suffix of p.
-pub fn vector_of(p: &[u8], tags: &[Vec<u8>]) -> u16 {
+/// Bit i set exactly if tag i of the whole set is one of these and a suffix of p.
+pub fn vector_of(p: &[u8], tags: &[OwnTag]) -> u16 {
     let mut vector = 0u16;
-    for (i, tag) in tags.iter().enumerate() {
-        if p.ends_with(tag) {
-            vector |= 1 << i;
+    for tag in tags {
+        if p.ends_with(&tag.letters) {
+            vector |= 1 << tag.number;
         }
     }
     vector
@@ -78,24 +113,24 @@ struct Prefixes {
     /// The empty one, then the others in order of first appearance, tag by
     /// tag, each tag from its front.
     prefixes: Vec<Vec<u8>>,
-    /// For each prefix q and symbol c, the number of the prefix "q followed by
-    /// c", or 0 where that is none (the empty prefix follows no symbol).
+    /// For each prefix q and letter c, the number of the prefix "q followed by
+    /// c", or 0 where that is none (the empty prefix follows no letter).
     longer: Vec<Vec<u16>>,
 }
 
 impl Prefixes {
-    fn of(tags: &[Vec<u8>], symbols: usize) -> Prefixes {
+    fn of(tags: &[OwnTag], letters: usize) -> Prefixes {
         let mut distinct = Prefixes {
             prefixes: vec![vec![]],
-            longer: vec![vec![0; symbols]],
+            longer: vec![vec![0; letters]],
         };
         for tag in tags {
             let mut q = 0;
-            for (before, c) in tag.iter().enumerate() {
+            for (before, c) in tag.letters.iter().enumerate() {
                 if distinct.longer[q][usize::from(*c)] == 0 {
                     distinct.longer[q][usize::from(*c)] = distinct.prefixes.len() as u16;
-                    distinct.prefixes.push(tag[..=before].to_vec());
-                    distinct.longer.push(vec![0; symbols]);
+                    distinct.prefixes.push(tag.letters[..=before].to_vec());
+                    distinct.longer.push(vec![0; letters]);
                 }
                 q = usize::from(distinct.longer[q][usize::from(*c)]);
             }
@@ -103,10 +138,10 @@ impl Prefixes {
         distinct
     }
 
-    /// The number of a prefix; nothing where the symbols are no prefix.
-    fn number_of(&self, symbols: &[u8]) -> Option<usize> {
+    /// The number of a prefix; nothing where the letters are no prefix.
+    fn number_of(&self, letters: &[u8]) -> Option<usize> {
         let mut q = 0;
-        for c in symbols {
+        for c in letters {
             q = match self.longer[q][usize::from(*c)] {
                 0 => return None,
                 longer => usize::from(longer),
@@ -115,7 +150,7 @@ impl Prefixes {
         Some(q)
     }
 
-    /// For prefix p and each symbol c, the state of the longest suffix of p
+    /// For prefix p and each letter c, the state of the longest suffix of p
     /// followed by c that is itself a prefix.
     ///
     /// Such a suffix is empty (state 0), or it is q followed by c, where q is

@@ -1,7 +1,7 @@
-//! Reading a piece over any table: docs/RULES.md, 4.
+//! Reading a piece over any tables: docs/RULES.md, 4.
 
 use crate::refusal::Refusal;
-use crate::table::Table;
+use crate::table::Tables;
 
 /// The reason for stopping.
 #[derive(Clone, Copy, Debug, PartialEq, Eq)]
@@ -27,7 +27,7 @@ impl Stop {
 pub struct Reading {
     /// The number of bytes of the piece taken.
     pub taken: usize,
-    /// The new place: one state number per machine.
+    /// The new place: one state number per machine, in the split layout sixteen.
     pub place: Vec<u16>,
     pub stop: Stop,
     /// The number of records written.
@@ -39,21 +39,22 @@ pub struct Reading {
 
 /// A read outside the desk: PLACE, then LONG, then the reading.
 pub fn read_outside(
-    table: Table,
+    tables: Tables,
     place: &[u16],
     count: u32,
     piece: &[u8],
     list: &mut [u32],
 ) -> Result<Reading, Refusal> {
-    if place.iter().any(|state| !table.has(*state)) {
+    let mut machines = place.iter().enumerate();
+    if machines.any(|(machine, state)| !tables.has(machine, *state)) {
         return Err(Refusal::Place);
     }
-    read(table, place, count, piece, list)
+    read(tables, place, count, piece, list)
 }
 
-/// LONG, then the reading. Every state of `place` is below s.
+/// LONG, then the reading. Every state of `place` is below its table's s.
 pub fn read(
-    table: Table,
+    tables: Tables,
     place: &[u16],
     count: u32,
     piece: &[u8],
@@ -63,11 +64,11 @@ pub fn read(
     if u64::from(count) + piece.len() as u64 > u64::from(u32::MAX) {
         return Err(Refusal::Long);
     }
-    Ok(walk(table, place, count, piece, list))
+    Ok(walk(tables, place, count, piece, list))
 }
 
 /// Takes byte after byte; count plus the piece fits 32 bits.
-fn walk(table: Table, place: &[u16], count: u32, piece: &[u8], list: &mut [u32]) -> Reading {
+fn walk(tables: Tables, place: &[u16], count: u32, piece: &[u8], list: &mut [u32]) -> Reading {
     let mut place = place.to_vec();
     let mut ahead = place.clone();
     // Two numbers a record; an odd last number isn't used.
@@ -77,7 +78,7 @@ fn walk(table: Table, place: &[u16], count: u32, piece: &[u8], list: &mut [u32])
     let mut records = 0usize;
     let mut moves = 0u64;
     for byte in piece {
-        let Some((matches, moves_here)) = step(table, &place, *byte, &mut ahead) else {
+        let Some((matches, moves_here)) = step(tables, &place, *byte, &mut ahead) else {
             stop = Stop::Damaged;
             break;
         };
@@ -107,17 +108,15 @@ fn walk(table: Table, place: &[u16], count: u32, piece: &[u8], list: &mut [u32])
     }
 }
 
-/// One byte on: `ahead` becomes the place after it, and the answer is the AND
-/// of the vectors there and the failure moves made; nothing where a number read
-/// is not below what it must be below.
-fn step(table: Table, place: &[u16], byte: u8, ahead: &mut [u16]) -> Option<(u16, u64)> {
-    let mut matches = u16::MAX;
+/// One byte on: `ahead` becomes the place after it, and the answer is the tags
+/// found there and the failure moves made; nothing where a number read, in any
+/// table, is not below what it must be below.
+fn step(tables: Tables, place: &[u16], byte: u8, ahead: &mut [u16]) -> Option<(u16, u64)> {
     let mut moves = 0;
-    for (machine, (state, new)) in place.iter().zip(ahead).enumerate() {
-        let next = table.next(machine, *state, byte)?;
+    for (machine, (state, new)) in place.iter().zip(ahead.iter_mut()).enumerate() {
+        let next = tables.next(machine, *state, byte)?;
         *new = next.state;
-        matches &= table.vector(machine, next.state)?;
         moves += next.moves;
     }
-    Some((matches, moves))
+    Some((tables.found(ahead)?, moves))
 }

@@ -1,17 +1,19 @@
 //! Running a replay script and writing its answers: docs/FORMATS.md.
 
+use crate::build::build;
 use crate::desk::{Desk, Serial, State};
+use crate::layout::Layout;
 use crate::reading::read_outside;
 use crate::refusal::Refusal;
-use crate::script::{parse, Call, TABLE_BUFFER};
-use crate::table::{build, Layout, Table};
+use crate::script::{parse, Call, TABLE_BUFFERS};
+use crate::table::Tables;
 use std::fmt::Display;
 use std::io::{self, BufRead, ErrorKind, Write};
 
 /// A line is at most 20,000 bytes. Its end isn't counted (the format is silent
 /// here).
 pub const LONGEST_LINE: usize = 20_000;
-/// At first 479 slots of 24 numbers are lent.
+/// At first 479 slots of 24 numbers are lent, of each table.
 pub const LENT_AT_FIRST: usize = 11_496;
 /// What a list holds before a read.
 const FILLING: u32 = 7;
@@ -20,9 +22,9 @@ const FILLING: u32 = 7;
 pub struct Replay {
     desk: Desk,
     set: Vec<u8>,
-    table: Vec<u16>,
-    /// The first so many numbers of the table buffer are lent.
-    lent: usize,
+    tables: [Vec<u16>; 2],
+    /// Of each table the first so many numbers are lent.
+    lent: [usize; 2],
     /// The lines read so far.
     lines: u64,
 }
@@ -38,8 +40,8 @@ impl Replay {
         Replay {
             desk: Desk::new(),
             set: Vec::new(),
-            table: vec![0; TABLE_BUFFER],
-            lent: LENT_AT_FIRST,
+            tables: TABLE_BUFFERS.map(|length| vec![0; length]),
+            lent: [LENT_AT_FIRST; 2],
             lines: 0,
         }
     }
@@ -48,14 +50,19 @@ impl Replay {
         &self.desk
     }
 
-    /// How many numbers are lent.
-    pub fn lent(&self) -> usize {
+    pub fn set(&self) -> &[u8] {
+        &self.set
+    }
+
+    /// How many numbers of each table are lent.
+    pub fn lent(&self) -> [usize; 2] {
         self.lent
     }
 
-    /// The lent numbers.
-    pub fn lent_table(&self) -> &[u16] {
-        &self.table[..self.lent]
+    /// The lent numbers of both tables.
+    pub fn lent_tables(&self) -> [&[u16]; 2] {
+        let [first, second] = &self.tables;
+        [&first[..self.lent[0]], &second[..self.lent[1]]]
     }
 
     /// Makes the call of one line (without its end); gives the answer's lines.
@@ -86,25 +93,18 @@ impl Replay {
                 self.set = set;
                 format!("set {}", self.set.len())
             }
-            Call::Lend(lent) => {
-                self.lent = lent;
+            Call::Lend { lent, table } => {
+                self.lent[table] = lent;
                 format!("lent {lent}")
             }
-            Call::Replace => {
-                let lent = &mut self.table[..self.lent];
-                let (edition, tags) = self.desk.replace(&self.set, lent)?;
-                format!("edition {} tags {tags}", edition.0)
-            }
+            Call::Replace => self.replace()?,
             Call::Open => format!("serial {}", self.desk.open()?.0),
             Call::Feed(serial, piece) => self.feed(Serial(serial), &piece)?,
             Call::Close(serial) => format!("closed {}", self.desk.close(Serial(serial))?.0),
             Call::State(serial) => self.state(Serial(serial)),
             Call::Take => self.take()?,
             Call::Show => return Ok(self.show()),
-            Call::Build(layout) => {
-                let lent = &mut self.table[..self.lent];
-                format!("tags {}", build(layout, &self.set, lent)?)
-            }
+            Call::Build(layout) => self.build(layout)?,
             Call::Read {
                 layout,
                 count,
@@ -112,17 +112,33 @@ impl Replay {
                 place,
                 piece,
             } => return self.read(layout, count, room, &place, &piece),
-            Call::Poke { at, value } => {
-                self.table[at] = value;
+            Call::Poke { at, value, table } => {
+                self.tables[table][at] = value;
                 format!("poked {at}")
             }
-            Call::Peek { at, count } => numbers("numbers", &self.table[at..at + count]),
+            Call::Peek { at, count, table } => {
+                numbers("numbers", &self.tables[table][at..at + count])
+            }
         };
         Ok(vec![answer])
     }
 
+    fn replace(&mut self) -> Result<String, Refusal> {
+        let lent = lent_of(&mut self.tables, self.lent);
+        let (edition, tags) = self.desk.replace(&self.set, lent)?;
+        Ok(format!("edition {} tags {tags}", edition.0))
+    }
+
+    /// `split` is lent both tables, `whole` and `bitmap` table 0 alone.
+    fn build(&mut self, layout: Layout) -> Result<String, Refusal> {
+        let mut lent = lent_of(&mut self.tables, self.lent);
+        let tags = build(layout, &self.set, &mut lent[..layout.tables()])?;
+        Ok(format!("tags {tags}"))
+    }
+
     fn feed(&mut self, serial: Serial, piece: &[u8]) -> Result<String, Refusal> {
-        let lent = &self.table[..self.lent];
+        let [first, second] = &self.tables;
+        let lent = [&first[..self.lent[0]], &second[..self.lent[1]]];
         let fed = self.desk.feed(serial, piece, lent)?;
         Ok(format!("taken {} stop {}", fed.taken, fed.stop.name()))
     }
@@ -168,9 +184,9 @@ impl Replay {
         lines
     }
 
-    /// A read outside the desk, over the lent table: two lines where it is
-    /// accepted, for `list` begins one of its own (the format says only "then"),
-    /// and the refusal's one line where it isn't.
+    /// A read outside the desk, lent the tables that `build` is: two lines where
+    /// it is accepted, for `list` begins one of its own (the format says only
+    /// "then"), and the refusal's one line where it isn't.
     fn read(
         &self,
         layout: Layout,
@@ -179,9 +195,10 @@ impl Replay {
         place: &[u16],
         piece: &[u8],
     ) -> Result<Vec<String>, Refusal> {
-        let table = Table::lent(layout, &self.table[..self.lent]);
+        let lent = self.lent_tables();
+        let tables = Tables::lent(layout, &lent[..layout.tables()]);
         let mut list = vec![FILLING; room];
-        let reading = read_outside(table, place, count, piece, &mut list)?;
+        let reading = read_outside(tables, place, count, piece, &mut list)?;
         let (taken, stop) = (reading.taken, reading.stop.name());
         let (records, place) = (reading.records, numbers("place", &reading.place));
         let moves = match layout {
@@ -193,6 +210,12 @@ impl Replay {
             numbers("list", &list),
         ])
     }
+}
+
+/// The lent numbers of both tables, to be written.
+fn lent_of(tables: &mut [Vec<u16>; 2], lent: [usize; 2]) -> [&mut [u16]; 2] {
+    let [first, second] = tables;
+    [&mut first[..lent[0]], &mut second[..lent[1]]]
 }
 
 /// A word and numbers, each with one blank before it.

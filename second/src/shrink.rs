@@ -4,8 +4,8 @@
 type Differs<'a> = &'a mut dyn FnMut(&[u8]) -> bool;
 
 /// Drops lines by halves, then singly, then openings with their serials, then
-/// words, then bytes of words, and begins again until nothing more can go. The
-/// script given differs.
+/// words, then the `~` of words, then bytes of words, and begins again until
+/// nothing more can go. The script given differs.
 pub fn shrink(script: &[u8], differs: Differs) -> Vec<u8> {
     // Each line keeps its end, so that a last line without one stays so.
     let lines = script.split_inclusive(|byte| *byte == b'\n');
@@ -16,6 +16,7 @@ pub fn shrink(script: &[u8], differs: Differs) -> Vec<u8> {
         drop_openings(&mut lines, differs);
         for at in 0..lines.len() {
             drop_words(&mut lines, at, differs);
+            unfold_words(&mut lines, at, differs);
             shorten_words(&mut lines, at, differs);
         }
         if lines.concat().len() == before {
@@ -121,15 +122,33 @@ fn drop_words(lines: &mut [Vec<u8>], at: usize, differs: Differs) {
     }
 }
 
+/// Makes exact tags of a set's folded ones.
+fn unfold_words(lines: &mut [Vec<u8>], at: usize, differs: Differs) {
+    let mut from = 0;
+    while let Some((start, end)) = next_word(&lines[at], from) {
+        from = end;
+        if lines[at][start..].starts_with(b"~\"") {
+            let mut line = lines[at].clone();
+            line.remove(start);
+            if differs_with(lines, at, line.clone(), differs) {
+                lines[at] = line;
+                from -= 1;
+            }
+        }
+    }
+}
+
 /// Shortens each word of a line as far as the difference stays.
 fn shorten_words(lines: &mut [Vec<u8>], at: usize, differs: Differs) {
     let mut from = 0;
     while let Some((start, end)) = next_word(&lines[at], from) {
         let line = lines[at].clone();
-        // `x` stays and its digits go by twos; a quoted word keeps its marks.
+        // `x` stays and its digits go by twos; a quoted word keeps its marks,
+        // and the `~` before them.
         let (front, unit, back) = match &line[start..end] {
             [b'x', ..] => (1, 2, 0),
             [b'"', _, ..] => (1, 1, 1),
+            [b'~', b'"', _, ..] => (2, 1, 1),
             _ => (0, 1, 0),
         };
         let (head, middle) = line[..end - back].split_at(start + front);
@@ -142,15 +161,21 @@ fn shorten_words(lines: &mut [Vec<u8>], at: usize, differs: Differs) {
     }
 }
 
-/// Where the next word at or after `from` starts and ends. A quoted word ends
-/// after its second mark, any other before a blank or the line's end.
+/// Where the next word at or after `from` starts and ends. A quoted word, with
+/// `~` before it or not, ends after its second mark, any other before a blank
+/// or the line's end.
 fn next_word(line: &[u8], from: usize) -> Option<(usize, usize)> {
     let parts = |byte: &u8| *byte == b' ' || *byte == b'\n';
     let rest = line.get(from..)?;
     let start = from + rest.iter().position(|byte| !parts(byte))?;
     let word = &line[start..];
+    let up_to_mark = |from: usize| {
+        let mark = word[from..].iter().position(|byte| *byte == b'"');
+        mark.map(|before| from + before + 1)
+    };
     let length = match word {
-        [b'"', inside @ ..] => inside.iter().position(|byte| *byte == b'"').map(|n| n + 2),
+        [b'"', ..] => up_to_mark(1),
+        [b'~', b'"', ..] => up_to_mark(2),
         _ => word.iter().position(parts),
     };
     // A quotation mark that is never closed takes all but the line's end.

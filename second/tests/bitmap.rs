@@ -5,10 +5,17 @@ mod helpers;
 
 use helpers::*;
 use second::bitmap::{prefixes, FAILURE, FIRST_CHILD, VECTOR};
+use second::build::build;
+use second::layout::Layout;
 use second::reading::{read_outside, Stop};
 use second::refusal::Refusal;
 use second::set::{read_set, write_set};
-use second::table::{build, Layout, Table};
+use second::table::Tables;
+
+/// Builds over one table.
+fn build_over<P: AsRef<[u8]>>(tags: &[P], table: &mut [u16]) -> Result<usize, Refusal> {
+    build(Layout::Bitmap, &write_set(tags), &mut [table])
+}
 
 /// The numbers of a slot: some of its map by their places, and the last three.
 fn slot(map: &[(usize, u16)], child: u16, failure: u16, vector: u16) -> Vec<u16> {
@@ -61,10 +68,10 @@ fn slots_are_rounded_down_and_at_most_513() {
 
 #[test]
 fn the_slots_of_hers_are_those_worked_out_by_hand() {
-    assert_eq!(table_of(Layout::Bitmap, &HERS, 10), hers_by_hand());
+    assert_eq!(tables_of(Layout::Bitmap, &HERS, 10), [hers_by_hand()]);
     // Unused slots are set to 0, numbers behind the last slot stay.
     let mut table = vec![9; 12 * 19 + 18];
-    assert_eq!(build(Layout::Bitmap, &write_set(&HERS), &mut table), Ok(4));
+    assert_eq!(build_over(&HERS, &mut table), Ok(4));
     let unused = vec![0; 2 * 19];
     assert_eq!(table, [hers_by_hand(), unused, vec![9; 18]].concat());
 }
@@ -74,7 +81,7 @@ fn a_map_has_all_256_bytes() {
     // The bytes at the edges of the map's numbers, in an order of their own.
     let tags: [&[u8]; 6] = [&[255], &[16], &[0], &[15, 240], &[15, 3], &[239]];
     let mut table = vec![9; 9 * 19];
-    assert_eq!(build(Layout::Bitmap, &write_set(&tags), &mut table), Ok(6));
+    assert_eq!(build_over(&tags, &mut table), Ok(6));
     // States 1 to 6 are 0, 15, 16, 239 and 255; then 15 3 and 15 240.
     let map = [(0, 0x8001), (1, 1), (14, 0x8000), (15, 0x8000)];
     let by_hand = [
@@ -89,7 +96,8 @@ fn a_map_has_all_256_bytes() {
         slot(&[], 0, 0, 0),
     ];
     assert_eq!(table, by_hand.concat());
-    let (reading, records) = read_from_start(Layout::Bitmap, &table, &[255, 15, 240, 14, 239]);
+    let input = [255, 15, 240, 14, 239];
+    let (reading, records) = read_from_start(Layout::Bitmap, &[table], &input);
     assert_eq!((reading.stop, reading.place), (Stop::All, vec![4]));
     assert_eq!(records, [(1, 0), (3, 3), (5, 5)]);
     // 255, and 15 240, have no child: each is left by a move to 0.
@@ -99,17 +107,17 @@ fn a_map_has_all_256_bytes() {
 #[test]
 fn the_greatest_set_has_513_states() {
     let tags: Vec<Vec<u8>> = (0..16u8).map(|tag| vec![tag; 32]).collect();
-    let set = read_set(&write_set(&tags)).expect("a good set");
+    let set = read_set(&write_set(&tags), Layout::Bitmap.kinds()).expect("a good set");
     let prefixes = prefixes(&set);
     assert_eq!(prefixes.len(), 513);
     assert_eq!(prefixes[17..19], [vec![0, 0], vec![1, 1]]);
     assert_eq!(prefixes[512], vec![15; 32]);
     let mut table = vec![9; 9_747];
-    let refused = build(Layout::Bitmap, &write_set(&tags), &mut table[..9_746]);
+    let refused = build_over(&tags, &mut table[..9_746]);
     let (machine, states) = (253, 513);
     assert_eq!(refused, Err(Refusal::Table { machine, states }));
     assert!(table.iter().all(|number| *number == 9));
-    assert_eq!(build(Layout::Bitmap, &write_set(&tags), &mut table), Ok(16));
+    assert_eq!(build_over(&tags, &mut table), Ok(16));
 }
 
 /// he, she, his, hers in a bitmap table of 10 slots, then these calls.
@@ -344,7 +352,8 @@ fn damage_is_asked_before_room() {
     // State 0 has the bytes 0 and 1, with children 1 and 2; s is 2. State 1
     // has all 16 matches, and fails to itself.
     let numbers = [slot(&[(0, 3)], 1, 0, 0), slot(&[], 0, 1, u16::MAX)].concat();
-    let table = Table::lent(Layout::Bitmap, &numbers);
+    let lent = [numbers.as_slice()];
+    let table = Tables::lent(Layout::Bitmap, &lent);
     let stops = [
         (0, 0, Stop::Full),
         (0, 1, Stop::Damaged),

@@ -6,12 +6,13 @@ mod helpers;
 
 use helpers::random::*;
 use second::bitmap;
+use second::build::build;
+use second::layout::Layout;
 use second::machine::Machine;
-use second::occurrences::occurrences;
 use second::reading::{read_outside, Reading, Stop};
 use second::rng::Rng;
-use second::set::{read_set, write_set};
-use second::table::{build, Layout, Table};
+use second::set::{read_set, write_set, Tag};
+use second::table::Tables;
 
 fn is_prefix(tags: &[Vec<u8>], bytes: &[u8]) -> bool {
     tags.iter().any(|tag| tag.starts_with(bytes))
@@ -49,14 +50,15 @@ struct Case {
 
 fn built(layout: Layout, tags: &[Vec<u8>], odd: usize) -> Vec<u16> {
     let mut table = vec![9; 513 * layout.slot_length() + odd];
-    assert_eq!(build(layout, &write_set(tags), &mut table), Ok(tags.len()));
+    let built = build(layout, &write_set(tags), &mut [&mut table]);
+    assert_eq!(built, Ok(tags.len()));
     table
 }
 
 impl Case {
     fn random(rng: &mut Rng, letters: usize) -> Case {
-        let tags = random_tags(rng, letters);
-        let set = read_set(&write_set(&tags)).expect("a good set");
+        let tags = random_words(rng, &LETTERS[..letters]);
+        let set = read_set(&write_set(&tags), Layout::Bitmap.kinds()).expect("a good set");
         Case {
             whole: built(Layout::Whole, &tags, rng.below(30)),
             bitmap: built(Layout::Bitmap, &tags, rng.below(30)),
@@ -80,9 +82,11 @@ impl Case {
     fn read_both(&self, prefix: &[u8], at: usize, piece: &[u8], room: usize) -> Read {
         let [whole_place, bitmap_place] = self.places(prefix);
         let (mut whole_list, mut list) = (vec![7; room], vec![7; room]);
-        let table = Table::lent(Layout::Whole, &self.whole);
+        let lent = [self.whole.as_slice()];
+        let table = Tables::lent(Layout::Whole, &lent);
         let whole = read_outside(table, &whole_place, at as u32, piece, &mut whole_list);
-        let table = Table::lent(Layout::Bitmap, &self.bitmap);
+        let lent = [self.bitmap.as_slice()];
+        let table = Tables::lent(Layout::Bitmap, &lent);
         let reading = read_outside(table, &bitmap_place, at as u32, piece, &mut list);
         let (whole, reading) = (whole.expect("no refusal"), reading.expect("no refusal"));
         assert_eq!(list, whole_list);
@@ -116,7 +120,7 @@ fn check_cuts(seed: u64) {
     let mut rng = Rng::new(seed);
     let letters = rng.between(1, LETTERS.len());
     let case = Case::random(&mut rng, letters);
-    let input = random_input(&mut rng, letters, &case.tags);
+    let input = random_input(&mut rng, &LETTERS[..letters], &case.tags);
     let (mut at, mut moves, mut prefix) = (0, 0, vec![]);
     let mut records: Vec<(usize, usize)> = vec![];
     while at < input.len() {
@@ -134,7 +138,8 @@ fn check_cuts(seed: u64) {
         assert!(moves <= at as u64, "{moves} moves of {at} bytes");
         prefix = read.prefix;
     }
-    assert_eq!(records, occurrences(&case.tags, &input));
+    let tags: Vec<Tag> = case.tags.iter().cloned().map(Tag::exact).collect();
+    assert_eq!(records, occurrences_by_beginning(&tags, &input));
 }
 
 #[test]
@@ -153,7 +158,7 @@ fn moves_from_any_state_are_as_defined() {
         let case = Case::random(&mut rng, letters);
         for prefix in &case.bitmap_states {
             let length = rng.between(1, 6);
-            let piece = random_bytes(&mut rng, letters, length);
+            let piece = random_bytes(&mut rng, &LETTERS[..letters], length);
             let read = case.read_both(prefix, 0, &piece, 400);
             assert_eq!(read.reading.taken, piece.len());
             let run = [prefix.as_slice(), &piece].concat();
@@ -278,11 +283,12 @@ fn any_numbers_are_walked_as_said() {
         let mut numbers = slots.collect::<Vec<Vec<u16>>>().concat();
         numbers.extend(vec![3; rng.below(19)]);
         let length = rng.between(0, 40);
-        let piece = random_bytes(&mut rng, LETTERS.len(), length);
+        let piece = random_bytes(&mut rng, &LETTERS, length);
         let (place, room) = (rng.below(s), rng.between(0, 200));
         let (expected, mut records) = walked(&numbers, place, &piece, room);
         let mut list = vec![7; room];
-        let table = Table::lent(Layout::Bitmap, &numbers);
+        let lent = [numbers.as_slice()];
+        let table = Tables::lent(Layout::Bitmap, &lent);
         let reading = read_outside(table, &[place as u16], 0, &piece, &mut list);
         assert_eq!(reading.as_ref(), Ok(&expected), "seed {seed}");
         records.resize(room, 7);

@@ -120,6 +120,8 @@ fn other_faults_are_found() {
         "s/254/8/",
         "s/^refused 7 253 /refused 7 254 /",
         "s/ moves 1 / moves 0 /",
+        "s/^refused 7 8 /refused 7 0 /",
+        "s/^refused 6 \\([1-9]\\)$/refused 6 0/",
     ] {
         let program = broken(&folder, sed);
         let (code, said) = compare(&folder, &program, &["--scripts", "20"]);
@@ -143,6 +145,21 @@ fn shrinking_leaves_what_is_needed() {
     };
     let shortest = shrink(script, &mut differs);
     assert_eq!(String::from_utf8_lossy(&shortest), "\"y\"\nfeed xff\n");
+}
+
+#[test]
+fn shrinking_knows_folded_words_and_tables() {
+    let script = b"lend 24 1\nset \"ab\" ~\"c d\" ~\"ef\"\npoke 1 2 1\n";
+    let mut differs = |script: &[u8]| {
+        let text = String::from_utf8_lossy(script).into_owned();
+        text.contains("~\"") && text.contains('d') && text.contains('f')
+    };
+    let shortest = shrink(script, &mut differs);
+    assert_eq!(String::from_utf8_lossy(&shortest), "\"d\" ~\"f\"\n");
+    // The `~` goes where the difference stays without it.
+    let mut differs = |script: &[u8]| script.windows(3).any(|bytes| bytes == b"c d");
+    let shortest = shrink(script, &mut differs);
+    assert_eq!(String::from_utf8_lossy(&shortest), "\"c d\"\n");
 }
 
 #[test]

@@ -4,7 +4,6 @@ mod helpers;
 
 use helpers::*;
 use second::script::{parse, Call};
-use second::table::Layout;
 
 const EXAMPLE: &str = r#"set "he" "she" "his" "hers"
 replace
@@ -137,52 +136,121 @@ fn bytes() {
     }
 }
 
-#[test]
-fn sets() {
-    let set = |line: &str| match parse(line.as_bytes()) {
+/// The set of a line.
+fn set(line: &str) -> Option<Vec<u8>> {
+    match parse(line.as_bytes()) {
         Some(Call::Set(set)) => Some(set),
         _ => None,
-    };
-    assert_eq!(set("set -"), Some(vec![]));
-    assert_eq!(set("set x"), Some(vec![]));
-    assert_eq!(set("set \"\""), Some(vec![0, 0, 1, 0]));
-    assert_eq!(set("set \"he\""), Some(vec![2, 0, 1, 0, 0x68, 0x65]));
-    assert_eq!(
-        set("set \"\" \" \""),
-        Some(vec![0, 0, 1, 0, 1, 0, 1, 0, 32])
-    );
-    let long = format!("set \"{}\"", "a".repeat(300));
-    assert_eq!(
-        set(&long).map(|set| set[..4].to_vec()),
-        Some(vec![44, 1, 1, 0])
-    );
-    let none = [
-        "set",
-        "set ",
-        "set - -",
-        "set x x",
-        "set - \"a\"",
-        "set \"a\" x",
-        "set a",
+    }
+}
+
+#[test]
+fn sets() {
+    let sets: [(&str, &[u8]); 12] = [
+        ("set -", &[]),
+        ("set x", &[]),
+        ("set x00ff", &[0, 255]),
+        ("set \"\"", &[0, 0, 1, 0]),
+        ("set \"he\"", b"\x02\0\x01\0he"),
+        ("set \"\" \" \"", b"\0\0\x01\0\x01\0\x01\0 "),
+        ("set \"~\"", b"\x01\0\x01\0~"),
+        ("set ~\"he\"", b"\x02\0\x02\0he"),
+        ("set ~\"\"", &[0, 0, 2, 0]),
+        ("set ~\"~\"", b"\x01\0\x02\0~"),
+        (
+            "set ~\"H \" \"h\" ~\"\"",
+            b"\x02\0\x02\0H \x01\0\x01\0h\0\0\x02\0",
+        ),
+        ("set \"h\" ~\" ~\"", b"\x01\0\x01\0h\x02\0\x02\0 ~"),
     ];
-    for line in none
-        .iter()
-        .chain(&["set \"a\"  \"b\"", "set \"a\" ", "set \"a\"\"b\""])
-    {
+    for (line, bytes) in sets {
+        assert_eq!(set(line).as_deref(), Some(bytes), "{line}");
+    }
+    for (mark, kind) in [("", 1), ("~", 2)] {
+        let long = set(&format!("set {mark}\"{}\"", "a".repeat(300)));
+        let front = long.map(|set| set[..4].to_vec());
+        assert_eq!(front, Some(vec![44, 1, kind, 0]));
+    }
+}
+
+/// Words that make no set, one line for each.
+const NO_SETS: &str = r#"
+- -
+x x
+- "a"
+"a" x
+a
+"a"  "b"
+"a""b"
+"a"b
+"a
+~
+~a
+~-
+~x
+~x61
+~~"a"
+~"a
+~"
+~ "a"
+~"a"b
+~"a"~
+~"a""b"
+"a"~"b"
+~"a"~"b"
+"a" ~
+"a" ~b
+"a" ~x62
+~"a" -
+~"a" x
+- ~"a"
+x61 ~"a"
+~"a"  "b"
+"#;
+
+#[test]
+fn no_sets() {
+    for words in NO_SETS.lines() {
+        assert_eq!(set(&format!("set {words}")), None, "{words}");
+    }
+    for line in ["set", "set ", "set \"a\" ", "set ~\"a\" ", "set  ~\"a\""] {
         assert_eq!(set(line), None, "{line}");
+    }
+}
+
+#[test]
+fn a_folded_word_is_no_other_word() {
+    for line in [
+        "~\"open\"",
+        "~open",
+        "~\"set\" \"a\"",
+        "feed 1 ~\"a\"",
+        "feed ~\"1\" -",
+        "close ~\"1\"",
+        "close ~1",
+        "lend ~\"24\"",
+        "lend 24 ~\"1\"",
+        "build ~\"split\"",
+        "read whole 0 0 0 ~\"a\"",
+        "poke 0 ~\"1\"",
+    ] {
+        assert_eq!(parse(line.as_bytes()), None, "{line}");
     }
 }
 
 #[test]
 fn a_set_has_at_most_4096_bytes() {
     let by_digits = |length: usize| format!("set x{}", "61".repeat(length));
-    let by_words = |length: usize| format!("set \"{}\" \"\"", "a".repeat(length - 8));
+    let by_words = |length: usize| format!("set \"{}\" ~\"\"", "a".repeat(length - 8));
+    let folded = |length: usize| format!("set ~\"{}\"", "a".repeat(length - 4));
     check(&[
         (&by_digits(4_096), "set 4096"),
         (&by_words(4_096), "set 4096"),
+        (&folded(4_096), "set 4096"),
         ("set \"a\"", "set 5"),
-        (&by_digits(4_097), "line 4: not a call"),
-        (&by_words(4_097), "line 5: not a call"),
+        (&by_digits(4_097), "line 5: not a call"),
+        (&by_words(4_097), "line 6: not a call"),
+        (&folded(4_097), "line 7: not a call"),
         // The set is still that of before.
         ("build whole", "tags 1"),
     ]);
@@ -191,12 +259,11 @@ fn a_set_has_at_most_4096_bytes() {
 #[test]
 fn calls_with_words_too_few_or_too_many() {
     let whole = [
-        "replace", "open", "take", "show", "close 1", "state 1", "lend 1", "poke 1 2",
+        "replace", "open", "take", "show", "close 1", "state 1", "set -",
     ];
     for line in whole
         .iter()
-        .chain(&["feed 1 -", "peek 1 2", "build split", "build bitmap"])
-        .chain(&["set -"])
+        .chain(&["feed 1 -", "build split", "build bitmap"])
     {
         assert!(parse(line.as_bytes()).is_some(), "{line}");
         let (fewer, _) = line.rsplit_once(' ').unwrap_or(("", ""));
@@ -226,92 +293,4 @@ fn calls_with_words_too_few_or_too_many() {
     ] {
         assert_eq!(parse(line.as_bytes()), None, "{line}");
     }
-}
-
-#[test]
-fn reads() {
-    let read = |layout: Layout, room: usize, place: Vec<u16>| Call::Read {
-        layout,
-        count: 5,
-        room,
-        place,
-        piece: vec![],
-    };
-    let split = parse(b"read split 5 2048 1 2 3 4 5 6 7 65535 -");
-    let place = vec![1, 2, 3, 4, 5, 6, 7, 65_535];
-    assert_eq!(split, Some(read(Layout::Split, 2_048, place)));
-    let whole = parse(b"read whole 5 0 65535 x");
-    assert_eq!(whole, Some(read(Layout::Whole, 0, vec![65_535])));
-    let none = [
-        "read whole 5 2049 0 -",
-        "read whole 5 0 65536 -",
-        "read whole 5 0 -",
-        "read whole 5 0 0 0 -",
-        "read whole 5 0 0",
-        "read whole 5 0 0 - -",
-        "read whole 4294967296 0 0 -",
-        "read split 5 0 0 0 0 0 0 0 0 -",
-        "read split 5 0 0 0 0 0 0 0 0 0 0 -",
-        "read split 5 0 -",
-        "read",
-    ];
-    for line in none {
-        assert_eq!(parse(line.as_bytes()), None, "{line}");
-    }
-}
-
-#[test]
-fn reads_in_the_bitmap_layout() {
-    let bitmap = Call::Read {
-        layout: Layout::Bitmap,
-        count: 5,
-        room: 2_048,
-        place: vec![65_535],
-        piece: vec![0x61],
-    };
-    let line = b"read bitmap 0005 2048 65535 \"a\"";
-    assert_eq!(parse(line), Some(bitmap));
-    let none = [
-        "read bitmap 5 2049 0 -",
-        "read bitmap 5 0 65536 -",
-        "read bitmap 5 0 -",
-        "read bitmap 5 0 0 0 -",
-        "read bitmap 5 0 0 0 0 0 0 0 0 0 -",
-        "read bitmap 5 0 0",
-        "read bitmap 5 0 0 - -",
-        "read bitmap 4294967296 0 0 -",
-        "read bitmaps 5 0 0 -",
-        "read Bitmap 5 0 0 -",
-        "read \"bitmap\" 5 0 0 -",
-    ];
-    for line in none {
-        assert_eq!(parse(line.as_bytes()), None, "{line}");
-    }
-}
-
-#[test]
-fn bounds_of_lend_poke_and_peek() {
-    check(&[
-        ("lend 131841", "lent 131841"),
-        ("lend 131842", "line 2: not a call"),
-        ("lend 0", "lent 0"),
-        ("poke 131840 65535", "poked 131840"),
-        ("poke 131841 0", "line 5: not a call"),
-        ("poke 0 65536", "line 6: not a call"),
-        ("peek 131840 1", "numbers 65535"),
-        ("peek 131840 2", "line 8: not a call"),
-        ("peek 131841 0", "numbers"),
-        ("peek 131842 0", "line 10: not a call"),
-        ("peek 0 0", "numbers"),
-        ("peek 0 257", "line 12: not a call"),
-        ("peek 4294967295 1", "line 13: not a call"),
-        ("peek 00000000000000000 2", "numbers 0 0"),
-    ]);
-    let mut replay = second::replay::Replay::new();
-    let answer = replay.line(b"peek 131585 256").concat();
-    assert_eq!(answer.split(' ').count(), 257);
-    assert_eq!(
-        replay.line(b"peek 131586 256").concat(),
-        "line 2: not a call"
-    );
 }

@@ -4,36 +4,45 @@
 mod helpers;
 
 use helpers::random::*;
+use helpers::*;
 use second::desk::{Desk, Record, Serial, MOST_RECORDS};
-use second::machine::{bit_of, Machine};
+use second::kind::Kind;
+use second::layout::Layout;
+use second::machine::{Machine, OwnTag};
 use second::occurrences::occurrences;
 use second::reading::{read_outside, Reading, Stop};
 use second::replay::Replay;
 use second::rng::Rng;
-use second::set::{read_set, write_set};
-use second::table::{build, Layout, Table};
+use second::set::{read_set, write_tags, Tag, TagSet};
+use second::table::Tables;
 
-/// A built table, its tags, and the input read over it.
+/// Built tables, and the input read over them.
 struct Case {
     layout: Layout,
-    table: Vec<u16>,
+    tables: Vec<Vec<u16>>,
     input: Vec<u8>,
     all: Vec<(usize, usize)>,
 }
 
 impl Case {
     fn random(rng: &mut Rng, layout: Layout) -> Case {
-        let letters = rng.between(1, 3);
-        let tags = random_tags(rng, letters);
-        let input = random_input(rng, letters, &tags);
-        let odd = rng.below(30);
-        let mut table = vec![9; 513 * layout.machines() * layout.slot_length() + odd];
-        let built = build(layout, &write_set(&tags), &mut table);
+        let alphabet = alphabet(rng);
+        let mut tags = random_tags(rng, alphabet);
+        if layout != Layout::Split {
+            let words = random_words(rng, alphabet);
+            tags = words.into_iter().map(Tag::exact).collect();
+        }
+        let input = random_input_of(rng, alphabet, &tags);
+        let length = |rng: &mut Rng| 513 * layout.a_slot_each() + rng.below(30);
+        let table = |_| vec![9; length(rng)];
+        let mut tables: Vec<Vec<u16>> = (0..layout.tables()).map(table).collect();
+        let built = build_in(layout, &write_tags(&tags), &mut tables);
         assert_eq!(built, Ok(tags.len()));
-        let all = occurrences(&tags, &input);
+        let all = occurrences_by_beginning(&tags, &input);
+        assert_eq!(occurrences(&tags, &input), all);
         Case {
             layout,
-            table,
+            tables,
             input,
             all,
         }
@@ -47,9 +56,10 @@ impl Case {
         let here: Vec<(usize, usize)> = self.all.iter().filter(here).copied().collect();
         // The first record without room stops the whole of its byte.
         let stopped = here.get(list.len() / 2).map(|(e, _)| e - 1);
-        let table = Table::lent(self.layout, &self.table);
+        let lent = lent(&self.tables);
+        let tables = Tables::lent(self.layout, &lent);
         let piece = &self.input[at..end];
-        let reading = read_outside(table, place, at as u32, piece, &mut list);
+        let reading = read_outside(tables, place, at as u32, piece, &mut list);
         let reading = reading.expect("no refusal");
         assert_eq!(at + reading.taken, stopped.unwrap_or(end));
         let stop = match stopped {
@@ -63,6 +73,16 @@ impl Case {
         expected.resize(list.len(), 7);
         assert_eq!(list, expected);
         reading
+    }
+}
+
+/// One letter, two, letters in both cases, or the bytes beside them too.
+fn alphabet(rng: &mut Rng) -> &'static [u8] {
+    let letters = rng.between(1, 3);
+    let cases = rng.one_of(&[2, 4, CASES.len()]);
+    match rng.once_in(2) {
+        true => &LETTERS[..letters],
+        false => &CASES[..cases],
     }
 }
 
@@ -84,7 +104,7 @@ fn check_layout(layout: Layout, cases: u64) {
 
 #[test]
 fn split_readings_are_the_occurrences() {
-    check_layout(Layout::Split, 300);
+    check_layout(Layout::Split, 400);
 }
 
 #[test]
@@ -105,32 +125,67 @@ fn next_by_definition(prefixes: &[Vec<u8>], p: &[u8], c: u8) -> usize {
         .expect("the empty prefix is a suffix")
 }
 
-fn check_machine(machine: &Machine, tags: &[Vec<u8>], symbols: &[u8]) {
-    let prefixes = machine.prefixes();
+/// The distinct prefixes in order of first appearance.
+fn prefixes_by_definition(tags: &[OwnTag]) -> Vec<Vec<u8>> {
+    let mut prefixes = vec![vec![]];
+    for tag in tags {
+        for length in 1..=tag.letters.len() {
+            let prefix = tag.letters[..length].to_vec();
+            if !prefixes.contains(&prefix) {
+                prefixes.push(prefix);
+            }
+        }
+    }
+    prefixes
+}
+
+fn check_machine(machine: &Machine, tags: &[OwnTag], letters: &[u8]) {
+    let prefixes = prefixes_by_definition(tags);
+    assert_eq!(machine.prefixes(), prefixes);
     for (p, (next, vector)) in prefixes.iter().zip(machine.slots()) {
-        for c in symbols {
-            let defined = next_by_definition(prefixes, p, *c);
+        for c in letters {
+            let defined = next_by_definition(&prefixes, p, *c);
             assert_eq!(usize::from(next[usize::from(*c)]), defined);
         }
         for i in 0..16 {
-            let flagged = tags.get(i).is_some_and(|tag| p.ends_with(tag));
+            let mut own = tags.iter().filter(|tag| tag.number == i);
+            let flagged = own.any(|tag| p.ends_with(&tag.letters));
             assert_eq!(vector >> i & 1 == 1, flagged);
         }
     }
 }
 
+/// The tags of a kind, by their numbers in the whole set, each byte as its
+/// machine reads it.
+fn own(set: &TagSet, kind: Kind, letter: impl Fn(u8) -> u8) -> Vec<OwnTag> {
+    let mut own = Vec::new();
+    for (number, tag) in set.tags().iter().enumerate() {
+        if tag.kind == kind {
+            let letters = tag.bytes.iter().map(|byte| letter(*byte)).collect();
+            own.push(OwnTag { number, letters });
+        }
+    }
+    own
+}
+
 #[test]
 fn machines_are_as_defined() {
-    for seed in 0..12 {
+    for seed in 0..24 {
         let mut rng = Rng::new(seed);
-        let tags = random_tags(&mut rng, 3);
-        let set = read_set(&write_set(&tags)).expect("a good set");
-        let letters = [0x61, 0x63, 0xe1, 0, 0x62, 255];
-        check_machine(&Machine::whole_byte(&set), &tags, &letters);
+        let alphabet = alphabet(&mut rng);
+        let tags = random_tags(&mut rng, alphabet);
+        let set = read_set(&write_tags(&tags), Layout::Split.kinds()).expect("a good set");
+        assert_eq!(set.tags(), tags);
+        let letters = [0x61, 0x63, 0xe1, 0, 0x62, 255, 0x41];
+        let exact = own(&set, Kind::Exact, |byte| byte);
+        check_machine(&Machine::whole_byte(&set), &exact, &letters);
         for b in 0..8 {
-            let reduce = |tag: &Vec<u8>| tag.iter().map(|byte| bit_of(*byte, b)).collect();
-            let reduced: Vec<Vec<u8>> = tags.iter().map(reduce).collect();
-            check_machine(&Machine::bit(&set, b), &reduced, &[0, 1]);
+            let exact = own(&set, Kind::Exact, |byte| byte >> b & 1);
+            check_machine(&Machine::bit(&set, b), &exact, &[0, 1]);
+            let folded = own(&set, Kind::Folded, |byte| {
+                byte.to_ascii_lowercase() >> b & 1
+            });
+            check_machine(&Machine::bit(&set, 8 + b), &folded, &[0, 1]);
         }
     }
 }
@@ -139,10 +194,11 @@ fn machines_are_as_defined() {
 /// the other tickets do, and the list never holds more than 256.
 fn check_desk(seed: u64) {
     let mut rng = Rng::new(seed);
-    let tags = random_tags(&mut rng, 2);
+    let alphabet = alphabet(&mut rng);
+    let tags = random_tags(&mut rng, alphabet);
     let mut desk = Desk::new();
-    let mut table = vec![0; 11_496];
-    let replaced = desk.replace(&write_set(&tags), &mut table);
+    let (mut first, mut second) = (vec![0; 11_496], vec![0; 11_496]);
+    let replaced = desk.replace(&write_tags(&tags), [&mut first, &mut second]);
     assert!(replaced.is_ok());
     let mut taken: Vec<Vec<u8>> = vec![vec![]; 3];
     let mut records: Vec<Vec<(usize, usize)>> = vec![vec![]; 3];
@@ -155,8 +211,8 @@ fn check_desk(seed: u64) {
     }
     for _ in 0..120 {
         let ticket = rng.below(3);
-        let piece = random_input(&mut rng, 2, &tags);
-        let fed = desk.feed(Serial(ticket as u32 + 1), &piece, &table);
+        let piece = random_input_of(&mut rng, alphabet, &tags);
+        let fed = desk.feed(Serial(ticket as u32 + 1), &piece, [&first, &second]);
         let fed = fed.expect("no refusal");
         assert_eq!(fed.stop == Stop::All, fed.taken == piece.len());
         taken[ticket].extend(&piece[..fed.taken]);
@@ -169,7 +225,7 @@ fn check_desk(seed: u64) {
         hand_out(record);
     }
     for (bytes, records) in taken.iter().zip(&records) {
-        assert_eq!(*records, occurrences(&tags, bytes));
+        assert_eq!(*records, occurrences_by_beginning(&tags, bytes));
     }
 }
 
@@ -183,7 +239,7 @@ fn desk_records_are_the_occurrences() {
 /// Lines of random pieces of calls: each is answered, and none does harm.
 #[test]
 fn any_line_is_answered() {
-    let parts: [&[u8]; 21] = [
+    let parts: [&[u8]; 24] = [
         b" ",
         b" ",
         b" ",
@@ -201,6 +257,9 @@ fn any_line_is_answered() {
         b"65535",
         b"4294967295",
         b"131841",
+        b"16384",
+        b"2",
+        b"~",
         b"\"",
         b"x",
         b"-",
@@ -218,10 +277,12 @@ fn any_line_is_answered() {
 
 #[test]
 fn direct_comparison_finds_what_stands_there() {
-    let tags = vec![b"aa".to_vec(), b"b".to_vec(), b"ab".to_vec()];
-    assert_eq!(
-        occurrences(&tags, b"aaab"),
-        [(2, 0), (3, 0), (4, 1), (4, 2)]
-    );
+    let tags = ["aa", "b", "ab"].map(Tag::exact);
+    let found = [(2, 0), (3, 0), (4, 1), (4, 2)];
+    assert_eq!(occurrences(&tags, b"aaab"), found);
     assert_eq!(occurrences(&tags, b""), []);
+    assert_eq!(occurrences(&tags, b"aAAB"), []);
+    let tags = [Tag::folded("aA"), Tag::exact("aA"), Tag::folded("[")];
+    let found = [(2, 0), (3, 0), (4, 0), (4, 1), (6, 2)];
+    assert_eq!(occurrences(&tags, b"aaaA{["), found);
 }

@@ -3,8 +3,9 @@
 mod helpers;
 
 use helpers::*;
+use second::layout::Layout;
 use second::reading::{read_outside, Stop};
-use second::table::{Layout, Table};
+use second::table::Tables;
 
 #[test]
 fn slots_are_rounded_down_and_at_most_513() {
@@ -28,16 +29,18 @@ fn slots_are_rounded_down_and_at_most_513() {
 #[test]
 fn a_built_table_is_as_the_document_numbers_it() {
     // Tag "a" is 0x61: bits 0, 5 and 6 are ones.
-    let table = table_of(Layout::Split, &["a"], 3);
-    for (b, machine) in table.chunks_exact(9).enumerate() {
+    let tables = tables_of(Layout::Split, &["a"], 3);
+    for (b, machine) in tables[0].chunks_exact(9).enumerate() {
         let expected: [u16; 9] = match b {
             0 | 5 | 6 => [0, 1, 0, 0, 1, 1, 0, 0, 0],
             _ => [1, 0, 0, 1, 0, 1, 0, 0, 0],
         };
         assert_eq!(machine, expected, "machine {b}");
     }
-    let table = table_of(Layout::Whole, &["a"], 3);
-    for (at, number) in table.iter().enumerate() {
+    // No tag of kind 2: one state, which both letters keep.
+    assert_eq!(tables[1], [0; 72]);
+    let tables = tables_of(Layout::Whole, &["a"], 3);
+    for (at, number) in tables[0].iter().enumerate() {
         let next_on_a = at == 0x61 || at == 257 + 0x61;
         let vector = at == 257 + 256;
         assert_eq!(*number, u16::from(next_on_a || vector), "number {at}");
@@ -67,9 +70,9 @@ fn building_over_a_used_table_leaves_no_trace() {
 
 #[test]
 fn a_next_number_not_below_s_is_damage() {
-    let split = "read split 0 2 0 0 0 0 0 0 0 0 \"a\"";
-    let damaged = "taken 0 stop DAMAGED records 0 place 0 0 0 0 0 0 0 0|list 7 7";
-    let unused = "taken 1 stop ALL records 0 place 1 1 1 1 1 1 1 2|list 7 7";
+    let split = "read split 0 2 0 0 0 0 0 0 0 0 0 0 0 0 0 0 0 0 \"a\"";
+    let damaged = "taken 0 stop DAMAGED records 0 place 0 0 0 0 0 0 0 0 0 0 0 0 0 0 0 0|list 7 7";
+    let unused = "taken 1 stop ALL records 0 place 1 1 1 1 1 1 1 2 0 0 0 0 0 0 0 0|list 7 7";
     check(&[
         ("set \"a\"", "set 5"),
         ("lend 72", "lent 72"),
@@ -86,7 +89,7 @@ fn a_next_number_not_below_s_is_damage() {
         ("poke 64 65535", "poked 64"),
         (
             split,
-            "taken 1 stop ALL records 1 place 1 1 1 1 1 1 1 1|list 1 0",
+            "taken 1 stop ALL records 1 place 1 1 1 1 1 1 1 1 0 0 0 0 0 0 0 0|list 1 0",
         ),
     ]);
 }
@@ -97,7 +100,8 @@ fn damage_is_asked_before_room() {
     let mut table = [0u16; 257];
     table[255] = 1;
     table[256] = u16::MAX;
-    let table = Table::lent(Layout::Whole, &table);
+    let lent = [table.as_slice()];
+    let table = Tables::lent(Layout::Whole, &lent);
     let mut list = [7; 33];
     let reading = read_outside(table, &[0], 5, &[0, 255], &mut list).expect("no refusal");
     assert_eq!(

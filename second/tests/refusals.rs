@@ -5,21 +5,23 @@
 mod helpers;
 
 use helpers::*;
-use second::refusal::Refusal;
-use second::set::{read_set, write_entry, write_set, TagSet};
-use second::table::{build, Layout};
+use second::layout::Layout;
+use second::set::{read_set, write_entry, write_set};
 
-/// The number of tags, or the refusal's number and values.
-fn said(result: Result<TagSet, Refusal>) -> Result<usize, (u32, Vec<u64>)> {
-    match result {
-        Ok(set) => Ok(set.tags().len()),
-        Err(refusal) => Err((refusal.number(), refusal.values())),
-    }
+/// What reading the set of these parts, one after another, gives in a layout:
+/// the number of tags, or the refusal's number and values.
+fn read_in(layout: Layout, parts: &[&[u8]]) -> Result<usize, (u32, Vec<u64>)> {
+    let set = read_set(&parts.concat(), layout.kinds()).map_err(told)?;
+    Ok(set.tags().len())
 }
 
-/// What reading the set of these parts, one after another, gives.
+/// The same where every layout says the same.
 fn read(parts: &[&[u8]]) -> Result<usize, (u32, Vec<u64>)> {
-    said(read_set(&parts.concat()))
+    let said = read_in(Layout::Split, parts);
+    for layout in [Layout::Whole, Layout::Bitmap] {
+        assert_eq!(read_in(layout, parts), said, "{layout:?}");
+    }
+    said
 }
 
 fn refused(number: u32, entry: u64) -> Result<usize, (u32, Vec<u64>)> {
@@ -65,16 +67,16 @@ fn many_2() {
 
 #[test]
 fn kind_3() {
-    for kind in [0, 2, 256, 257, 65_535] {
+    for kind in [0, 3, 256, 257, 258, 512, 513, 514, 65_535] {
         assert_eq!(read(&[&write_entry(kind, b"he")]), refused(3, 0));
     }
     assert_eq!(read(&[&write_entry(1, b"he")]), Ok(1));
     // KIND before LENGTH and before a cut payload.
-    assert_eq!(read(&[HE, &[0, 0, 2, 0]]), refused(3, 1));
-    assert_eq!(read(&[HE, &[33, 0, 2, 0]]), refused(3, 1));
+    assert_eq!(read(&[HE, &[0, 0, 3, 0]]), refused(3, 1));
+    assert_eq!(read(&[HE, &[33, 0, 3, 0]]), refused(3, 1));
     assert_eq!(read(&[HE, &[5, 0, 0, 1, 1]]), refused(3, 1));
     // The first faulty entry decides, whatever follows.
-    assert_eq!(read(&[&write_entry(2, b"a"), &[0]]), refused(3, 0));
+    assert_eq!(read(&[&write_entry(3, b"a"), &[0]]), refused(3, 0));
 }
 
 #[test]
@@ -109,7 +111,7 @@ fn empty_5() {
 
 #[test]
 fn repeat_6() {
-    let set = |tags: &[&str]| said(read_set(&write_set(tags)));
+    let set = |tags: &[&str]| read(&[&write_set(tags)]);
     assert_eq!(set(&["a", "b", "a"]), refused(6, 2));
     assert_eq!(set(&["a", "b", "aa"]), Ok(3));
     // The lowest-numbered tag equal to an earlier one.
@@ -118,32 +120,41 @@ fn repeat_6() {
     // Only after every entry has passed.
     let twice = write_set(&["a", "a"]);
     assert_eq!(read(&[&twice, &[1]]), refused(1, 2));
-    assert_eq!(read(&[&twice, &write_entry(2, b"b")]), refused(3, 2));
+    assert_eq!(read(&[&twice, &write_entry(3, b"b")]), refused(3, 2));
     let mut tags: Vec<Vec<u8>> = (0..16).map(|k| vec![k]).collect();
     tags[15] = vec![3];
     assert_eq!(read(&[&write_set(&tags)]), refused(6, 15));
 }
 
-/// Building with one number too few is refused and changes nothing; with just
-/// enough it is accepted, whatever lies beyond.
-fn check_table(layout: Layout, tags: &[&str], slots: usize, machine: u64) {
-    let a_slot = layout.machines() * layout.slot_length();
+/// Building with one number too few, in any of the tables, is refused and
+/// changes nothing; with just enough it is accepted, whatever lies beyond.
+fn check_table(layout: Layout, tags: &[&str], slots: &[usize], machines: &[u64]) {
+    let a_slot = layout.a_slot_each();
     let set = write_set(tags);
-    let mut table = vec![9; a_slot * slots + a_slot - 1];
-    let refused = build(layout, &set, &mut table[..a_slot * slots - 1]);
-    let refused = refused.map_err(|refusal| (refusal.number(), refusal.values()));
-    assert_eq!(refused, Err((7, vec![machine, slots as u64])));
-    assert!(table.iter().all(|number| *number == 9));
-    assert_eq!(build(layout, &set, &mut table), Ok(tags.len()));
-    assert!(table[a_slot * slots..].iter().all(|number| *number == 9));
+    // No state has this number.
+    let enough = |s: &usize| vec![999; a_slot * s + a_slot - 1];
+    let mut tables: Vec<Vec<u16>> = slots.iter().map(enough).collect();
+    for (table, (s, machine)) in slots.iter().zip(machines).enumerate() {
+        let mut short = tables.clone();
+        short[table].truncate(a_slot * s - 1);
+        let before = short.clone();
+        let refused = build_in(layout, &set, &mut short);
+        assert_eq!(refused, Err((7, vec![*machine, *s as u64])));
+        assert_eq!(short, before);
+    }
+    assert_eq!(build_in(layout, &set, &mut tables), Ok(tags.len()));
+    for (table, s) in tables.iter().zip(slots) {
+        assert!(table[a_slot * s..].iter().all(|number| *number == 999));
+        assert!(table[..a_slot * s].iter().all(|number| *number != 999));
+    }
 }
 
 #[test]
 fn table_7() {
-    check_table(Layout::Split, &HERS, 10, 3);
-    check_table(Layout::Whole, &HERS, 10, 254);
-    check_table(Layout::Bitmap, &HERS, 10, 253);
-    check_table(Layout::Split, &["a"], 2, 0);
+    check_table(Layout::Split, &HERS, &[10, 1], &[3, 8]);
+    check_table(Layout::Whole, &HERS, &[10], &[254]);
+    check_table(Layout::Bitmap, &HERS, &[10], &[253]);
+    check_table(Layout::Split, &["a"], &[2, 1], &[0, 8]);
     check(&[
         ("set \"he\" \"she\" \"his\" \"hers\"", "set 28"),
         // The lowest machine short of slots, not the one that needs most.
@@ -248,14 +259,9 @@ fn place_15() {
         // PLACE before LONG.
         ("read whole 4294967295 2 3 \"ab\"", "refused 15"),
         ("read whole 4294967295 2 2 \"ab\"", "refused 14"),
-        // 32 slots of the split layout: any of the eight places counts.
-        ("read split 0 2 0 0 0 0 0 0 0 32 -", "refused 15"),
-        ("read split 0 2 32 0 0 0 0 0 0 0 -", "refused 15"),
         // No slot: every place is PLACE.
         ("lend 256", "lent 256"),
         ("read whole 0 2 0 -", "refused 15"),
-        ("lend 23", "lent 23"),
-        ("read split 0 2 0 0 0 0 0 0 0 0 -", "refused 15"),
     ]);
 }
 

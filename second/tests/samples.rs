@@ -4,28 +4,43 @@ mod helpers;
 
 use helpers::*;
 use second::bitmap;
+use second::layout::Layout;
 use second::machine::Machine;
 use second::reading::Stop;
-use second::set::{read_set, write_set};
-use second::table::{Layout, Table};
+use second::set::{read_set, write_set, write_tags, Tag, TagSet};
+use second::table::Tables;
+
+/// The set of most samples.
+fn hers() -> TagSet {
+    read_set(&write_set(&HERS), Layout::Whole.kinds()).expect("a good set")
+}
 
 #[test]
 fn sample_1_whole_byte_machine() {
-    let set = read_set(&write_set(&HERS)).expect("a good set");
-    assert_eq!(Machine::whole_byte(&set).states(), 10);
-    let table = table_of(Layout::Whole, &HERS, 10);
+    assert_eq!(Machine::whole_byte(&hers()).states(), 10);
+    let tables = tables_of(Layout::Whole, &HERS, 10);
     let input = b"hxhe";
     let path: Vec<u16> = (0..=input.len())
-        .map(|n| read_from_start(Layout::Whole, &table, &input[..n]).0.place[0])
+        .map(|n| read_from_start(Layout::Whole, &tables, &input[..n]).0.place[0])
         .collect();
     assert_eq!(path, [0, 1, 0, 1, 2]);
 }
 
+/// The states of eight bit machines from one on.
+fn states_of_bit_machines(set: &TagSet, first: usize) -> Vec<usize> {
+    let machines = first..first + 8;
+    machines
+        .map(|machine| Machine::bit(set, machine).states())
+        .collect()
+}
+
 #[test]
 fn sample_2_states_of_the_bit_machines() {
-    let set = read_set(&write_set(&HERS)).expect("a good set");
-    let states: Vec<usize> = (0..8).map(|b| Machine::bit(&set, b).states()).collect();
-    assert_eq!(states, [9, 8, 8, 10, 8, 5, 5, 5]);
+    assert_eq!(
+        states_of_bit_machines(&hers(), 0),
+        [9, 8, 8, 10, 8, 5, 5, 5]
+    );
+    assert_eq!(states_of_bit_machines(&hers(), 8), [1; 8]);
 }
 
 #[test]
@@ -36,14 +51,14 @@ fn sample_3_hishers() {
 
 #[test]
 fn sample_4_one_machine_alone_flags_a_tag() {
-    let numbers = table_of(Layout::Split, &HERS, 10);
-    let (reading, records) = read_from_start(Layout::Split, &numbers, b"hx");
-    let table = Table::lent(Layout::Split, &numbers);
-    let vectors: Vec<u16> = reading
-        .place
+    let tables = tables_of(Layout::Split, &HERS, 10);
+    let (reading, records) = read_from_start(Layout::Split, &tables, b"hx");
+    let lent = lent(&tables);
+    let tables = Tables::lent(Layout::Split, &lent);
+    let vectors: Vec<u16> = reading.place[..8]
         .iter()
         .enumerate()
-        .map(|(b, state)| table.vector(b, *state).expect("a state below s"))
+        .map(|(b, state)| tables.vector(b, *state).expect("a state below s"))
         .collect();
     assert_eq!(vectors[7] & 1, 1);
     assert_eq!(vectors[3] & 1, 0);
@@ -64,8 +79,8 @@ fn sample_6_overlapping_ends() {
 #[test]
 fn sample_7_an_empty_piece() {
     for layout in LAYOUTS {
-        let table = table_of(layout, &HERS, 10);
-        let (reading, records) = read_from_start(layout, &table, b"");
+        let tables = tables_of(layout, &HERS, 10);
+        let (reading, records) = read_from_start(layout, &tables, b"");
         assert_eq!((reading.taken, reading.stop), (0, Stop::All));
         assert_eq!(records, []);
     }
@@ -206,22 +221,79 @@ fn sample_14_a_closed_serial() {
 
 #[test]
 fn sample_15_bitmap_machine() {
-    let set = read_set(&write_set(&HERS)).expect("a good set");
     let states = ["", "h", "s", "he", "hi", "sh", "her", "his", "she", "hers"];
-    assert_eq!(bitmap::prefixes(&set), states.map(str::as_bytes));
-    let table = table_of(Layout::Bitmap, &HERS, 10);
+    assert_eq!(bitmap::prefixes(&hers()), states.map(str::as_bytes));
+    let tables = tables_of(Layout::Bitmap, &HERS, 10);
     let paths: [(&[u8], &[u16]); 2] = [
         (b"hxhe", &[0, 1, 0, 1, 3]),
         (b"ushers", &[0, 0, 2, 5, 8, 6, 9]),
     ];
     for (input, path) in paths {
         for (n, state) in path.iter().enumerate() {
-            let (reading, _) = read_from_start(Layout::Bitmap, &table, &input[..n]);
+            let (reading, _) = read_from_start(Layout::Bitmap, &tables, &input[..n]);
             assert_eq!((reading.taken, reading.place), (n, vec![*state]));
         }
-        let (reading, _) = read_from_start(Layout::Bitmap, &table, input);
+        let (reading, _) = read_from_start(Layout::Bitmap, &tables, input);
         assert_eq!(reading.moves, 1);
     }
+}
+
+#[test]
+fn sample_16_the_same_bytes_of_both_kinds() {
+    let tags = [Tag::folded("He"), Tag::exact("He")];
+    let set = read_set(&write_tags(&tags), Layout::Split.kinds()).expect("a good set");
+    for first in [0, 8] {
+        assert_eq!(states_of_bit_machines(&set, first), [3; 8]);
+    }
+    let tables = tables_of_tags(Layout::Split, &tags, &[3, 3]);
+    let (reading, records) = read_from_start(Layout::Split, &tables, b"hehEHe");
+    assert_eq!((reading.taken, reading.stop), (6, Stop::All));
+    assert_eq!(records, [(2, 0), (4, 0), (6, 0), (6, 1)]);
+    check(&[
+        ("set ~\"He\" \"He\"", "set 12"),
+        ("replace", "edition 1 tags 2"),
+        ("open", "serial 1"),
+        ("feed 1 \"hehEHe\"", "taken 6 stop ALL"),
+        ("take", "record 1 1 2 0"),
+        ("take", "record 1 1 4 0"),
+        ("take", "record 1 1 6 0"),
+        ("take", "record 1 1 6 1"),
+        ("take", "refused 16"),
+    ]);
+}
+
+#[test]
+fn sample_17_slots_of_the_second_table() {
+    check(&[
+        ("set ~\"He\" \"He\"", "set 12"),
+        ("lend 48 1", "lent 48"),
+        ("replace", "refused 7 8 3"),
+        ("build split", "refused 7 8 3"),
+        ("lend 72 1", "lent 72"),
+        ("replace", "edition 1 tags 2"),
+        ("set \"he\" \"she\" \"his\" \"hers\"", "set 28"),
+        ("lend 23 1", "lent 23"),
+        ("replace", "refused 7 8 1"),
+        ("lend 0 1", "lent 0"),
+        ("build split", "refused 7 8 1"),
+        ("lend 24 1", "lent 24"),
+        ("replace", "edition 2 tags 4"),
+    ]);
+}
+
+#[test]
+fn sample_18_repeats_and_the_bytes_beside_the_letters() {
+    check(&[
+        ("set ~\"he\" ~\"HE\"", "set 12"),
+        ("replace", "refused 6 1"),
+        ("set ~\"he\" \"he\"", "set 12"),
+        ("replace", "edition 1 tags 2"),
+    ]);
+    let tags = [Tag::folded("@"), Tag::folded("[")];
+    let tables = tables_of_tags(Layout::Split, &tags, &[479, 479]);
+    let found = |input: &[u8]| read_from_start(Layout::Split, &tables, input).1;
+    assert_eq!(found(b"`{"), []);
+    assert_eq!(found(b"@["), [(1, 0), (2, 1)]);
 }
 
 #[test]

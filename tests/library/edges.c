@@ -1,5 +1,6 @@
-/* edges.c: what C can hand over and Rust can't. Null runs and empty ones; runs that end, or begin,
-   just where a page begins that nobody may touch; a stack of 96 KiB. Each answer is checked. */
+/* edges.c: what C can hand over and Rust can't. Null runs and empty ones; one table lent for both; runs
+   that end, or begin, just where a page begins that nobody may touch; a stack of 96 KiB. Each answer is
+   checked. */
 #define _GNU_SOURCE
 #include <inttypes.h>
 #include <pthread.h>
@@ -69,86 +70,164 @@ static void was_read(const char *what, sleet_was_read said, uint64_t refusal, si
     need(what, said.refusal == refusal && said.taken == taken && said.stop == stop && said.records == records);
 }
 
+/* Refused, TABLE, with the machine that lacks slots and the slots that it needs. */
+static void too_short(const char *what, sleet_replaced said, size_t machine, size_t needs)
+{
+    replaced(what, said, SLEET_REFUSED_TABLE, 0, 0);
+    need(what, said.machine == machine && said.needs == needs);
+}
+
+/* The tables of a desk that is lent them at each call. */
+static uint16_t first[SLEET_SPLIT_TABLE], second[SLEET_SPLIT_TABLE];
+enum { ALL = SLEET_SPLIT_TABLE };
+
 static void null_runs(void)
 {
-    static uint16_t table[SLEET_SPLIT_TABLE];
     uint8_t set[28];
-    uint16_t place[8] = {0};
     size_t length = sample_set(set, sizeof set);
+    const uint8_t *ushers = (const uint8_t *)"ushers";
     sleet_desk desk = sleet_desk_new();
-    replaced("a null set", sleet_replace(&desk, NULL, 28, table, SLEET_SPLIT_TABLE), SLEET_REFUSED_EMPTY, 0, 0);
-    sleet_replaced no_table = sleet_replace(&desk, set, length, NULL, SLEET_SPLIT_TABLE);
-    replaced("a null table", no_table, SLEET_REFUSED_TABLE, 0, 0);
-    need("what it needs", no_table.machine == 0 && no_table.needs == 9);
-    replaced("a set", sleet_replace(&desk, set, length, table, SLEET_SPLIT_TABLE), 0, 1, 4);
+    replaced("a null set", sleet_replace(&desk, NULL, 28, first, ALL, second, ALL), SLEET_REFUSED_EMPTY, 0, 0);
+    too_short("a null table", sleet_replace(&desk, set, length, NULL, ALL, second, ALL), 0, 9);
+    too_short("a null second table", sleet_replace(&desk, set, length, first, ALL, NULL, ALL), 8, 1);
+    too_short("two null tables", sleet_replace(&desk, set, length, NULL, ALL, NULL, ALL), 0, 9);
+    replaced("a set", sleet_replace(&desk, set, length, first, ALL, second, ALL), 0, 1, 4);
     need("open", sleet_open(&desk).serial == 1);
-    fed("a null piece", sleet_feed(&desk, 1, table, SLEET_SPLIT_TABLE, NULL, 6), 0, 0, SLEET_STOP_ALL, 0);
-    fed("a null table fed", sleet_feed(&desk, 1, NULL, SLEET_SPLIT_TABLE, (const uint8_t *)"he", 2), 0, 0,
-        SLEET_STOP_DAMAGED, 0);
-    fed("a piece", sleet_feed(&desk, 1, table, SLEET_SPLIT_TABLE, (const uint8_t *)"ushers", 6), 0, 6,
-        SLEET_STOP_ALL, 3);
+    fed("a null piece", sleet_feed(&desk, 1, first, ALL, second, ALL, NULL, 6), 0, 0, SLEET_STOP_ALL, 0);
+    fed("a null table fed", sleet_feed(&desk, 1, NULL, ALL, second, ALL, ushers, 6), 0, 0, SLEET_STOP_DAMAGED, 0);
+    fed("a null second fed", sleet_feed(&desk, 1, first, ALL, NULL, ALL, ushers, 6), 0, 0, SLEET_STOP_DAMAGED, 0);
+    fed("a piece", sleet_feed(&desk, 1, first, ALL, second, ALL, ushers, 6), 0, 6, SLEET_STOP_ALL, 3);
     need("a null list takes nothing", sleet_take_many(&desk, NULL, 512) == 0 && desk.count == 3);
-    sleet_taken first = sleet_take(&desk);
-    need("take", first.refusal == 0 && first.record.serial == 1 && first.record.edition == 1 &&
-                     first.record.end == 4 && first.record.tag == 0);
-    need("a null set has no size", sleet_size(NULL, 28).refusal == SLEET_REFUSED_EMPTY);
-    need("nor a table", sleet_make_split(NULL, 28, table, 9).refusal == SLEET_REFUSED_EMPTY &&
+    sleet_taken oldest = sleet_take(&desk);
+    need("take", oldest.refusal == 0 && oldest.record.serial == 1 && oldest.record.edition == 1 &&
+                     oldest.record.end == 4 && oldest.record.tag == 0);
+}
+
+static void null_runs_outside_a_desk(void)
+{
+    uint8_t set[28];
+    uint16_t state = 0;
+    sleet_split_place place = sleet_split_start();
+    size_t length = sample_set(set, sizeof set);
+    const uint8_t *ushers = (const uint8_t *)"ushers";
+    need("a null set has no size", sleet_size(NULL, 28).refusal == SLEET_REFUSED_EMPTY &&
+                                       sleet_whole_size(NULL, 28).refusal == SLEET_REFUSED_EMPTY);
+    need("nor a table", sleet_make_split(NULL, 28, first, 9, second, 9).refusal == SLEET_REFUSED_EMPTY &&
                             sleet_make_whole(set, length, NULL, 9).refusal == SLEET_REFUSED_TABLE &&
-                            sleet_make_bitmap(NULL, 28, table, 9).refusal == SLEET_REFUSED_EMPTY);
-    sleet_built no_bitmap = sleet_make_bitmap(set, length, NULL, SLEET_BITMAP_TABLE);
-    need("a null bitmap table", no_bitmap.refusal == SLEET_REFUSED_TABLE &&
-                                    no_bitmap.machine == SLEET_BITMAP_MACHINE && no_bitmap.needs == 10);
-    was_read("a null list", sleet_scan_split(table, SLEET_SPLIT_TABLE, place, 0, (const uint8_t *)"ushers", 6, NULL, 9),
-             0, 3, SLEET_STOP_FULL, 0);
-    was_read("a null table scanned", sleet_scan_whole(NULL, 9, place, 0, NULL, 9, NULL, 9), SLEET_REFUSED_PLACE, 0,
+                            sleet_make_bitmap(NULL, 28, first, 9).refusal == SLEET_REFUSED_EMPTY);
+    sleet_built short_one = sleet_make_bitmap(set, length, NULL, SLEET_BITMAP_TABLE);
+    need("a null bitmap table", short_one.refusal == SLEET_REFUSED_TABLE &&
+                                    short_one.machine == SLEET_BITMAP_MACHINE && short_one.needs == 10);
+    short_one = sleet_make_split(set, length, first, ALL, NULL, ALL);
+    need("a null second table", short_one.refusal == SLEET_REFUSED_TABLE && short_one.machine == 8 &&
+                                    short_one.needs == 1);
+    need("two tables", sleet_make_split(set, length, first, ALL, second, SLEET_SPLIT_SLOT).tags == 4);
+    was_read("a null list",
+             sleet_scan_split(first, ALL, second, SLEET_SPLIT_SLOT, &place, 0, ushers, 6, NULL, 9), 0, 3,
+             SLEET_STOP_FULL, 0);
+    place = sleet_split_start();
+    was_read("a null second scanned", sleet_scan_split(first, ALL, NULL, ALL, &place, 0, ushers, 6, NULL, 9),
+             SLEET_REFUSED_PLACE, 0, SLEET_STOP_NONE, 0);
+    was_read("a null table scanned", sleet_scan_whole(NULL, 9, &state, 0, NULL, 9, NULL, 9), SLEET_REFUSED_PLACE, 0,
              SLEET_STOP_NONE, 0);
-    was_read("a null bitmap table scanned", sleet_scan_bitmap(NULL, 190, place, 0, NULL, 9, NULL, 9),
+    was_read("a null bitmap table scanned", sleet_scan_bitmap(NULL, 190, &state, 0, NULL, 9, NULL, 9),
+             SLEET_REFUSED_PLACE, 0, SLEET_STOP_NONE, 0);
+}
+
+/* One run lent for both tables, or two that share a number: nothing is built and nothing is read. Two
+   that lie side by side are two tables. */
+static void one_table_for_both(void)
+{
+    static uint16_t both[2 * SLEET_SPLIT_TABLE];
+    uint8_t set[28];
+    size_t length = sample_set(set, sizeof set);
+    const uint8_t *ushers = (const uint8_t *)"ushers";
+    uint16_t *behind = both + ALL;
+    sleet_split_place place = sleet_split_start();
+    sleet_desk desk = sleet_desk_new();
+    memset(both, 7, sizeof both);
+    too_short("the first again", sleet_replace(&desk, set, length, both, ALL, both, ALL), 8, 1);
+    too_short("its last number", sleet_replace(&desk, set, length, both, ALL, behind - 1, ALL), 8, 1);
+    too_short("before it", sleet_replace(&desk, set, length, behind, ALL, both, ALL + 1), 8, 1);
+    too_short("within it", sleet_replace(&desk, set, length, both, 2 * ALL, both + 24, 24), 8, 1);
+    sleet_built built = sleet_make_split(set, length, both, ALL, both, ALL);
+    need("outside a desk", built.refusal == SLEET_REFUSED_TABLE && built.machine == 8 && built.needs == 1);
+    need("nothing is written", both[0] == 0x0707 && both[ALL - 1] == 0x0707 && both[2 * ALL - 1] == 0x0707);
+    replaced("side by side", sleet_replace(&desk, set, length, both, ALL, behind, ALL), 0, 1, 4);
+    replaced("the other way", sleet_replace(&desk, set, length, behind, ALL, both, ALL), 0, 2, 4);
+    need("open", sleet_open(&desk).serial == 1);
+    fed("the first fed twice", sleet_feed(&desk, 1, behind, ALL, behind, ALL, ushers, 6), 0, 0, SLEET_STOP_DAMAGED, 0);
+    fed("both", sleet_feed(&desk, 1, behind, ALL, both, ALL, ushers, 6), 0, 6, SLEET_STOP_ALL, 3);
+    was_read("the first scanned twice", sleet_scan_split(both, ALL, both, ALL, &place, 0, ushers, 6, NULL, 0),
              SLEET_REFUSED_PLACE, 0, SLEET_STOP_NONE, 0);
 }
 
 /* What becomes of a ticket; and what is refused says nothing that could be taken for an answer. */
 static void states(void)
 {
-    static uint16_t table[SLEET_SPLIT_TABLE];
     uint8_t set[28];
     size_t length = sample_set(set, sizeof set);
     sleet_desk desk = sleet_desk_new();
     need("no ticket without a set", sleet_open(&desk).refusal == SLEET_REFUSED_NO_SET);
-    replaced("a set", sleet_replace(&desk, set, length, table, SLEET_SPLIT_TABLE), 0, 1, 4);
+    replaced("a set", sleet_replace(&desk, set, length, first, ALL, second, ALL), 0, 1, 4);
     need("never given", sleet_state(&desk, 1).state == SLEET_NEVER_GIVEN);
     need("three tickets", sleet_open(&desk).serial + sleet_open(&desk).serial + sleet_open(&desk).serial == 6);
-    fed("a piece", sleet_feed(&desk, 2, table, SLEET_SPLIT_TABLE, (const uint8_t *)"xyz", 3), 0, 3, SLEET_STOP_ALL, 0);
+    fed("a piece", sleet_feed(&desk, 2, first, ALL, second, ALL, (const uint8_t *)"xyz", 3), 0, 3, SLEET_STOP_ALL, 0);
     sleet_stated now = sleet_state(&desk, 2);
     need("open", now.state == SLEET_OPEN && now.edition == 1 && now.taken == 3);
     need("closed", sleet_close(&desk, 1).refusal == 0 && sleet_state(&desk, 1).state == SLEET_CLOSED);
-    replaced("a set", sleet_replace(&desk, set, length, table, SLEET_SPLIT_TABLE), 0, 2, 4);
+    replaced("a set", sleet_replace(&desk, set, length, first, ALL, second, ALL), 0, 2, 4);
     now = sleet_state(&desk, 2);
     need("stale", now.state == SLEET_STALE && now.edition == 1 && now.taken == 3);
     now = sleet_state(&desk, 1);
     need("still closed", now.state == SLEET_CLOSED && now.edition == 0 && now.taken == 0);
     need("never given", sleet_state(&desk, 4).state == SLEET_NEVER_GIVEN && sleet_state(&desk, 0).state < SLEET_STALE);
-    sleet_fed late = sleet_feed(&desk, 2, table, SLEET_SPLIT_TABLE, (const uint8_t *)"he", 2);
+    sleet_fed late = sleet_feed(&desk, 2, first, ALL, second, ALL, (const uint8_t *)"he", 2);
     fed("a stale ticket", late, SLEET_REFUSED_STALE, 0, SLEET_STOP_NONE, 0);
     need("its edition", late.edition == 1);
-    fed("a closed one", sleet_feed(&desk, 1, table, SLEET_SPLIT_TABLE, (const uint8_t *)"he", 2),
+    fed("a closed one", sleet_feed(&desk, 1, first, ALL, second, ALL, (const uint8_t *)"he", 2),
         SLEET_REFUSED_NO_TICKET, 0, SLEET_STOP_NONE, 0);
     need("closed twice", sleet_close(&desk, 1).refusal == SLEET_REFUSED_NO_TICKET);
     need("nothing to take", sleet_take(&desk).refusal == SLEET_REFUSED_NOTHING);
 }
 
-/* Runs of no elements, at addresses where nothing can be read. */
+/* Runs of no elements, at addresses where nothing can be read: over the two split tables. */
 static void empty_runs(int side)
+{
+    static const sleet_split_place start;
+    uint8_t set[28];
+    size_t length = sample_set(set, sizeof set);
+    uint16_t *no_numbers = (uint16_t *)guarded(0, 1);
+    uint8_t *no_bytes = (uint8_t *)no_numbers;
+    uint32_t *no_list = (uint32_t *)no_numbers;
+    uint16_t *table = guarded(2 * 240, side), *slot = guarded(2 * 24, side);
+    expect("slots, no bytes", sleet_slots_needed(no_bytes, 0), SLEET_REFUSED_EMPTY, 0, 0, 0, 0);
+    expect("split, no bytes", sleet_build_split(no_bytes, 0, table, 240, slot, 24), SLEET_REFUSED_EMPTY, 0, 0, 0, 0);
+    expect("split, no numbers", sleet_build_split(set, length, no_numbers, 0, slot, 24), SLEET_REFUSED_TABLE, 0, 9, 0,
+           0);
+    expect("split, no second", sleet_build_split(set, length, table, 240, no_numbers, 0), SLEET_REFUSED_TABLE, 8, 1, 0,
+           0);
+    expect("split", sleet_build_split(set, length, table, 240, slot, 24), 0, 4, 0, 0, 0);
+    sleet_split_reply r = sleet_read_split(no_numbers, 0, slot, 24, &start, 0, no_bytes, 0, no_list, 0);
+    expect("read, no numbers", r.answer, SLEET_REFUSED_PLACE, 0, 0, 0, 0);
+    r = sleet_read_split(table, 240, no_numbers, 0, &start, 0, no_bytes, 0, no_list, 0);
+    expect("read, no second", r.answer, SLEET_REFUSED_PLACE, 0, 0, 0, 0);
+    r = sleet_read_split(table, 240, slot, 24, &start, UINT32_MAX, no_bytes, 0, no_list, 0);
+    expect("read, no bytes", r.answer, 0, 0, SLEET_STOP_ALL, 0, 0);
+    r = sleet_read_split(table, 240, slot, 24, &start, 0, (const uint8_t *)"ushers", 6, no_list, 0);
+    expect("read, no list", r.answer, 0, 3, SLEET_STOP_FULL, 0, 0);
+}
+
+/* The same over a table of one machine. */
+static void empty_runs_of_one_table(int side)
 {
     uint8_t set[28];
     size_t length = sample_set(set, sizeof set);
-    static const uint16_t start[8];
     uint16_t *no_numbers = (uint16_t *)guarded(0, 1);
     uint8_t *no_bytes = (uint8_t *)no_numbers;
     uint32_t *no_list = (uint32_t *)no_numbers;
     uint16_t *table = guarded(2 * 240, side);
-    expect("slots, no bytes", sleet_slots_needed(no_bytes, 0), SLEET_REFUSED_EMPTY, 0, 0, 0, 0);
-    expect("split, no bytes", sleet_build_split(no_bytes, 0, table, 240), SLEET_REFUSED_EMPTY, 0, 0, 0, 0);
-    expect("split, no numbers", sleet_build_split(set, length, no_numbers, 0), SLEET_REFUSED_TABLE, 0, 9, 0, 0);
+    expect("whole slots, no bytes", sleet_whole_slots_needed(no_bytes, 0), SLEET_REFUSED_EMPTY, 0, 0, 0, 0);
     expect("whole, no numbers", sleet_build_whole(set, length, no_numbers, 0), SLEET_REFUSED_TABLE,
            SLEET_WHOLE_MACHINE, 10, 0, 0);
     expect("bitmap, no bytes", sleet_build_bitmap(no_bytes, 0, table, 240), SLEET_REFUSED_EMPTY, 0, 0, 0, 0);
@@ -162,13 +241,6 @@ static void empty_runs(int side)
     m = sleet_read_bitmap(table, 240, 0, 0, (const uint8_t *)"hxshe", 5, no_list, 0);
     expect("bitmap read, no list", m.answer, 0, 4, SLEET_STOP_FULL, 0, 1);
     need("its state", m.place == 5);
-    expect("split", sleet_build_split(set, length, table, 240), 0, 4, 0, 0, 0);
-    sleet_split_reply r = sleet_read_split(no_numbers, 0, start, 0, no_bytes, 0, no_list, 0);
-    expect("read, no numbers", r.answer, SLEET_REFUSED_PLACE, 0, 0, 0, 0);
-    r = sleet_read_split(table, 240, start, UINT32_MAX, no_bytes, 0, no_list, 0);
-    expect("read, no bytes", r.answer, 0, 0, SLEET_STOP_ALL, 0, 0);
-    r = sleet_read_split(table, 240, start, 0, (const uint8_t *)"ushers", 6, no_list, 0);
-    expect("read, no list", r.answer, 0, 3, SLEET_STOP_FULL, 0, 0);
     sleet_whole_reply w = sleet_read_whole(no_numbers, 0, 0, 0, no_bytes, 0, no_list, 0);
     expect("whole read, no numbers", w.answer, SLEET_REFUSED_PLACE, 0, 0, 0, 0);
 }
@@ -177,24 +249,26 @@ static void guarded_desk(int side)
 {
     size_t numbers = SLEET_SPLIT_TABLE + 23, room = 257;
     uint8_t *set = guarded(28, side), *piece = guarded(1500, side);
-    uint16_t *table = guarded(2 * numbers, side);
+    uint16_t *table = guarded(2 * numbers, side), *other = guarded(2 * numbers, side);
     sleet_record *list = guarded(room * sizeof *list, side);
     sleet_desk *desk = guarded(sizeof *desk, side);
     size_t length = sample_set(set, 28);
     for (size_t i = 0; i < 1500; i++)
         piece[i] = (uint8_t) "ushers"[i % 6];
     *desk = sleet_desk_new();
-    replaced("replace", sleet_replace(desk, set, length, table, numbers), 0, 1, 4);
+    replaced("replace", sleet_replace(desk, set, length, table, numbers, other, numbers), 0, 1, 4);
+    need("slots", desk->slots[0] == 479 && desk->slots[1] == 479);
     need("open", sleet_open(desk).serial == 1);
     /* 3 records in 6 bytes: 255 after 510, then 3 bytes without a match, then one with two */
-    fed("feed", sleet_feed(desk, 1, table, numbers, piece, 1500), 0, 513, SLEET_STOP_FULL, 255);
+    fed("feed", sleet_feed(desk, 1, table, numbers, other, numbers, piece, 1500), 0, 513, SLEET_STOP_FULL, 255);
     need("take_many", sleet_take_many(desk, list, room) == 255 && desk->count == 0);
-    static const sleet_record first = {1, 1, 4, 0}, last = {1, 1, 510, 3}, none = {0, 0, 0, 0};
-    need("its first record", memcmp(&list[0], &first, sizeof first) == 0);
+    static const sleet_record oldest = {1, 1, 4, 0}, last = {1, 1, 510, 3}, none = {0, 0, 0, 0};
+    need("its first record", memcmp(&list[0], &oldest, sizeof oldest) == 0);
     need("its last record", memcmp(&list[254], &last, sizeof last) == 0);
     need("what lies behind", memcmp(&list[255], &none, sizeof none) == 0 && list[room - 1].tag == 0);
     /* it goes on with that byte: 255 after 510 once more, and again one with two */
-    fed("feed on", sleet_feed(desk, 1, table, numbers, piece + 513, 987), 0, 510, SLEET_STOP_FULL, 255);
+    fed("feed on", sleet_feed(desk, 1, table, numbers, other, numbers, piece + 513, 987), 0, 510, SLEET_STOP_FULL,
+        255);
     need("room for two", sleet_take_many(desk, list + room - 2, 2) == 2 && desk->count == 253);
     need("close", sleet_close(desk, 1).refusal == 0);
 }
@@ -223,29 +297,64 @@ static void guarded_gate(int side)
 static void guarded_tables(int side)
 {
     uint8_t *set = guarded(28, side), *piece = guarded(6, side);
-    uint16_t *split = guarded(2 * 240, side), *whole = guarded(2 * 2570, side);
-    uint16_t *place = guarded(16, side), *state = guarded(2, side);
+    uint16_t *split = guarded(2 * 240, side), *slot = guarded(2 * 24, side), *whole = guarded(2 * 2570, side);
+    sleet_split_place *place = guarded(sizeof *place, side);
+    uint16_t *state = guarded(2, side);
     sleet_found *list = guarded(3 * sizeof *list, side);
     size_t length = sample_set(set, 28);
     memcpy(piece, "ushers", 6);
     sleet_needed size = sleet_size(set, length);
-    need("slots", size.refusal == 0 && size.split_slots == 10 && size.whole_slots == 10);
-    need("split", sleet_make_split(set, length, split, 240).tags == 4);
+    need("slots", size.refusal == 0 && size.first_slots == 10 && size.second_slots == 1);
+    need("whole slots", sleet_whole_size(set, length).refusal == 0 && sleet_whole_size(set, length).slots == 10);
+    need("split", sleet_make_split(set, length, split, 240, slot, 24).tags == 4);
     need("whole", sleet_make_whole(set, length, whole, 2570).tags == 4);
-    was_read("scan split", sleet_scan_split(split, 240, place, 0, piece, 6, list, 3), 0, 6, SLEET_STOP_ALL, 3);
+    was_read("scan split", sleet_scan_split(split, 240, slot, 24, place, 0, piece, 6, list, 3), 0, 6, SLEET_STOP_ALL,
+             3);
     static const sleet_found records[3] = {{4, 0}, {4, 1}, {6, 3}};
     need("its records", memcmp(list, records, sizeof records) == 0);
     memset(list, 0, sizeof records);
     was_read("scan whole", sleet_scan_whole(whole, 2570, state, 0, piece, 6, list, 3), 0, 6, SLEET_STOP_ALL, 3);
     need("its records", memcmp(list, records, sizeof records) == 0);
     need("its place", *state != 0);
-    memset(place, 0, 16);
-    place[7] = 10;
-    was_read("a place outside", sleet_scan_split(split, 240, place, 0, piece, 6, list, 3), SLEET_REFUSED_PLACE, 0,
-             SLEET_STOP_NONE, 0);
-    need("the place given", place[7] == 10 && place[0] == 0);
+    *place = sleet_split_start();
+    place->states[7] = 10;
+    was_read("a place outside", sleet_scan_split(split, 240, slot, 24, place, 0, piece, 6, list, 3),
+             SLEET_REFUSED_PLACE, 0, SLEET_STOP_NONE, 0);
+    need("the place given", place->states[7] == 10 && place->states[0] == 0);
+    place->states[7] = 0, place->states[15] = 1;
+    was_read("one outside the second", sleet_scan_split(split, 240, slot, 24, place, 0, piece, 6, list, 3),
+             SLEET_REFUSED_PLACE, 0, SLEET_STOP_NONE, 0);
     was_read("too long", sleet_scan_whole(whole, 2570, state, UINT32_MAX, piece, 6, list, 3), SLEET_REFUSED_LONG, 0,
              SLEET_STOP_NONE, 0);
+}
+
+/* He folded and He exact: each table has the slots that it needs and no number more. */
+static void guarded_kinds(int side)
+{
+    uint8_t *set = guarded(12, side), *piece = guarded(6, side);
+    uint16_t *exact = guarded(2 * 72, side), *folded = guarded(2 * 72, side);
+    sleet_split_place *place = guarded(sizeof *place, side);
+    sleet_found *list = guarded(4 * sizeof *list, side);
+    sleet_added at = sleet_set_add_folded(set, 12, 0, "He", 2);
+    at = sleet_set_add(set, 12, at.length, "He", 2);
+    need("two entries", at.added && at.length == 12 && set[2] == SLEET_KIND_FOLDED && set[8] == SLEET_KIND_EXACT);
+    memcpy(piece, "hehEHe", 6);
+    sleet_needed size = sleet_size(set, 12);
+    need("slots", size.refusal == 0 && size.first_slots == 3 && size.second_slots == 3);
+    sleet_whole_needed none = sleet_whole_size(set, 12);
+    need("no whole slots", none.refusal == SLEET_REFUSED_KIND && none.entry == 0 && none.slots == 0);
+    need("no whole table", sleet_make_whole(set, 12, exact, 72).refusal == SLEET_REFUSED_KIND &&
+                               sleet_make_bitmap(set, 12, exact, 72).refusal == SLEET_REFUSED_KIND);
+    sleet_built said = sleet_make_split(set, 12, exact, 72, folded, 71);
+    need("short", said.refusal == SLEET_REFUSED_TABLE && said.machine == 8 && said.needs == 3 && exact[0] == 0);
+    need("both", sleet_make_split(set, 12, exact, 72, folded, 72).tags == 2);
+    was_read("scan", sleet_scan_split(exact, 72, folded, 72, place, 0, piece, 6, list, 4), 0, 6, SLEET_STOP_ALL, 4);
+    static const sleet_found records[4] = {{2, 0}, {4, 0}, {6, 0}, {6, 1}};
+    need("its records", memcmp(list, records, sizeof records) == 0);
+    need("its place", place->states[0] == 2 && place->states[15] == 2);
+    *place = sleet_split_start();
+    was_read("room for three", sleet_scan_split(exact, 72, folded, 72, place, 0, piece, 6, list, 3), 0, 5,
+             SLEET_STOP_FULL, 2);
 }
 
 /* The same over a bitmap table; and over one that was written over, which is walked as its numbers say. */
@@ -295,6 +404,8 @@ static void entries(void)
     need("an entry without bytes", said.added && said.length == 4 && set[2] == 1);
     expect("it is refused", sleet_slots_needed(set, 4), SLEET_REFUSED_LENGTH, 0, 0, 0, 0);
     need("a tag that nobody can read", not_added(sleet_set_add(set, 40, 4, NULL, 2), 4) && set[4] == 0);
+    need("a folded one", not_added(sleet_set_add_folded(set, 40, 4, NULL, 2), 4) && set[4] == 0);
+    need("no room for a folded one", not_added(sleet_set_add_folded(set, 40, 35, "he", 2), 35) && set[35] == 0);
     sleet_tags tags = sleet_tags_none();
     need("no tags are no set", sleet_size(tags.bytes, tags.length).refusal == SLEET_REFUSED_EMPTY);
     need("too long for any room", !sleet_tags_add(&tags, set, SIZE_MAX) && tags.length == 4);
@@ -307,6 +418,10 @@ static void entries(void)
     need("a tag that nobody can read", sleet_tags_add(&tags, "he", 2) && !sleet_tags_add(&tags, NULL, 2));
     sleet_needed size = sleet_size(tags.bytes, tags.length);
     need("makes no lawful set", size.refusal == SLEET_REFUSED_LENGTH && size.entry == 1);
+    tags = sleet_tags_none();
+    need("nor a folded one", sleet_tags_add_folded(&tags, "he", 2) && !sleet_tags_add_folded(&tags, NULL, 2));
+    size = sleet_size(tags.bytes, tags.length);
+    need("which is said", size.refusal == SLEET_REFUSED_LENGTH && size.entry == 1);
 }
 
 static void names(void)
@@ -326,14 +441,18 @@ static void *all(void *unused)
 {
     need("one version", sleet_version() == SLEET_VERSION);
     null_runs();
+    null_runs_outside_a_desk();
+    one_table_for_both();
     states();
     entries();
     names();
     for (int side = 0; side < 2; side++) {
         empty_runs(side);
+        empty_runs_of_one_table(side);
         guarded_desk(side);
         guarded_gate(side);
         guarded_tables(side);
+        guarded_kinds(side);
         guarded_bitmap(side);
     }
     return unused;

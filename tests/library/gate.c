@@ -15,14 +15,15 @@ static void need(const char *what, int fact)
     exit(1);
 }
 
-/* Puts tags in force that are separated by blanks; gives the edition. */
+/* Puts tags in force that are separated by blanks, those behind a ~ as folded ones; gives the edition. */
 static uint32_t in_force(const char *words)
 {
     sleet_tags tags = sleet_tags_none();
     size_t count = 0;
     for (size_t length; *words != 0; words += length + (words[length] == ' ')) {
         length = strcspn(words, " ");
-        need("a tag fits", sleet_tags_add(&tags, words, length));
+        need("a tag fits", *words == '~' ? sleet_tags_add_folded(&tags, words + 1, length - 1)
+                                         : sleet_tags_add(&tags, words, length));
         count++;
     }
     sleet_replaced said = sleet_change(&g, tags.bytes, tags.length);
@@ -169,6 +170,40 @@ static void across_a_cut(void)
     }
 }
 
+/* Phones rewrite tags in capitals: a folded tag is held in either case, an exact one beside it isn't. */
+static void either_case(void)
+{
+    static const struct {
+        const char *text;
+        uint64_t mask;
+    } cases[] = {{"from preview-17", 5},     {"FROM PREVIEW-17", 1}, {"pReViEw-17", 1}, {"from preview-23", 2},
+                 {"FROM PREVIEW-23", 0},     {"Preview-23", 0},      {"PREVIEW-1", 0},  {"@PREVIEW-17[ preview-23", 3},
+                 {"preview-17 preview-23", 7}};
+    sleet_gateway_start(&g);
+    in_force("~Preview-17 preview-23 preview-17");
+    for (size_t i = 0; i < sizeof cases / sizeof cases[0]; i++) {
+        for (size_t cut = 0; cut <= strlen(cases[i].text); cut++) {
+            uint32_t one = begun();
+            need("its front", sleet_piece(&g, one, (const uint8_t *)cases[i].text, cut).whole);
+            hand(one, cases[i].text + cut);
+            verdict(cases[i].text, one, cases[i].mask ? SLEET_HOLD : SLEET_PASS, cases[i].mask, 0);
+        }
+    }
+}
+
+/* A folded tag again is refused in whatever case, and the exact tag of the same bytes isn't. */
+static void folded_again(void)
+{
+    sleet_tags tags = sleet_tags_none();
+    sleet_gateway_start(&g);
+    need("three tags", sleet_tags_add_folded(&tags, "he", 2) && sleet_tags_add(&tags, "HE", 2) &&
+                           sleet_tags_add(&tags, "he", 2));
+    need("are lawful", sleet_change(&g, tags.bytes, tags.length).tags == 3);
+    need("a fourth", sleet_tags_add_folded(&tags, "hE", 2));
+    sleet_replaced said = sleet_change(&g, tags.bytes, tags.length);
+    need("is a repeat", said.refusal == SLEET_REFUSED_REPEAT && said.entry == 3 && sleet_edition(&g) == 1);
+}
+
 static void sixteen_at_once(void)
 {
     uint32_t all[SLEET_MOST_TICKETS];
@@ -221,12 +256,18 @@ static void cut_pieces(void)
     hand(lost, "us");
     verdict("what nobody could read can't pass", lost, SLEET_UNREAD, 0, 0);
     hand(tagged, "he");
-    memcpy(kept, &g.table, sizeof kept);
-    memset(&g.table, 255, sizeof g.table);
+    memcpy(kept, &g.first, sizeof kept);
+    memset(&g.first, 255, sizeof g.first);
     sleet_pieced said = sleet_piece(&g, one, (const uint8_t *)"us", 2);
     need("cut", said.refusal == SLEET_ACCEPTED && !said.whole && said.taken < 2);
     need("cut too", !sleet_piece(&g, tagged, (const uint8_t *)"us", 2).whole);
-    memcpy(&g.table, kept, sizeof kept);
+    memcpy(&g.first, kept, sizeof kept);
+    uint32_t damaged = begun();
+    memcpy(kept, &g.second, sizeof kept);
+    memset(&g.second, 255, sizeof g.second);
+    need("cut by the second table", !sleet_piece(&g, damaged, (const uint8_t *)"us", 2).whole);
+    memcpy(&g.second, kept, sizeof kept);
+    verdict("it can't pass either", damaged, SLEET_UNREAD, 0, 0);
     hand(one, "us");
     hand(other, "us");
     verdict("what was cut can't pass, though the table is mended", one, SLEET_UNREAD, 0, 0);
@@ -272,10 +313,11 @@ static void sets_of_all_lengths(void)
         size_t count = (size_t)round % 24, longest = round % 7 == 0 ? 700 : 33, lawful = count > 0 && count <= 16;
         for (size_t i = 0; i < count; i++) {
             seed ^= seed << 13, seed ^= seed >> 7, seed ^= seed << 17;
+            int folded = (seed >> 40 & 1) != 0;
             size_t length = round % 2 ? seed % (longest + 1) : 1 + seed % 32;
             memset(tag, (int)(1 + i), sizeof tag);
             lawful = lawful && length >= 1 && length <= SLEET_LONGEST_TAG;
-            int added = sleet_tags_add(&tags, tag, length);
+            int added = folded ? sleet_tags_add_folded(&tags, tag, length) : sleet_tags_add(&tags, tag, length);
             (void)added;
         }
         sleet_gateway_start(&g);
@@ -296,6 +338,8 @@ int main(void)
     refused_set();
     full_of_another();
     across_a_cut();
+    either_case();
+    folded_again();
     sixteen_at_once();
     decided_twice();
     cut_pieces();

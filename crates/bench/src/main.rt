@@ -6,11 +6,11 @@ use desk::Replacing;
 use desk::Serial;
 ghost use mathlib.Core.Path.{_≡_};
 ghost use lib.ListN.{length, take};
-ghost use Rattle.desk.specs.Layout.{bySet, oneBit};
+ghost use Rattle.desk.specs.Layout.{bySet, lent, oneBit, sizes};
 ghost use Rattle.desk.specs.Calls.{newDesk};
 ghost use Rattle.desk.specs.Replace.{replaceOf, replacedRun};
 
-// 479 slots of 24 numbers: what the largest set needs.
+// 479 slots of 24 numbers: what the largest set needs in each table.
 fn new_table() -> [u16; 11496]
     ensures { λ r. ⌜ 11496 ≡ length r ⌝ }
 {
@@ -29,15 +29,22 @@ fn read_set(bytes: &mut [u8; 4096]) -> usize {
 }
 
 // A new desk under the set of the first n bytes.
-fn replaced(set: &[u8; 4096], n: usize, table: &mut [u16; 11496]) -> Replacing
-    ensures { λ r. ⌜ r ≡ replaceOf (newDesk oneBit) (bySet (take n (now (set .entry)))) (length (now (table .entry))) ⌝ }
-    ensures { λ _. ⌜ now (table .exit) ≡ replacedRun (newDesk oneBit) (bySet (take n (now (set .entry)))) (now (table .entry)) ⌝ }
+fn replaced(
+    set: &[u8; 4096],
+    n: usize,
+    first: &mut [u16; 11496],
+    second: &mut [u16; 11496],
+) -> Replacing
+    ensures { λ r. ⌜ r ≡ replaceOf (newDesk oneBit) (bySet (take n (now (set .entry))))
+        (sizes (length (now (first .entry))) (length (now (second .entry)))) ⌝ }
+    ensures { λ _. ⌜ lent (now (first .exit)) (now (second .exit))
+        ≡ replacedRun (newDesk oneBit) (bySet (take n (now (set .entry)))) (lent (now (first .entry)) (now (second .entry))) ⌝ }
 {
     let bytes: &[u8] = set;
     if n < bytes.len() {
-        return Desk::new().replace(&bytes[0..n], table);
+        return Desk::new().replace(&bytes[0..n], first, second);
     }
-    Desk::new().replace(bytes, table)
+    Desk::new().replace(bytes, first, second)
 }
 
 fn is_replaced(answer: ReplaceAnswer) -> bool {
@@ -66,7 +73,8 @@ fn next_piece(
     fd: i32,
     desk: Desk,
     serial: Serial,
-    table: &[u16; 11496],
+    first: &[u16; 11496],
+    second: &[u16; 11496],
     out: &mut [u8; 65536],
     used: usize,
 ) -> Turn {
@@ -79,7 +87,7 @@ fn next_piece(
             more: false,
         };
     }
-    let fed = serving::feed_piece(desk, serial, table, &piece[..n], out, used);
+    let fed = serving::feed_piece(desk, serial, first, second, &piece[..n], out, used);
     let next = fed.desk;
     Turn {
         desk: next,
@@ -101,7 +109,8 @@ fn feed_all(
     fd: i32,
     desk: Desk,
     serial: Serial,
-    table: &[u16; 11496],
+    first: &[u16; 11496],
+    second: &[u16; 11496],
     out: &mut [u8; 65536],
     used: usize,
 ) -> usize {
@@ -109,7 +118,7 @@ fn feed_all(
     let mut put = used;
     let mut turns = u64::MAX;
     while turns > 0 {
-        let turn = next_piece(fd, now, serial, table, out, put);
+        let turn = next_piece(fd, now, serial, first, second, out, put);
         let next = turn.desk;
         now = next;
         put = turn.used;
@@ -122,21 +131,28 @@ fn feed_all(
 }
 
 // Opens the ticket and feeds it the whole input.
-fn serve(desk: Desk, table: &[u16; 11496], out: &mut [u8; 65536], used: usize) -> usize {
+fn serve(
+    desk: Desk,
+    first: &[u16; 11496],
+    second: &[u16; 11496],
+    out: &mut [u8; 65536],
+    used: usize,
+) -> usize {
     let opening = desk.open();
     let opened = opening.desk;
     let answer = opening.answer;
     let serial = serial_of(answer);
     let fd = os::open_read(b"input.bin");
-    feed_all(fd, opened, serial, table, out, used)
+    feed_all(fd, opened, serial, first, second, out, used)
 }
 
 fn main() {
     let mut set = io::buffer();
-    let mut table = new_table();
+    let mut first = new_table();
+    let mut second = new_table();
     let mut out = io::large_buffer();
     let n = read_set(&mut set);
-    let replacing = replaced(&set, n, &mut table);
+    let replacing = replaced(&set, n, &mut first, &mut second);
     let desk = replacing.desk;
     let answer = replacing.answer;
     let used = serving::lines::put_answer(&mut out, 0, answer);
@@ -144,6 +160,6 @@ fn main() {
         output::flush(&out, used);
         return;
     }
-    let end = serve(desk, &table, &mut out, used);
+    let end = serve(desk, &first, &second, &mut out, used);
     output::flush(&out, end);
 }

@@ -23,13 +23,13 @@ use Rattle.desk.specs.declared.Replacing.{Replacing}
 use Rattle.history.specs.Demand3.{first-part, no-others, numbered}
 use Rattle.history.specs.History.{Account, accountAt, grown, noAccount, onSerial, Proper, recordsDue, replacing, run, start, step, stream, World}
 use Rattle.matching.specs.Words.{AllBelow, Below, Word}
-use Rattle.tagset.specs.Grammar.{goodSet, setOf}
+use Rattle.tagset.specs.Grammar.{goodSet}
 use Rattle.benchlines.specs.Laws.Acts.{Comes, all-comes}
 use Rattle.serving.specs.Lines.{linesOf}
 use Rattle.serving.specs.Serving.{ServedAll}
-use Rattle.desk.specs.Layout.{bySet, Lent, oneBit, sizesOf}
+use Rattle.desk.specs.Layout.{bySet, deskSet, Lent, oneBit, sizesOf}
 use Rattle.history.specs.Laws.Becomes.{proper-append, proper-one}
-use Rattle.matching.specs.Tags.{Tags, exact, foundIn}
+use Rattle.matching.specs.Tags.{Tags, foundIn}
 use Rattle.desk.specs.Laws.Layout.{order-set}
 
 -- records of one serial alone
@@ -49,11 +49,11 @@ only-one n (r ∷ rs) f = go (eqb (r .serial .0) n) refl (only-one n rs (λ m ot
         let none : (r ∷ recordsFor (r .serial .0) rs) ≡ [] = rw own at (f (r .serial .0) (eqb-false (r .serial .0) n e)) in
         absurd (let z : _≡_ {A = ℕ} 0 1 = cc in omega arith)
 
-abbrev pub accountOf : List Word → Word → Account
-accountOf ts bytes = record { serial = 1; edition = 1; tags = exact ts; bytes = bytes; closed = false }
+abbrev pub accountOf : Tags → Word → Account
+accountOf ts bytes = record { serial = 1; edition = 1; tags = ts; bytes = bytes; closed = false }
 
 -- the set replaced and the ticket opened: what the history then says
-pub record Begun (ts : List Word) (w : World) (d : Desk) (table : Lent) : Type 0 where
+pub record Begun (ts : Tags) (w : World) (d : Desk) (table : Lent) : Type 0 where
   pub desk-is : w .desk ≡ d
   pub table-is : w .table ≡ table
   pub out-is : w .out ≡ []
@@ -61,7 +61,7 @@ pub record Begun (ts : List Word) (w : World) (d : Desk) (table : Lent) : Type 0
   pub edition-is : w .edition ≡ 1
   pub empty : w .desk .records .count ≡ 0
 
-pub begun : (set : List ℕ) (lent : Lent) (ts : List Word) (edition : Edition) (count : ℕ) → setOf set ≡ goodSet ts
+pub begun : (set : List ℕ) (lent : Lent) (ts : Tags) (edition : Edition) (count : ℕ) → deskSet set ≡ goodSet ts
     → replaceOf (newDesk oneBit) (bySet set) (sizesOf lent) .answer ≡ R.Replaced edition count
     → Begun ts (step (step (start oneBit) (callReplace (bySet set) lent)) callOpen)
     (openOf (replaceOf (newDesk oneBit) (bySet set) (sizesOf lent) .desk) .desk) (replacedRun (newDesk oneBit) (bySet set) lent)
@@ -90,12 +90,12 @@ none-held d e = length-none (held (d .records)) (held-length (d .records) ∙ e)
     length-none [] h = refl
     length-none (r ∷ l) h = absurd (omega arith)
 
-pub writes-the-occurrences : (set : List ℕ) (lent : Lent) (ts : List Word) (edition : Edition) (count : ℕ) (pieces : List Word) (e : Desk) (lines : List ℕ)
+pub writes-the-occurrences : (set : List ℕ) (lent : Lent) (ts : Tags) (edition : Edition) (count : ℕ) (pieces : List Word) (e : Desk) (lines : List ℕ)
     (bytes : Word)
-    → Below 256 set → setOf set ≡ goodSet ts → replaceOf (newDesk oneBit) (bySet set) (sizesOf lent) .answer ≡ R.Replaced edition count → AllBelow 256 pieces
+    → Below 256 set → deskSet set ≡ goodSet ts → replaceOf (newDesk oneBit) (bySet set) (sizesOf lent) .answer ≡ R.Replaced edition count → AllBelow 256 pieces
     → ServedAll (serialOf 1) (replacedRun (newDesk oneBit) (bySet set) lent)
     (openOf (replaceOf (newDesk oneBit) (bySet set) (sizesOf lent) .desk) .desk) pieces e lines bytes
-    → lines ≡ linesOf (recordsOf (serialOf 1) (editionOf 1) (foundIn (exact ts) bytes))
+    → lines ≡ linesOf (recordsOf (serialOf 1) (editionOf 1) (foundIn ts bytes))
 unfolding run onSerial
 writes-the-occurrences set lent ts edition count pieces e lines bytes below tags accepted small served = c .lines-are ∙ ap linesOf same
   where
@@ -142,7 +142,7 @@ writes-the-occurrences set lent ts edition count pieces e lines bytes below tags
             let first-only : k ≡ 0 = omega (arith, few, ap (λ (l : List Account). length l) accounts) in
             other (sym own ∙ ap (λ (i : ℕ). accountAt (run (start oneBit) calls) i .serial) first-only ∙ ap (λ (a : Account). a .serial) account)
 
-    same : c .records ≡ recordsOf (serialOf 1) (editionOf 1) (foundIn (exact ts) bytes)
+    same : c .records ≡ recordsOf (serialOf 1) (editionOf 1) (foundIn ts bytes)
     same =
         sym stream-is
         ∙ sym (only-one 1 (stream (run (start oneBit) calls)) alone)

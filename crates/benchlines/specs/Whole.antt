@@ -31,22 +31,22 @@ use Rattle.history.specs.Served.{joined}
 use Rattle.matching.specs.Words.{AllBelow, Below, Word}
 use Rattle.serving.specs.Lines.{linesOf}
 use Rattle.serving.specs.Serving.{Served, ServedAll, all-taken, no-piece, none-taken, one-piece, restTaken, some-taken}
-use Rattle.tagset.specs.Grammar.{goodSet, setOf}
+use Rattle.tagset.specs.Grammar.{goodSet}
 use Rattle.benchlines.specs.Laws.Acts.{Comes, rest-comes-by, served-comes}
 use Rattle.benchlines.specs.Occurrences.{Begun, accountOf, begun, writes-the-occurrences}
-use Rattle.desk.specs.Layout.{bySet, Lent, oneBit, sizesOf}
+use Rattle.desk.specs.Layout.{bySet, deskSet, Lent, oneBit, sizesOf}
 use Rattle.desk.specs.Reached.{Call, callOpen, callReplace}
-use Rattle.matching.specs.Tags.{exact, foundIn}
+use Rattle.matching.specs.Tags.{Tags, foundIn}
 use Rattle.matching.specs.Limits.{largest}
 
 -- a history in which the one ticket is open and has taken these bytes, and no record is held
-pub record Ready (ts : List Word) (before : Word) (calls : List Call) : Type 0 where
+pub record Ready (ts : Tags) (before : Word) (calls : List Call) : Type 0 where
   pub proper : Proper (start oneBit) calls
   pub accounts-are : run (start oneBit) calls .accounts ≡ accountOf ts before ∷ []
   pub edition-is : run (start oneBit) calls .edition ≡ 1
   pub empty : run (start oneBit) calls .desk .records .count ≡ 0
 
-module _ {ts : List Word} {before : Word} {calls : List Call} (ready : Ready ts before calls) where
+module _ {ts : Tags} {before : Word} {calls : List Call} (ready : Ready ts before calls) where
   abbrev w : World
   w = run (start oneBit) calls
 
@@ -98,7 +98,7 @@ parts-length : (before piece : Word) (t : ℕ) → t ≤ length piece → length
 parts-length before piece t h = omega (arith, length-append before (take t piece), length-take-le t piece h, length-drop t piece)
 
 -- a piece that isn't LONG is taken whole
-whole : {ts : List Word} {before : Word} (calls : List Call) {table : Lent} {d e : Desk} {piece : Word} {lines : List ℕ} {n : ℕ} → Ready ts before calls
+whole : {ts : Tags} {before : Word} (calls : List Call) {table : Lent} {d e : Desk} {piece : Word} {lines : List ℕ} {n : ℕ} → Ready ts before calls
     → run (start oneBit) calls .desk ≡ d → run (start oneBit) calls .table ≡ table → Below 256 piece → length before + length piece ≤ largest
     → Served (serialOf 1) table d piece e lines n → n ≡ length piece
 whole calls ready at lent below few all-taken = refl
@@ -117,7 +117,7 @@ whole {before = before} calls {table} {d} {piece = piece} ready at lent below fe
     (ap (λ (x : World). x .table) same ∙ c .table-is ∙ lent) (below-rest t piece below) left more in
     omega (arith, rest, part, length-drop t piece)
 
-whole-input : {ts : List Word} {before : Word} (calls : List Call) {table : Lent} {d e : Desk} {pieces : List Word} {lines : List ℕ} {bytes : Word}
+whole-input : {ts : Tags} {before : Word} (calls : List Call) {table : Lent} {d e : Desk} {pieces : List Word} {lines : List ℕ} {bytes : Word}
     → Ready ts before calls
     → run (start oneBit) calls .desk ≡ d → run (start oneBit) calls .table ≡ table → AllBelow 256 pieces → length before + length (joined pieces) ≤ largest
     → ServedAll (serialOf 1) table d pieces e lines bytes → bytes ≡ joined pieces
@@ -137,18 +137,18 @@ whole-input {before = before} calls ready at lent below few (one-piece {piece = 
     ap (λ (x : Word). x ++ bytes) all ∙ ap (λ (x : Word). piece ++ x) rest
 
 -- so bench writes the occurrences in the whole input
-pub whole-input-written : (set : List ℕ) (lent : Lent) (ts : List Word) (edition : Edition) (count : ℕ) (pieces : List Word) (e : Desk) (lines : List ℕ)
+pub whole-input-written : (set : List ℕ) (lent : Lent) (ts : Tags) (edition : Edition) (count : ℕ) (pieces : List Word) (e : Desk) (lines : List ℕ)
     (bytes : Word)
-    → Below 256 set → setOf set ≡ goodSet ts → replaceOf (newDesk oneBit) (bySet set) (sizesOf lent) .answer ≡ R.Replaced edition count → AllBelow 256 pieces
+    → Below 256 set → deskSet set ≡ goodSet ts → replaceOf (newDesk oneBit) (bySet set) (sizesOf lent) .answer ≡ R.Replaced edition count → AllBelow 256 pieces
     → length (joined pieces) ≤ largest
     → ServedAll (serialOf 1) (replacedRun (newDesk oneBit) (bySet set) lent)
     (openOf (replaceOf (newDesk oneBit) (bySet set) (sizesOf lent) .desk) .desk) pieces e lines bytes
-    → (bytes ≡ joined pieces) × (lines ≡ linesOf (recordsOf (serialOf 1) (editionOf 1) (foundIn (exact ts) (joined pieces))))
+    → (bytes ≡ joined pieces) × (lines ≡ linesOf (recordsOf (serialOf 1) (editionOf 1) (foundIn ts (joined pieces))))
 unfolding run
 whole-input-written set lent ts edition count pieces e lines bytes below tags accepted small few served = (
   taken,
   writes-the-occurrences set lent ts edition count pieces e lines bytes below tags accepted small served
-      ∙ ap (λ (x : Word). linesOf (recordsOf (serialOf 1) (editionOf 1) (foundIn (exact ts) x))) taken,
+      ∙ ap (λ (x : Word). linesOf (recordsOf (serialOf 1) (editionOf 1) (foundIn ts x))) taken,
 )
   where
     b : Begun ts (run (start oneBit) (callReplace (bySet set) lent ∷ callOpen ∷ []))

@@ -21,12 +21,13 @@ use Rattle.bitmap.specs.Levels.{byLevel}
 use Rattle.bitmap.specs.Moves.{movesIn}
 use Rattle.bitmap_reading.specs.Outside.{readMapOf}
 use Rattle.bitmap_reading.specs.Reading.{Standing}
-use Rattle.bitmap_tables.specs.Building.{mapBuiltOf}
+use Rattle.bitmap_tables.specs.Building.{mapBuiltOf, mapKinds}
+use Rattle.matching.specs.Tags.{exact}
 
--- a bitmap table as building left it, of a set of bytes, over a lent run of numbers
+-- a bitmap table as building left it, of a set of bytes, over a lent run of numbers: its tags are exact ones
 pub record MapAsBuilt (set run : List ℕ) (ts : List Word) : Type 0 where
   pub bytes : Below 256 set
-  pub tags : setOf set ≡ goodSet ts
+  pub tags : setOf mapKinds set ≡ goodSet (exact ts)
   pub answered : mapBuiltOf set (length run) ≡ B.Tags (length ts)
 
 -- what a row of readings comes to: the bytes taken, the records written, why each that was not refused stopped, the state then, and all their moves

@@ -16,7 +16,10 @@ use Rattle.bitmap.specs.Moves.{movesIn, movesOn}
 use Rattle.bitmap.specs.Slots.{bitsFrom, built, firstChild, roomIn, slot}
 use Rattle.bitmap.specs.Steps.{arrived, inMap, numberAt, onesBelow, onesOver, step, stepBy}
 use Rattle.bitmap_reading.specs.Reading.{mapStep, readMap}
-use Rattle.tagset.specs.Grammar.{distinct, entriesFrom, entryOf, setOf}
+use Rattle.tagset.specs.Grammar.{amongTags, distinct, entriesFrom, entryOf, setOf}
+use Rattle.matching.specs.Kinds.{asRead, isAmong, kindOf, lower}
+use Rattle.matching.specs.Parts.{hasPart, kindsFor}
+use Rattle.matching.specs.Tags.{chosen}
 use Rattle.bitmap_tables.specs.Building.{mapBuiltOf}
 use Rattle.bitmap_alike.specs.Readings.{MapAsBuilt}
 use mathlib.Core.Bool.{true}
@@ -71,11 +74,13 @@ bytes-by (c ∷ w) e = (ltb-true c 256 (and-l (ltb c 256) (allBelow 256 w) e), b
 
 -- what the theorems ask of a table is so of it: ten slots are enough, and nine are not
 pub bitmap-built : MapAsBuilt set (replicate 190 0) tags
-unfolding byLevel levels below childrenFrom among begins beginsOne same entryOf entriesFrom distinct setOf mapBuiltOf roomIn allBelow
+unfolding byLevel levels below childrenFrom among begins beginsOne same entryOf entriesFrom distinct setOf amongTags isAmong kindOf chosen hasPart
+    kindsFor asRead lower mapBuiltOf roomIn allBelow
 bitmap-built = record { bytes = bytes-by set refl; tags = refl; answered = refl }
 
 pub one-slot-short : mapBuiltOf set 189 ≡ B.Table 253 10
-unfolding byLevel levels below childrenFrom among begins beginsOne same entryOf entriesFrom distinct setOf mapBuiltOf roomIn
+unfolding byLevel levels below childrenFrom among begins beginsOne same entryOf entriesFrom distinct setOf amongTags isAmong kindOf chosen hasPart
+    kindsFor asRead lower mapBuiltOf roomIn
 one-slot-short = refl
 
 pub sample-15 : OfBitmaps

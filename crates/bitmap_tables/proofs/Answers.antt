@@ -11,8 +11,10 @@ use Rattle.matching.specs.Table.{enoughSlots}
 use Rattle.matching.specs.Words.{Below, Lawful, Word}
 use Rattle.tagset.specs.Answer.{cutAt}
 use Rattle.tagset.specs.Grammar.{badSet, setOf}
-use Rattle.tagset.specs.Laws.Lent.{GoodRead, lent-from}
-use Rattle.tagset.specs.Laws.Places.{sized-short}
+use Rattle.tagset.specs.Laws.Exact.{accepted-iff}
+use Rattle.tagset.specs.Laws.Lent.{GoodRead, lent-from, lent-to, lent-words}
+use Rattle.tagset.specs.Laws.Places.{cutAt-length}
+use Rattle.tagset.specs.Refusals.{Accepted}
 use Rattle.tagset.specs.declared.SetFault.{SetFault}
 use Rattle.tagset.specs.declared.SetRead.{SetRead}
 use Rattle.machines.specs.Rows.{Fit}
@@ -20,8 +22,8 @@ use Rattle.tables.specs.declared.Built.{Built}
 use Rattle.bitmap.specs.Laws.States.{states-same}
 use Rattle.bitmap.specs.Levels.{byLevel}
 use Rattle.bitmap.specs.Slots.{built, roomIn, slotsOf}
-use Rattle.bitmap_tables.specs.Building.{mapBuiltBy, mapBuiltOf, mapBuiltTags, mapTableBy, mapTableOf, mapTableTags}
-use Rattle.bitmap_tables.specs.Laws.Exact.{room-enough, room-short}
+use Rattle.bitmap_tables.specs.Building.{mapBuiltBy, mapBuiltOf, mapBuiltTags, mapKinds, mapTableBy, mapTableOf, mapTableTags, wordsOf}
+use Rattle.bitmap_tables.specs.Laws.Exact.{map-exact, map-lawful, room-enough, room-short}
 use Rattle.bitmap_tables.specs.Laws.Left.{slots-fit}
 
 -- ---- tags
@@ -58,30 +60,38 @@ module _ {ts : List Word} (l : Lawful ts) (run : List ℕ) (s : ℕ) (es : s ≡
 -- ---- a set
 
 module _ (bytes run : List ℕ) where
-  pub fault-answer : {fault : SetFault} → setOf bytes ≡ badSet fault → B.Fault fault ≡ mapBuiltOf bytes (length run)
+  pub fault-answer : {fault : SetFault} → setOf mapKinds bytes ≡ badSet fault → B.Fault fault ≡ mapBuiltOf bytes (length run)
   unfolding mapBuiltOf
   fault-answer e = rw e
 
-  pub fault-table : {fault : SetFault} → setOf bytes ≡ badSet fault → run ≡ mapTableOf bytes run
+  pub fault-table : {fault : SetFault} → setOf mapKinds bytes ≡ badSet fault → run ≡ mapTableOf bytes run
   unfolding mapTableOf
   fault-table e = rw e
 
-  module _ {r : SetRead} (g : GoodRead bytes r) where
+  module _ {r : SetRead} (g : GoodRead mapKinds bytes r) where
     abbrev cut : List Word
     cut = cutAt bytes (take (r .tags .count) (r .tags .from)) (take (r .tags .count) (r .tags .to))
 
-    pub read-fit : Fit (length (take (r .tags .count) (r .tags .from))) cut
-    read-fit =
-        subst (Fit (length (take (r .tags .count) (r .tags .from)))) (sym (g .lent .lies))
-        (record { many = g .lent .many ∙ lent-from (g .lent); few = g .known .few; short = sized-short (g .tags) (g .known .sized) })
-
     pub read-lawful : Below 256 bytes → Lawful cut
-    read-lawful small = subst Lawful (sym (g .lent .lies)) (g .known .lawful small)
+    read-lawful small =
+        let x = map-exact bytes (g .tags) (accepted-iff mapKinds bytes (g .tags) .0 (g .good)) in
+        subst Lawful (sym (lent-words (g .lent)))
+        (map-lawful bytes small (wordsOf (g .tags)) (subst (Accepted mapKinds bytes) x (accepted-iff mapKinds bytes (g .tags) .0 (g .good))))
+
+    pub read-fit : Below 256 bytes → Fit (length (take (r .tags .count) (r .tags .from))) cut
+    read-fit small =
+        let l = read-lawful small in
+        let even = sym (lent-from (g .lent)) ∙ lent-to (g .lent) in
+        record {
+          many = cutAt-length bytes (take (r .tags .count) (r .tags .from)) (take (r .tags .count) (r .tags .to)) even;
+          few = l .few;
+          short = l .short;
+        }
 
     pub good-answer : (answer : Built) → answer ≡ mapBuiltTags cut (length run) → answer ≡ mapBuiltOf bytes (length run)
     unfolding mapBuiltOf
-    good-answer answer e = rw (g .good) (e ∙ ap (λ (ts : List Word). mapBuiltTags ts (length run)) (g .lent .lies))
+    good-answer answer e = rw (g .good) (e ∙ ap (λ (ts : List Word). mapBuiltTags ts (length run)) (lent-words (g .lent)))
 
     pub good-table : (after : List ℕ) → after ≡ mapTableTags cut run → after ≡ mapTableOf bytes run
     unfolding mapTableOf
-    good-table after e = rw (g .good) (e ∙ ap (λ (ts : List Word). mapTableTags ts run) (g .lent .lies))
+    good-table after e = rw (g .good) (e ∙ ap (λ (ts : List Word). mapTableTags ts run) (lent-words (g .lent)))

@@ -1,6 +1,7 @@
 // Building a bitmap table from the bytes of a set (docs/RULES.md, 2 and 3).
 use bitmap::map_slots;
 use bitmap_growing::make_bitmap;
+use kinds::Takes;
 use machines::count_states;
 use tables::Built;
 use tagset::Verdict;
@@ -34,12 +35,12 @@ fn build_tags(set: &[u8], from: &[usize], to: &[usize], table: &mut [u16]) -> Bu
     Built::Tags(from.len())
 }
 
-// The bitmap table of a set: its faults, then its slots.
+// The bitmap table of a set of exact tags: its faults, then its slots.
 pub fn build_bitmap(set: &[u8], table: &mut [u16]) -> Built
     ensures answer { λ r. ⌜ r ≡ mapBuiltOf (now (set .entry)) (length (now (table .entry))) ⌝ }
     ensures left { λ _. ⌜ now (table .exit) ≡ mapTableOf (now (set .entry)) (now (table .entry)) ⌝ }
 {
-    let read = read_set(set);
+    let read = read_set(set, Takes::ExactAlone);
     let verdict = read.verdict;
     if let Verdict::Bad(fault) = verdict {
         return Built::Fault(fault);

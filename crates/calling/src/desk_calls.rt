@@ -4,34 +4,43 @@ use desk::Serial;
 ghost use mathlib.Core.List.{List};
 ghost use Prim.Native.Nat.{ℕ, _≤_};
 ghost use lib.ListN.{length};
+ghost use Rattle.desk.specs.Layout.{Lent, lent};
 ghost use Rattle.output.specs.Buffer.{buffer};
 ghost use Rattle.answers.specs.Show.{showLines};
 ghost use Rattle.calling.specs.Calls.{answered, heldBy, Within, Did, replaceOn, openOn, feedOn, closeOn, stateOn, takeOn};
 
-pub fn replace(s: State, set: &[u8], table: &mut [u16], out: &mut [u8; 65536]) -> State
-    requires { ⌜ (Within s) × (4096 ≤ length (now set)) × (131841 ≤ length (now table)) ⌝ }
-    ensures { λ r. ⌜ Did (replaceOn (heldBy s (now (set .entry)) (now (table .entry)))) (buffer (now (out .entry)) (s .used))
-        (heldBy r (now (set .entry)) (now (table .exit))) (buffer (now (out .exit)) (r .used)) ⌝ }
+pub fn replace(
+    s: State,
+    set: &[u8],
+    first: &mut [u16],
+    second: &mut [u16],
+    out: &mut [u8; 65536],
+) -> State
+    requires { ⌜ (Within s) × (4096 ≤ length (now set)) × (131841 ≤ length (now first)) × (16384 ≤ length (now second)) ⌝ }
+    ensures { λ r. ⌜ Did (replaceOn (heldBy s (now (set .entry)) (lent (now (first .entry)) (now (second .entry))))) (buffer (now (out .entry)) (s .used))
+        (heldBy r (now (set .entry)) (lent (now (first .exit)) (now (second .exit)))) (buffer (now (out .exit)) (r .used)) ⌝ }
     ensures { λ r. ⌜ Within r ⌝ }
 {
     let before = s.desk;
     let held = s.held;
-    let lent = s.lent;
-    let r = before.replace(&set[0..held], &mut table[0..lent]);
+    let a = s.first;
+    let b = s.second;
+    let r = before.replace(&set[0..held], &mut first[0..a], &mut second[0..b]);
     let desk = r.desk;
     let answer = r.answer;
     let used = answers::replaced(out, s.used, answer);
     State {
         desk,
         held,
-        lent,
+        first: a,
+        second: b,
         used,
     }
 }
 
 pub fn open(s: State, out: &mut [u8; 65536]) -> State
     requires { ⌜ Within s ⌝ }
-    ensures { λ r. ⌜ ((bytes table : List ℕ) → Did (openOn (heldBy s bytes table)) (buffer (now (out .entry)) (s .used)) (heldBy r bytes table)
+    ensures { λ r. ⌜ ((bytes : List ℕ) (tables : Lent) → Did (openOn (heldBy s bytes tables)) (buffer (now (out .entry)) (s .used)) (heldBy r bytes tables)
         (buffer (now (out .exit)) (r .used))) ⌝ }
     ensures { λ r. ⌜ Within r ⌝ }
 {
@@ -43,35 +52,45 @@ pub fn open(s: State, out: &mut [u8; 65536]) -> State
     State {
         desk,
         held: s.held,
-        lent: s.lent,
+        first: s.first,
+        second: s.second,
         used,
     }
 }
 
-pub fn feed(s: State, serial: u32, piece: &[u8], table: &[u16], out: &mut [u8; 65536]) -> State
-    requires { ⌜ (Within s) × (131841 ≤ length (now table)) ⌝ }
-    ensures { λ r. ⌜ ((bytes : List ℕ) → Did (feedOn (heldBy s bytes (now (table .entry))) serial (now (piece .entry)))
-        (buffer (now (out .entry)) (s .used)) (heldBy r bytes (now (table .entry))) (buffer (now (out .exit)) (r .used))) ⌝ }
+pub fn feed(
+    s: State,
+    serial: u32,
+    piece: &[u8],
+    first: &[u16],
+    second: &[u16],
+    out: &mut [u8; 65536],
+) -> State
+    requires { ⌜ (Within s) × (131841 ≤ length (now first)) × (16384 ≤ length (now second)) ⌝ }
+    ensures { λ r. ⌜ ((bytes : List ℕ) → Did (feedOn (heldBy s bytes (lent (now (first .entry)) (now (second .entry)))) serial (now (piece .entry)))
+        (buffer (now (out .entry)) (s .used)) (heldBy r bytes (lent (now (first .entry)) (now (second .entry)))) (buffer (now (out .exit)) (r .used))) ⌝ }
     ensures { λ r. ⌜ Within r ⌝ }
 {
     let before = s.desk;
-    let lent = s.lent;
-    let r = before.feed(Serial(serial), &table[0..lent], piece);
+    let a = s.first;
+    let b = s.second;
+    let r = before.feed(Serial(serial), &first[0..a], &second[0..b], piece);
     let desk = r.desk;
     let answer = r.answer;
     let used = answers::fed(out, s.used, answer);
     State {
         desk,
         held: s.held,
-        lent,
+        first: a,
+        second: b,
         used,
     }
 }
 
 pub fn close(s: State, serial: u32, out: &mut [u8; 65536]) -> State
     requires { ⌜ Within s ⌝ }
-    ensures { λ r. ⌜ ((bytes table : List ℕ) → Did (closeOn (heldBy s bytes table) serial) (buffer (now (out .entry)) (s .used))
-        (heldBy r bytes table) (buffer (now (out .exit)) (r .used))) ⌝ }
+    ensures { λ r. ⌜ ((bytes : List ℕ) (tables : Lent) → Did (closeOn (heldBy s bytes tables) serial) (buffer (now (out .entry)) (s .used))
+        (heldBy r bytes tables) (buffer (now (out .exit)) (r .used))) ⌝ }
     ensures { λ r. ⌜ Within r ⌝ }
 {
     let before = s.desk;
@@ -82,15 +101,16 @@ pub fn close(s: State, serial: u32, out: &mut [u8; 65536]) -> State
     State {
         desk,
         held: s.held,
-        lent: s.lent,
+        first: s.first,
+        second: s.second,
         used,
     }
 }
 
 pub fn tell(s: State, serial: u32, out: &mut [u8; 65536]) -> State
     requires { ⌜ Within s ⌝ }
-    ensures { λ r. ⌜ ((bytes table : List ℕ) → Did (stateOn (heldBy s bytes table) serial) (buffer (now (out .entry)) (s .used))
-        (heldBy r bytes table) (buffer (now (out .exit)) (r .used))) ⌝ }
+    ensures { λ r. ⌜ ((bytes : List ℕ) (tables : Lent) → Did (stateOn (heldBy s bytes tables) serial) (buffer (now (out .entry)) (s .used))
+        (heldBy r bytes tables) (buffer (now (out .exit)) (r .used))) ⌝ }
     ensures { λ r. ⌜ Within r ⌝ }
 {
     let desk = s.desk;
@@ -99,14 +119,15 @@ pub fn tell(s: State, serial: u32, out: &mut [u8; 65536]) -> State
     State {
         desk,
         held: s.held,
-        lent: s.lent,
+        first: s.first,
+        second: s.second,
         used,
     }
 }
 
 pub fn take(s: State, out: &mut [u8; 65536]) -> State
     requires { ⌜ Within s ⌝ }
-    ensures { λ r. ⌜ ((bytes table : List ℕ) → Did (takeOn (heldBy s bytes table)) (buffer (now (out .entry)) (s .used)) (heldBy r bytes table)
+    ensures { λ r. ⌜ ((bytes : List ℕ) (tables : Lent) → Did (takeOn (heldBy s bytes tables)) (buffer (now (out .entry)) (s .used)) (heldBy r bytes tables)
         (buffer (now (out .exit)) (r .used))) ⌝ }
     ensures { λ r. ⌜ Within r ⌝ }
 {
@@ -118,15 +139,16 @@ pub fn take(s: State, out: &mut [u8; 65536]) -> State
     State {
         desk,
         held: s.held,
-        lent: s.lent,
+        first: s.first,
+        second: s.second,
         used,
     }
 }
 
 pub fn show(s: State, out: &mut [u8; 65536]) -> State
     requires { ⌜ Within s ⌝ }
-    ensures { λ r. ⌜ ((bytes table : List ℕ) → Did (answered (heldBy s bytes table) (showLines (s .desk))) (buffer (now (out .entry)) (s .used))
-        (heldBy r bytes table) (buffer (now (out .exit)) (r .used))) ⌝ }
+    ensures { λ r. ⌜ ((bytes : List ℕ) (tables : Lent) → Did (answered (heldBy s bytes tables) (showLines (s .desk))) (buffer (now (out .entry)) (s .used))
+        (heldBy r bytes tables) (buffer (now (out .exit)) (r .used))) ⌝ }
     ensures { λ r. ⌜ Within r ⌝ }
 {
     let desk = s.desk;
@@ -134,7 +156,8 @@ pub fn show(s: State, out: &mut [u8; 65536]) -> State
     State {
         desk,
         held: s.held,
-        lent: s.lent,
+        first: s.first,
+        second: s.second,
         used,
     }
 }

@@ -8,18 +8,19 @@ ghost use mathlib.Core.List.{List, [], _∷_};
 ghost use Prim.Native.Nat.{ℕ, _≤_};
 ghost use lib.ListN.{length};
 ghost use lib.ListN.{take as take·of};
+ghost use Rattle.desk.specs.Layout.{lent, sizes};
 ghost use Rattle.output.specs.Buffer.{buffer, Puts};
 ghost use Rattle.script.specs.Calls.{machinesOf};
-ghost use Rattle.calling.specs.Calls.{answered, heldBy, Within, Did, buildOn, builtBy, tableBy, sevens, readText};
+ghost use Rattle.calling.specs.Calls.{answered, heldBy, Within, Did, buildOn, builtBy, frontOf, tablesBy, sevens, readText};
 
-fn build_by(layout: Layout, set: &[u8], table: &mut [u16]) -> Built
-    ensures { λ r. ⌜ r ≡ builtBy layout (now (set .entry)) (length (now (table .entry))) ⌝ }
-    ensures { λ r. ⌜ now (table .exit) ≡ tableBy layout (now (set .entry)) (now (table .entry)) ⌝ }
+fn build_by(layout: Layout, set: &[u8], first: &mut [u16], second: &mut [u16]) -> Built
+    ensures { λ r. ⌜ r ≡ builtBy layout (now (set .entry)) (sizes (length (now (first .entry))) (length (now (second .entry)))) ⌝ }
+    ensures { λ r. ⌜ lent (now (first .exit)) (now (second .exit)) ≡ tablesBy layout (now (set .entry)) (lent (now (first .entry)) (now (second .entry))) ⌝ }
 {
     match layout {
-        Layout::Split => tables::build_split(set, table),
-        Layout::Whole => tables::build_whole(set, table),
-        Layout::Bitmap => bitmap_tables::build_bitmap(set, table),
+        Layout::Split => tables::build_split(set, first, second),
+        Layout::Whole => tables::build_whole(set, first),
+        Layout::Bitmap => bitmap_tables::build_bitmap(set, first),
     }
 }
 
@@ -27,23 +28,26 @@ pub fn build(
     s: State,
     layout: Layout,
     set: &[u8],
-    table: &mut [u16],
+    first: &mut [u16],
+    second: &mut [u16],
     out: &mut [u8; 65536],
 ) -> State
-    requires { ⌜ (Within s) × (4096 ≤ length (now set)) × (131841 ≤ length (now table)) ⌝ }
-    ensures { λ r. ⌜ Did (buildOn (heldBy s (now (set .entry)) (now (table .entry))) layout) (buffer (now (out .entry)) (s .used))
-        (heldBy r (now (set .entry)) (now (table .exit))) (buffer (now (out .exit)) (r .used)) ⌝ }
+    requires { ⌜ (Within s) × (4096 ≤ length (now set)) × (131841 ≤ length (now first)) × (16384 ≤ length (now second)) ⌝ }
+    ensures { λ r. ⌜ Did (buildOn (heldBy s (now (set .entry)) (lent (now (first .entry)) (now (second .entry)))) layout) (buffer (now (out .entry)) (s .used))
+        (heldBy r (now (set .entry)) (lent (now (first .exit)) (now (second .exit)))) (buffer (now (out .exit)) (r .used)) ⌝ }
     ensures { λ r. ⌜ Within r ⌝ }
 {
     let desk = s.desk;
     let held = s.held;
-    let lent = s.lent;
-    let built = build_by(layout, &set[0..held], &mut table[0..lent]);
+    let a = s.first;
+    let b = s.second;
+    let built = build_by(layout, &set[0..held], &mut first[0..a], &mut second[0..b]);
     let used = answers::built_line(out, s.used, built);
     State {
         desk,
         held,
-        lent,
+        first: a,
+        second: b,
         used,
     }
 }
@@ -62,17 +66,18 @@ fn fill(list: &mut [u32])
 fn read_split(
     used: usize,
     count: u32,
-    place: [u16; 8],
-    table: &[u16],
+    place: [u16; 16],
+    first: &[u16],
+    second: &[u16],
     piece: &[u8],
     list: &mut [u32],
     out: &mut [u8; 65536],
 ) -> usize
-    ensures { λ r. ⌜ Puts (buffer (now (out .entry)) used) (readText (now (table .entry)) Layout.Split count (length (now (list .entry))) place
+    ensures { λ r. ⌜ Puts (buffer (now (out .entry)) used) (readText (lent (now (first .entry)) (now (second .entry))) Layout.Split count (length (now (list .entry))) place
         (now (piece .entry))) (buffer (now (out .exit)) r) ⌝ }
 {
     fill(list);
-    let r = reading::read_split(table, place, count, piece, list);
+    let r = reading::read_split(first, second, place, count, piece, list);
     let after = r.place;
     let ending = r.ending;
     answers::read_lines(out, used, r.taken, ending, r.records, &after, list)
@@ -87,7 +92,7 @@ fn read_whole(
     list: &mut [u32],
     out: &mut [u8; 65536],
 ) -> usize
-    ensures { λ r. ⌜ Puts (buffer (now (out .entry)) used) (readText (now (table .entry)) Layout.Whole count (length (now (list .entry)))
+    ensures { λ r. ⌜ Puts (buffer (now (out .entry)) used) (readText (lent (now (table .entry)) []) Layout.Whole count (length (now (list .entry)))
         (place ∷ []) (now (piece .entry))) (buffer (now (out .exit)) r) ⌝ }
 {
     fill(list);
@@ -106,7 +111,7 @@ fn read_bitmap(
     list: &mut [u32],
     out: &mut [u8; 65536],
 ) -> usize
-    ensures { λ r. ⌜ Puts (buffer (now (out .entry)) used) (readText (now (table .entry)) Layout.Bitmap count (length (now (list .entry)))
+    ensures { λ r. ⌜ Puts (buffer (now (out .entry)) used) (readText (lent (now (table .entry)) []) Layout.Bitmap count (length (now (list .entry)))
         (place ∷ []) (now (piece .entry))) (buffer (now (out .exit)) r) ⌝ }
 {
     fill(list);
@@ -120,45 +125,50 @@ fn read_by(
     used: usize,
     layout: Layout,
     count: u32,
-    place: [u16; 8],
-    table: &[u16],
+    place: [u16; 16],
+    first: &[u16],
+    second: &[u16],
     piece: &[u8],
     list: &mut [u32],
     out: &mut [u8; 65536],
 ) -> usize
-    ensures { λ r. ⌜ Puts (buffer (now (out .entry)) used) (readText (now (table .entry)) layout count (length (now (list .entry)))
+    ensures { λ r. ⌜ Puts (buffer (now (out .entry)) used) (readText (lent (now (first .entry)) (now (second .entry))) layout count (length (now (list .entry)))
         (take·of (machinesOf layout) place) (now (piece .entry))) (buffer (now (out .exit)) r) ⌝ }
 {
     match layout {
-        Layout::Split => read_split(used, count, place, table, piece, list, out),
-        Layout::Whole => read_whole(used, count, place[0], table, piece, list, out),
-        Layout::Bitmap => read_bitmap(used, count, place[0], table, piece, list, out),
+        Layout::Split => read_split(used, count, place, first, second, piece, list, out),
+        Layout::Whole => read_whole(used, count, place[0], first, piece, list, out),
+        Layout::Bitmap => read_bitmap(used, count, place[0], first, piece, list, out),
     }
 }
 
-// Over the first `lent` numbers of the table, with the first ROOM numbers of the list.
+// Over the lent numbers of the tables, with the first ROOM numbers of the list.
 pub fn read(
     s: State,
     reading: ReadCall,
-    place: [u16; 8],
+    place: [u16; 16],
     bytes: &[u8],
-    table: &[u16],
+    first: &[u16],
+    second: &[u16],
     list: &mut [u32],
     out: &mut [u8; 65536],
 ) -> State
-    requires { ⌜ (Within s) × (131841 ≤ length (now table)) × (reading .room ≤ length (now list)) × (reading .piece ≤ length (now bytes)) ⌝ }
-    ensures { λ r. ⌜ ((set : List ℕ) → Did (answered (heldBy s set (now (table .entry)))
-        (readText (take·of (s .lent) (now (table .entry))) (reading .layout) (reading .count) (reading .room)
+    requires { ⌜ (Within s) × (131841 ≤ length (now first)) × (16384 ≤ length (now second)) × (reading .room ≤ length (now list))
+        × (reading .piece ≤ length (now bytes)) ⌝ }
+    ensures { λ r. ⌜ ((set : List ℕ) → Did (answered (heldBy s set (lent (now (first .entry)) (now (second .entry))))
+        (readText (frontOf (sizes (s .first) (s .second)) (lent (now (first .entry)) (now (second .entry)))) (reading .layout) (reading .count) (reading .room)
         (take·of (machinesOf (reading .layout)) place) (take·of (reading .piece) (now (bytes .entry))))) (buffer (now (out .entry)) (s .used))
-        (heldBy r set (now (table .entry))) (buffer (now (out .exit)) (r .used))) ⌝ }
+        (heldBy r set (lent (now (first .entry)) (now (second .entry)))) (buffer (now (out .exit)) (r .used))) ⌝ }
     ensures { λ r. ⌜ Within r ⌝ }
 {
     let desk = s.desk;
-    let lent = s.lent;
+    let a = s.first;
+    let b = s.second;
     let layout = reading.layout;
     let room = reading.room;
     let k = reading.piece;
-    let lent_table = &table[0..lent];
+    let exact = &first[0..a];
+    let folded = &second[0..b];
     let piece = &bytes[0..k];
     let list = &mut list[0..room];
     let used = read_by(
@@ -166,7 +176,8 @@ pub fn read(
         layout,
         reading.count,
         place,
-        lent_table,
+        exact,
+        folded,
         piece,
         list,
         out,
@@ -174,7 +185,8 @@ pub fn read(
     State {
         desk,
         held: s.held,
-        lent,
+        first: a,
+        second: b,
         used,
     }
 }

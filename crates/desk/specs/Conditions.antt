@@ -57,7 +57,7 @@ ticketOf d s = ticketIn (d .tickets) (roomOf (d .tickets) s)
 abbrev pub Current : Desk → Serial → Type 0
 Current d s = ticketOf d s .edition .0 ≡ d .edition .0
 
--- the lent table has the slot count of the last replacement
+-- each run that is lent has the slot count of the last replacement
 abbrev pub SameSlots : Desk → Lent → Type 0
 SameSlots d table = Fits (sizesOf table) (d .slots)
 
@@ -74,7 +74,7 @@ NoneHeld d = d .records .count ≡ 0
 abbrev pub openGrounds : Desk → List Ground
 openGrounds d = (9 if eqb (d .edition .0) 0) ∷ (10 if eqb (d .serial .0) largest) ∷ (11 if eqb (ticketsHeld (d .tickets)) mostTickets) ∷ []
 
--- a table of another slot count is a stop and no refusal, so it has number 0; but it comes before LONG
+-- a run of another slot count is a stop and no refusal, so it has number 0; but it comes before LONG
 abbrev pub feedGrounds : Desk → Serial → Lent → Word → List Ground
 feedGrounds d s table piece =
     (12 if not (ltb (roomOf (d .tickets) s) mostTickets))
@@ -98,7 +98,7 @@ pub record OpenExact (d : Desk) (a : OpenAnswer) : Type 0 where
   pub no-room : (openNumber a ≡ 11) ↔ ((NoSet d → ⊥) × (LastSerial d → ⊥) × AllHeld d)
   pub opened : (s : Serial) → (a ≡ O.Opened s) ↔ ((NoSet d → ⊥) × (LastSerial d → ⊥) × (AllHeld d → ⊥) × (s ≡ serialOf (d .serial .0 + 1)))
 
--- feed: 12, 13, then a table of another slot count, which is a stop and no refusal, then 14; else none. What is answered then: `other-slots`, and
+-- feed: 12, 13, then a run of another slot count, which is a stop and no refusal, then 14; else none. What is answered then: `other-slots`, and
 -- `feed-reads`
 pub record FeedExact (d : Desk) (s : Serial) (table : Lent) (piece : Word) (a : FeedAnswer) : Type 0 where
   pub no-ticket : (feedNumber a ≡ 12) ↔ (HasRoom d s → ⊥)

@@ -15,7 +15,7 @@ use Rattle.desk.specs.declared.Desk.{Desk}
 use Rattle.desk.specs.declared.Feeding.{Feeding}
 use Rattle.desk.specs.declared.FeedAnswer.{FeedAnswer}
 use Rattle.desk.specs.declared.FeedAnswer.the-variants as F
-use Rattle.desk.specs.Layout.{Lent, deskRead, lentFits, placeIn, sizesOf}
+use Rattle.desk.specs.Layout.{Lent, deskRead, lentFits, placeFits, sizesOf}
 use Rattle.desk.specs.Limits.{mostRecords, mostTickets}
 use Rattle.matching.specs.Limits.{largest}
 use Rattle.desk.specs.declared.Advance.{Advance}
@@ -40,7 +40,7 @@ fedBy d i t r = record {
   answer = F.Fed (advance (r .taken) (length (r .found)) (r .stop));
 }
 
--- by whether the serial has a room, whether its ticket is of the edition in force, whether the table has the slots of the last
+-- by whether the serial has a room, whether its ticket is of the edition in force, whether each run has the slots of the last
 -- replacement, whether the bytes taken and the piece pass 4,294,967,295, and whether the ticket's states are below the slots, as those of
 -- a desk that the calls have made always are
 abbrev pub feedBy : Desk → ℕ → Ticket → Lent → Word → Bool → Bool → Bool → Bool → Bool → Feeding
@@ -53,7 +53,7 @@ feedBy d i t table piece true true true false true = fedBy d i t (readFor d t ta
 
 -- for the ticket in room i, once nothing refuses it
 abbrev pub readIn : Desk → ℕ → Ticket → Lent → Word → Feeding
-readIn d i t table piece = feedBy d i t table piece true true true false (placeIn (sizesOf table) (d .slots) (t .place))
+readIn d i t table piece = feedBy d i t table piece true true true false (placeFits (sizesOf table) (d .slots) (t .place))
 
 -- with the room that the serial has
 abbrev pub feedIn : Desk → ℕ → Lent → Word → Feeding
@@ -63,7 +63,7 @@ feedIn d i table piece =
     (eqb (ticketIn (d .tickets) i .edition .0) (d .edition .0))
     (lentFits (sizesOf table) (d .slots))
     (ltb largest (ticketIn (d .tickets) i .taken + length piece))
-    (placeIn (sizesOf table) (d .slots) (ticketIn (d .tickets) i .place))
+    (placeFits (sizesOf table) (d .slots) (ticketIn (d .tickets) i .place))
 
 unfoldable pub feedOf : Desk → Serial → Lent → Word → Feeding
 feedOf d s table piece = feedIn d (roomOf (d .tickets) s) table piece

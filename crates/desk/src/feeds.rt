@@ -14,6 +14,7 @@ ghost use lib.ListN.{length};
 ghost use Rattle.matching.specs.Limits.{largest};
 ghost use Rattle.desk.specs.Limits.{mostTickets};
 ghost use Rattle.desk.specs.Feed.{advance, readIn};
+ghost use Rattle.desk.specs.Layout.{lent};
 
 pub fn damaged(desk: Desk) -> Feeding
     ensures { λ r. ⌜ (r .desk ≡ desk) × (r .answer ≡ FeedAnswer.Fed (advance 0 0 Stop.Damaged)) ⌝ }
@@ -27,14 +28,21 @@ pub fn damaged(desk: Desk) -> Feeding
 }
 
 // The reading for the ticket in room i, once nothing refuses it; its records go behind those held.
-pub fn read_on(desk: Desk, i: usize, t: Ticket, table: &[u16], piece: &[u8]) -> Feeding
+pub fn read_on(
+    desk: Desk,
+    i: usize,
+    t: Ticket,
+    first: &[u16],
+    second: &[u16],
+    piece: &[u8],
+) -> Feeding
     requires { ⌜ (i < mostTickets) × (t .taken + length (now piece) ≤ largest) ⌝ }
-    ensures { λ r. ⌜ r ≡ readIn desk i t (now (table .entry)) (now (piece .entry)) ⌝ }
+    ensures { λ r. ⌜ r ≡ readIn desk i t (lent (now (first .entry)) (now (second .entry))) (now (piece .entry)) ⌝ }
 {
     let held = desk.records;
     let place = t.place;
     let room = shared::room_left(held.count);
-    let scan = scan::read_for(table, place, t.taken, piece, room);
+    let scan = scan::read_for(first, second, place, t.taken, piece, room);
     let read = scan.read;
     let list = scan.list;
     let ending = read.ending;

@@ -10,7 +10,7 @@ ghost use lib.Dec.{eqb};
 ghost use Rattle.desk.specs.Replace.{replaceBy};
 
 // By what building answered, and whether an edition is left.
-pub fn replaced(desk: Desk, s: usize, built: Built, write: bool) -> Replacing
+pub fn replaced(desk: Desk, s: [usize; 2], built: Built, write: bool) -> Replacing
     requires { ⌜ write ≡ not (eqb (desk .edition .0) 4294967295) ⌝ }
     ensures { λ r. ⌜ r ≡ replaceBy desk s built (eqb (desk .edition .0) 4294967295) ⌝ }
 {
@@ -35,7 +35,7 @@ pub fn replaced(desk: Desk, s: usize, built: Built, write: bool) -> Replacing
     }
 }
 
-fn under_next(desk: Desk, s: usize, count: usize) -> Replacing
+fn under_next(desk: Desk, s: [usize; 2], count: usize) -> Replacing
     requires { ⌜ (desk .edition .0 ≡ 4294967295 → ⊥) ⌝ }
     ensures { λ r. ⌜ r ≡ replaceBy desk s (Built.Tags count) false ⌝ }
 {

@@ -14,7 +14,7 @@ pub fn new_ticket(serial: Serial, edition: Edition) -> Ticket
         serial,
         edition,
         taken: 0,
-        place: [0u16; 8],
+        place: [0u16; 16],
     }
 }
 

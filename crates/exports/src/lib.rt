@@ -1,4 +1,4 @@
-// The static library for C and Rust: each call of the gate and of the desk, building and reading outside it, and the size query.
+// The static library for C and Rust: each call of the gate and of the desk, building and reading outside it, and the size queries.
 // A gate or a desk goes in by value and comes back beside its answer; its image is numbers alone, so any bytes of its size are one.
 use desk::Desk;
 use desk::Serial;
@@ -7,7 +7,7 @@ use numbers::Answer;
 ghost use mathlib.Core.Path.{_≡_};
 ghost use mathlib.Core.List.{[], _∷_};
 ghost use lib.ListN.{length};
-ghost use Rattle.desk.specs.Layout.{bySet, oneBit};
+ghost use Rattle.desk.specs.Layout.{bySet, lent, oneBit, sizes};
 ghost use Rattle.desk.specs.Rooms.{serialOf};
 ghost use Rattle.desk.specs.Calls.{newDesk, openOf, closeOf, takeOf};
 ghost use Rattle.desk.specs.Replace.{replaceOf, replacedRun};
@@ -15,8 +15,9 @@ ghost use Rattle.desk.specs.Feed.{feedOf};
 ghost use Rattle.desk.specs.TakeMany.{manyOf, takeManyOf, listTaken};
 ghost use Rattle.desk.specs.State.{stateOf};
 ghost use Rattle.gate.specs.Gate.{newGate, changeOf, beginOf, pieceOf, decideOf};
-ghost use Rattle.tables.specs.Building.{builtOf, tableOf, neededOf};
+ghost use Rattle.tables.specs.Building.{builtOf, tablesOf, neededOf};
 ghost use Rattle.bitmap_tables.specs.Building.{mapBuiltOf, mapTableOf};
+ghost use Rattle.matching.specs.Parts.{splitLayout, wholeLayout};
 ghost use Rattle.reading.specs.Outside.{readOf};
 ghost use Rattle.bitmap_reading.specs.Outside.{readMapOf};
 ghost use Rattle.exports.specs.Replies.{ReplaceTold, OpenTold, FeedTold, CloseTold, TakeTold, ManyTold, SplitTold, WholeTold, MapTold};
@@ -48,7 +49,7 @@ pub struct TakenMany {
 #[repr(C)]
 pub struct SplitReply {
     pub answer: Answer,
-    pub place: [u16; 8],
+    pub place: [u16; 16],
 }
 
 #[repr(C)]
@@ -66,9 +67,9 @@ pub struct MapReply {
 // 10,000 for the major number, 100 for the minor one, and the patch: the header and the crate say which one they are written for.
 #[no_mangle]
 pub extern "C" fn sleet_version() -> u64
-    ensures { λ r. ⌜ r ≡ 10100 ⌝ }
+    ensures { λ r. ⌜ r ≡ 20000 ⌝ }
 {
-    10100
+    20000
 }
 
 #[no_mangle]
@@ -79,11 +80,17 @@ pub extern "C" fn sleet_desk_new() -> Desk
 }
 
 #[no_mangle]
-pub extern "C" fn sleet_desk_replace(desk: Desk, set: &[u8], table: &mut [u16]) -> Reply
-    ensures { λ r. ⌜ ReplaceTold r (replaceOf desk (bySet (now (set .entry))) (length (now (table .entry)))) ⌝ }
-    ensures { λ _. ⌜ now (table .exit) ≡ replacedRun desk (bySet (now (set .entry))) (now (table .entry)) ⌝ }
+pub extern "C" fn sleet_desk_replace(
+    desk: Desk,
+    set: &[u8],
+    first: &mut [u16],
+    second: &mut [u16],
+) -> Reply
+    ensures { λ r. ⌜ ReplaceTold r (replaceOf desk (bySet (now (set .entry))) (sizes (length (now (first .entry))) (length (now (second .entry))))) ⌝ }
+    ensures { λ _. ⌜ lent (now (first .exit)) (now (second .exit))
+        ≡ replacedRun desk (bySet (now (set .entry))) (lent (now (first .entry)) (now (second .entry))) ⌝ }
 {
-    let r = desk.replace(set, table);
+    let r = desk.replace(set, first, second);
     let after = r.desk;
     let said = r.answer;
     let answer = numbers::of_replace(said).answer;
@@ -108,10 +115,16 @@ pub extern "C" fn sleet_desk_open(desk: Desk) -> Reply
 }
 
 #[no_mangle]
-pub extern "C" fn sleet_desk_feed(desk: Desk, serial: u32, table: &[u16], piece: &[u8]) -> Reply
-    ensures { λ r. ⌜ FeedTold r (feedOf desk (serialOf serial) (now (table .entry)) (now (piece .entry))) ⌝ }
+pub extern "C" fn sleet_desk_feed(
+    desk: Desk,
+    serial: u32,
+    first: &[u16],
+    second: &[u16],
+    piece: &[u8],
+) -> Reply
+    ensures { λ r. ⌜ FeedTold r (feedOf desk (serialOf serial) (lent (now (first .entry)) (now (second .entry))) (now (piece .entry))) ⌝ }
 {
-    let r = desk.feed(Serial(serial), table, piece);
+    let r = desk.feed(Serial(serial), first, second, piece);
     let after = r.desk;
     let said = r.answer;
     let answer = numbers::of_feed(said).answer;
@@ -177,11 +190,17 @@ pub extern "C" fn sleet_gate_new() -> Gate
 }
 
 #[no_mangle]
-pub extern "C" fn sleet_gate_replace(gate: Gate, set: &[u8], table: &mut [u16]) -> GateReply
-    ensures { λ r. ⌜ ChangeTold r (changeOf gate (bySet (now (set .entry))) (length (now (table .entry)))) ⌝ }
-    ensures { λ _. ⌜ now (table .exit) ≡ replacedRun (gate .desk) (bySet (now (set .entry))) (now (table .entry)) ⌝ }
+pub extern "C" fn sleet_gate_replace(
+    gate: Gate,
+    set: &[u8],
+    first: &mut [u16],
+    second: &mut [u16],
+) -> GateReply
+    ensures { λ r. ⌜ ChangeTold r (changeOf gate (bySet (now (set .entry))) (sizes (length (now (first .entry))) (length (now (second .entry))))) ⌝ }
+    ensures { λ _. ⌜ lent (now (first .exit)) (now (second .exit))
+        ≡ replacedRun (gate .desk) (bySet (now (set .entry))) (lent (now (first .entry)) (now (second .entry))) ⌝ }
 {
-    let r = gate.replace(set, table);
+    let r = gate.replace(set, first, second);
     let after = r.gate;
     let said = r.answer;
     let answer = numbers::of_replace(said).answer;
@@ -209,12 +228,13 @@ pub extern "C" fn sleet_gate_begin(gate: Gate) -> GateReply
 pub extern "C" fn sleet_gate_piece(
     gate: Gate,
     serial: u32,
-    table: &[u16],
+    first: &[u16],
+    second: &[u16],
     piece: &[u8],
 ) -> GateReply
-    ensures { λ r. ⌜ PieceTold r (pieceOf gate (serialOf serial) (now (table .entry)) (now (piece .entry))) ⌝ }
+    ensures { λ r. ⌜ PieceTold r (pieceOf gate (serialOf serial) (lent (now (first .entry)) (now (second .entry))) (now (piece .entry))) ⌝ }
 {
-    let r = gate.piece(Serial(serial), table, piece);
+    let r = gate.piece(Serial(serial), first, second, piece);
     let after = r.gate;
     let said = r.answer;
     let answer = gate_numbers::of_piece(said).answer;
@@ -238,25 +258,35 @@ pub extern "C" fn sleet_gate_decide(gate: Gate, serial: u32) -> GateReply
     }
 }
 
+// The slots of the split layout's first and second table.
 #[no_mangle]
 pub extern "C" fn sleet_slots_needed(set: &[u8]) -> Answer
-    ensures { λ r. ⌜ r ≡ neededAnswer (neededOf (now (set .entry))) ⌝ }
+    ensures { λ r. ⌜ r ≡ neededAnswer (neededOf splitLayout (now (set .entry))) ⌝ }
 {
     numbers::of_needed(tables::slots_needed(set)).answer
 }
 
+// The slots of a whole-byte table, and of a bitmap table, which are as many.
 #[no_mangle]
-pub extern "C" fn sleet_build_split(set: &[u8], table: &mut [u16]) -> Answer
-    ensures { λ r. ⌜ r ≡ builtAnswer (builtOf 1 8 (now (set .entry)) (length (now (table .entry)))) ⌝ }
-    ensures { λ _. ⌜ now (table .exit) ≡ tableOf 1 8 (now (set .entry)) (now (table .entry)) ⌝ }
+pub extern "C" fn sleet_whole_slots_needed(set: &[u8]) -> Answer
+    ensures { λ r. ⌜ r ≡ neededAnswer (neededOf wholeLayout (now (set .entry))) ⌝ }
 {
-    numbers::of_built(tables::build_split(set, table)).answer
+    numbers::of_needed(tables::whole_slots_needed(set)).answer
+}
+
+#[no_mangle]
+pub extern "C" fn sleet_build_split(set: &[u8], first: &mut [u16], second: &mut [u16]) -> Answer
+    ensures { λ r. ⌜ r ≡ builtAnswer (builtOf splitLayout (now (set .entry)) (length (now (first .entry)) ∷ length (now (second .entry)) ∷ [])) ⌝ }
+    ensures { λ _. ⌜ now (first .exit) ∷ now (second .exit) ∷ []
+        ≡ tablesOf splitLayout (now (set .entry)) (now (first .entry) ∷ now (second .entry) ∷ []) ⌝ }
+{
+    numbers::of_built(tables::build_split(set, first, second)).answer
 }
 
 #[no_mangle]
 pub extern "C" fn sleet_build_whole(set: &[u8], table: &mut [u16]) -> Answer
-    ensures { λ r. ⌜ r ≡ builtAnswer (builtOf 8 1 (now (set .entry)) (length (now (table .entry)))) ⌝ }
-    ensures { λ _. ⌜ now (table .exit) ≡ tableOf 8 1 (now (set .entry)) (now (table .entry)) ⌝ }
+    ensures { λ r. ⌜ r ≡ builtAnswer (builtOf wholeLayout (now (set .entry)) (length (now (table .entry)) ∷ [])) ⌝ }
+    ensures { λ _. ⌜ now (table .exit) ∷ [] ≡ tablesOf wholeLayout (now (set .entry)) (now (table .entry) ∷ []) ⌝ }
 {
     numbers::of_built(tables::build_whole(set, table)).answer
 }
@@ -271,17 +301,18 @@ pub extern "C" fn sleet_build_bitmap(set: &[u8], table: &mut [u16]) -> Answer
 
 #[no_mangle]
 pub extern "C" fn sleet_read_split(
-    table: &[u16],
-    place: &[u16; 8],
+    first: &[u16],
+    second: &[u16],
+    place: &[u16; 16],
     count: u32,
     piece: &[u8],
     list: &mut [u32],
 ) -> SplitReply
     ensures { λ r. ⌜ SplitTold r (now (place .entry)) (now (list .entry)) (now (list .exit))
-        (readOf 1 8 (now (table .entry)) (now (place .entry)) count (now (piece .entry)) (length (now (list .entry)))) ⌝ }
+        (readOf splitLayout (now (first .entry) ∷ now (second .entry) ∷ []) (now (place .entry)) count (now (piece .entry)) (length (now (list .entry)))) ⌝ }
 {
     let start = *place;
-    let r = reading::read_split(table, start, count, piece, list);
+    let r = reading::read_split(first, second, start, count, piece, list);
     let after = r.place;
     let ending = r.ending;
     let answer = numbers::of_read(r.taken, r.records, ending).answer;
@@ -300,7 +331,7 @@ pub extern "C" fn sleet_read_whole(
     list: &mut [u32],
 ) -> WholeReply
     ensures { λ r. ⌜ WholeTold r place (now (list .entry)) (now (list .exit))
-        (readOf 8 1 (now (table .entry)) (place ∷ []) count (now (piece .entry)) (length (now (list .entry)))) ⌝ }
+        (readOf wholeLayout (now (table .entry) ∷ []) (place ∷ []) count (now (piece .entry)) (length (now (list .entry)))) ⌝ }
 {
     let r = reading::read_whole(table, place, count, piece, list);
     let ending = r.ending;

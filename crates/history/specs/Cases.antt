@@ -47,7 +47,7 @@ pub record FedAsDemanded (w : World) (s : Serial) (a : Account) (piece : Word) (
   pub place : ticketOf (step w (callFeed s (w .table) piece) .desk) s .place ≡ deskPlace (a .tags) (a .bytes ++ take (outcome .taken) piece)
 
 -- what a feed answers over any table: NO TICKET exactly if its serial was never given or is closed; STALE, with the ticket's edition, exactly if
--- that is older than the one in force; a table of another slot count than the last replacement's is a damaged one; then LONG exactly if the
+-- that is older than the one in force; a table with a run of another slot count than the last replacement's is a damaged one; then LONG exactly if the
 -- ticket's bytes and the piece pass the largest count; and where it is lent the table as left, as was each feed before it (`Left`), every byte
 -- up to the first whose matches find no room
 pub record FeedAnswers (Left : Type 0) (w : World) (s : Serial) (table : Lent) (piece : Word) (answer : FeedAnswer) : Type 0 where

@@ -20,32 +20,30 @@ use Rattle.history.specs.Laws.Held.{call-held}
 use Rattle.history.specs.Laws.Later.{goes-run}
 use Rattle.history.specs.Laws.LedgerSteps.{any-sound, sound-run}
 use Rattle.history.specs.Laws.Numbers.{differ}
-use Rattle.history.specs.Laws.Ordered.{found-ordered}
 use Rattle.history.specs.RecordsHeld.{HeldAfter}
+use Rattle.matching.specs.Laws.Parts.{kept-in}
 use Rattle.matching.specs.Limits.{largest}
 use Rattle.matching.specs.Occurrence.{Ordered}
-use Rattle.matching.specs.Reading.{Outcome, allBelow, read}
-use Rattle.matching.specs.Table.{slotsIn}
+use Rattle.matching.specs.Parts.{Layout, Runs, lengths, placeBelow, readIn, slotsOver}
+use Rattle.matching.specs.Reading.{Outcome}
 use Rattle.matching.specs.Words.{Word}
 use Rattle.reading.specs.Outside.{readBy, readOf, readTo}
 use native.Mathlib.Nat.{le-trans}
 
--- BY END, THEN BY TAG NUMBER: over any table the records that a read writes come so, and none twice
-pub read-ordered : (n k : ℕ) (table place : List ℕ) (count : ℕ) (piece : Word) (list : ℕ) (r : Outcome) → readOf n k table place count piece list ≡ readTo r
-    → Ordered (r .found)
+-- BY END, THEN BY TAG NUMBER: over any tables the records that a read writes come so, and none twice
+pub read-ordered : (layout : Layout) (runs : Runs) (place : List ℕ) (count : ℕ) (piece : Word) (list : ℕ) (r : Outcome)
+    → readOf layout runs place count piece list ≡ readTo r → Ordered (r .found)
 unfolding readOf
-read-ordered n k table place count piece list r = go (allBelow s place) (ltb largest (count + length piece))
+read-ordered layout runs place count piece list r =
+    go (placeBelow layout (slotsOver layout (lengths runs)) place) (ltb largest (count + length piece))
   where
-    s : ℕ
-    s = slotsIn n k (length table)
-
     x : Outcome
-    x = read n (slotsIn n k (length table)) table place count (list / 2) piece
+    x = readIn layout runs place count (list / 2) piece
 
-    go : (below long : Bool) → readBy (read n (slotsIn n k (length table)) table place count (list / 2) piece) below long ≡ readTo r → Ordered (r .found)
+    go : (below long : Bool) → readBy (readIn layout runs place count (list / 2) piece) below long ≡ readTo r → Ordered (r .found)
     go false long q = differ cc
     go true true q = differ cc
-    go true false q = let e : x ≡ r = cc in subst (λ (y : Outcome). Ordered (y .found)) e (found-ordered n s table place count (list / 2) piece)
+    go true false q = let e : x ≡ r = cc in subst (λ (y : Outcome). Ordered (y .found)) e (kept-in layout runs place count (list / 2) piece .ordered)
 
 -- OLDEST FIRST, of every desk that calls have made, whatever tables its feeds were lent: a taking hands out the oldest of all records held, a
 -- feed puts all that it found behind them, and none is lost or changes its place

@@ -28,4 +28,3 @@ pub mod Counts
 pub mod Answering
 pub mod Answered
 pub mod ByRoom
-pub mod Ordered

@@ -10,6 +10,7 @@ pub mod Bits
 pub mod Matches
 pub mod Stepping
 pub mod Occurrences
+pub mod Kinds
 pub mod Tags
 pub mod Inputs
 pub mod Tables
@@ -17,8 +18,14 @@ pub mod Slots
 pub mod Readings
 pub mod Expected
 pub mod AnyTable
+pub mod Dealt
+pub mod Unions
+pub mod OnePart
+pub mod Layouts
+pub mod Parts
 pub mod AnyPlace
 pub mod Built
 pub mod Counting
 pub mod States
 pub mod Links
+pub mod AsRules

@@ -2,11 +2,14 @@
 pub mod Limits
 pub mod Refusal
 pub mod Words
+pub mod Kinds
+pub mod Occurrence
+pub mod Tags
 pub mod Machine
 pub mod Slicing
 pub mod Table
-pub mod Occurrence
-pub mod Tags
 pub mod Stepping
 pub mod Reading
+pub mod Parts
+pub mod Enough
 pub mod Laws

@@ -8,8 +8,7 @@ use Rattle.matching.specs.Words.{Word}
 use Rattle.matching.specs.Machine.{prefixes, walk}
 use Rattle.matching.specs.Slicing.{slice, anded}
 use Rattle.matching.specs.Table.{spot, tagsFor}
-use Rattle.matching.specs.Occurrence.{tagsEnding}
-use Rattle.matching.specs.Stepping.{OutcomeOf, Step, goesTo, inputStep, isDamaged, onPlace, readBy}
+use Rattle.matching.specs.Stepping.{OutcomeOf, Step, goesTo, isDamaged, readBy}
 unfoldable pub use Rattle.matching.specs.Stepping.{halted, tookByte}
 
 -- a reading's place: a state for each machine
@@ -56,8 +55,3 @@ read n s table place count room w = readBy (tableStep n s table) place count roo
 unfoldable pub placeAfter : ℕ → List Word → ℕ → ℕ → Word → List ℕ
 placeAfter n ts m zero v = []
 placeAfter n ts m (suc k) v = walk (prefixes (tagsFor n ts m)) 0 (map (slice n m) v) ∷ placeAfter n ts (suc m) k v
-
--- what a reading of w is to come to, where the tags are ts and v is the input before w: each byte is taken up to the
--- first whose matches find no room, and its matches are the tags that end there
-unfoldable pub expected : ℕ → ℕ → List Word → Word → ℕ → ℕ → Word → Outcome
-expected n k ts v count room w = onPlace (placeAfter n ts 0 k) (readBy (inputStep (tagsEnding ts)) v count room w)

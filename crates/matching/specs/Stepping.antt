@@ -58,3 +58,8 @@ joined a b = record { taken = a .taken + b .taken; place = b .place; stop = b .s
 -- the step that knows the whole input so far, and by f the tags that are found there
 unfoldable pub inputStep : (Word → List ℕ) → Step Word
 inputStep f v c = goesTo (v ++ c ∷ []) (f (v ++ c ∷ []))
+
+-- what a reading of w is to come to, where v is the input before w, by f the tags that are found there, and by at the place: each byte is taken up to the
+-- first whose matches find no room, and its matches are what is found there
+unfoldable pub expectedBy : {P : Type 0} → (Word → P) → (Word → List ℕ) → Word → ℕ → ℕ → Word → OutcomeOf P
+expectedBy at f v count room w = onPlace at (readBy (inputStep f) v count room w)

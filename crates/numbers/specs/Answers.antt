@@ -42,7 +42,7 @@ saidOf n values = record { answer = answerOf n values; count = length values }
 abbrev pub builtAnswer : Built → Answer
 builtAnswer r = answerOf (builtNumber r) (builtValues r)
 
--- the size query: the slots of the split and of the whole-byte layout; in the bitmap layout they are as many as in that
+-- a size query: the slots of a layout's first table and of its second, 0 where it has one table only
 abbrev pub neededAnswer : Needed → Answer
 neededAnswer r = answerOf (neededNumber r) (neededValues r)
 

@@ -140,7 +140,7 @@ pub fn of_needed(needed: Needed) -> Said
     ensures { λ r. ⌜ r ≡ saidOf (neededNumber needed) (neededValues needed) ⌝ }
 {
     match needed {
-        Needed::Slots(split, whole) => two(0, split as u64, whole as u64),
+        Needed::Slots(first, second) => two(0, first as u64, second as u64),
         Needed::Fault(fault) => of_fault(fault),
     }
 }

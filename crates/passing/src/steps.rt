@@ -3,7 +3,6 @@ use crate::places::byte;
 use crate::places::wide;
 use matching::letters;
 ghost use mathlib.Core.Path.{_≡_};
-ghost use mathlib.Core.Bool.{true};
 ghost use Prim.Native.Nat.{_+_, _*_, _/_, _<_, _≤_};
 ghost use lib.ListN.{length, take, drop, getD};
 ghost use Rattle.matching.specs.Slicing.{anded};
@@ -41,7 +40,7 @@ fn next_half(
     table: &[u16],
     s: usize,
     bits: usize,
-    starts: &[usize; 128],
+    starts: &[usize],
     place: [usize; 8],
     c: u8,
     h: usize,
@@ -68,14 +67,14 @@ pub fn next_numbers(
     table: &[u16],
     s: usize,
     bits: usize,
-    starts: &[usize; 128],
+    starts: &[usize],
     place: [usize; 8],
     c: u8,
 ) -> [usize; 8]
     requires { ⌜ Step bits s (now table) (now starts) place ⌝ }
     ensures { λ r. ⌜ take (4 / bits + 4 / bits) r ≡ nexts bits s (now (table .entry)) 0 (take (4 / bits + 4 / bits) place) c ⌝ }
 {
-    let low = next_half(table, s, bits, starts, place, c, 0, [0; 8]);
+    let low = next_half(table, s, bits, starts, place, c, 0, place);
     next_half(table, s, bits, starts, place, c, 1, low)
 }
 
@@ -102,14 +101,14 @@ pub fn vectors(
     r
 }
 
-// Whether the vectors have no bit in common. The later ones are read only where the first few have one.
-pub fn silent(table: &[u16], s: usize, bits: usize, k: usize, few: usize, place: [usize; 8]) -> bool
+// The AND of the vectors of the first k machines. The later ones are read only where the first few have a bit in common.
+pub fn hits_of(table: &[u16], s: usize, bits: usize, k: usize, few: usize, place: [usize; 8]) -> u16
     requires { ⌜ (few ≤ k) × ((bits ≤ 8) × Ready bits k s (now table) place) ⌝ }
-    ensures { λ r. ⌜ (r ≡ true → anded 65535 (vectorsAt bits s (now (table .entry)) 0 (take k place)) ≡ 0) ⌝ }
+    ensures { λ r. ⌜ r ≡ anded 65535 (vectorsAt bits s (now (table .entry)) 0 (take k place)) ⌝ }
 {
     let v = vectors(table, s, bits, 0, few, place, 65535);
     if v == 0 {
-        return true;
+        return 0;
     }
-    vectors(table, s, bits, few, k, place, v) == 0
+    vectors(table, s, bits, few, k, place, v)
 }

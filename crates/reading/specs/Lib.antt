@@ -2,5 +2,6 @@
 pub mod Outside
 pub mod Refusals
 pub mod Records
+pub mod Noted
 pub mod Walks
 pub mod Laws

@@ -1,14 +1,13 @@
--- A read outside the desk: over any table, from any place and count, into a lent list of numbers.
+-- A read outside the desk: over any tables, from any place and count, into a lent list of numbers.
 use Prim.Native.Nat.{ℕ, _+_, _/_}
-use mathlib.Core.Bool.{Bool, true, false}
-use mathlib.Core.List.{List, [], _++_}
+use mathlib.Core.Bool.{Bool, cond, true, false}
+use mathlib.Core.List.{List, [], _∷_, _++_}
 use lib.Dec.{ltb}
-use lib.ListN.{length, getD, drop}
+use lib.ListN.{length, getD, drop, replicate}
 use Rattle.matching.specs.Words.{Word}
-use Rattle.matching.specs.Table.{slotsIn}
 use Rattle.matching.specs.Occurrence.{flat}
 use Rattle.matching.specs.Limits.{largest}
-use Rattle.matching.specs.Reading.{read, allBelow}
+use Rattle.matching.specs.Parts.{Layout, Runs, lengths, placeBelow, readIn, slotsOver}
 use Rattle.matching.specs.Stepping.{OutcomeOf}
 use Rattle.reading.specs.declared.ReadRefusal.{ReadRefusal}
 use Rattle.reading.specs.declared.ReadRefusal.the-variants.{Place, Long}
@@ -22,22 +21,34 @@ pub data ReadAt (P : Type 0) : Type 0 where
   refusedRead : ReadRefusal → ReadAt P
   readTo : OutcomeOf P → ReadAt P
 
--- over a table, whose places are a state for each machine
+-- over the tables of a layout, whose places are a state for each machine
 abbrev pub ReadOf : Type 0
 ReadOf = ReadAt (List ℕ)
 
--- by whether each state is below s, and whether the bytes taken and the piece pass the largest count
+-- by whether each state is below its table's s, and whether the bytes taken and the piece pass the largest count
 abbrev pub readBy : {P : Type 0} → OutcomeOf P → Bool → Bool → ReadAt P
 readBy r false long = refusedRead Place
 readBy r true true = refusedRead Long
 readBy r true false = readTo r
 
--- over a table of k machines of n bits, into a list of so many numbers, two a record
-unfoldable pub readOf : ℕ → ℕ → List ℕ → List ℕ → ℕ → Word → ℕ → ReadOf
-readOf n k table place count piece len =
-    readBy (read n (slotsIn n k (length table)) table place count (len / 2) piece)
-    (allBelow (slotsIn n k (length table)) place)
+-- over the runs of a layout, into a list of so many numbers, two a record
+unfoldable pub readOf : Layout → Runs → List ℕ → ℕ → Word → ℕ → ReadOf
+readOf layout runs place count piece len =
+    readBy (readIn layout runs place count (len / 2) piece)
+    (placeBelow layout (slotsOver layout (lengths runs)) place)
     (ltb largest (count + length piece))
+
+-- for each state of a place, the slots of the table that it is a state of
+unfoldable pub ownSlots : Layout → List ℕ → List ℕ
+ownSlots [] slots = []
+ownSlots (p ∷ ps) slots = replicate (p .machines) (getD slots 0 0) ++ ownSlots ps (drop 1 slots)
+
+abbrev pub slotsFor : Layout → Runs → ℕ → ℕ
+slotsFor layout runs i = getD (ownSlots layout (slotsOver layout (lengths runs))) i 0
+
+-- of the split layout's two tables that of state i: the first for states 0 to 7, the second for states 8 to 15
+abbrev pub tableOf : List ℕ → List ℕ → ℕ → List ℕ
+tableOf first second i = cond (ltb i 8) first second
 
 -- the list after a read: the records at its front, and the rest as it was
 abbrev pub listBy : {P : Type 0} → List ℕ → ReadAt P → List ℕ

@@ -1,22 +1,25 @@
-// Reading a piece over any table (docs/RULES.md, 4).
+// Reading a piece over any tables (docs/RULES.md, 4).
+mod noted;
 pub mod records;
 pub mod refusals;
+mod split;
 mod walks;
 
 use crate::refusals::Verdict;
 use crate::refusals::judge;
 use crate::refusals::too_long;
-use crate::walks::on_split;
+use crate::split::on_split;
 use crate::walks::on_whole;
+use blocks::start::all_states;
+use blocks::start::slots_of;
 use matching::Stop;
 use matching::slots;
-use passing::places::all_below;
 use passing::places::narrowed;
 use passing::places::wide;
 use passing::places::widened;
-ghost use mathlib.Core.Path.{_≡_};
 ghost use mathlib.Core.List.{[], _∷_};
 ghost use lib.ListN.{length};
+ghost use Rattle.matching.specs.Parts.{splitLayout, wholeLayout};
 ghost use Rattle.reading.specs.Outside.{SplitTells, WholeTells, readOf};
 
 // Why a read outside the desk is refused.
@@ -31,11 +34,11 @@ pub enum Ending {
     Refused(ReadRefusal),
 }
 
-// What a read over a split table gives: the number of bytes taken, the new place, the number of records written, and how it ended.
+// What a read over split tables gives: the number of bytes taken, the new place, the number of records written, and how it ended.
 // A refused read takes nothing, writes nothing and stays where it was.
 pub struct SplitAnswer {
     pub taken: usize,
-    pub place: [u16; 8],
+    pub place: [u16; 16],
     pub records: usize,
     pub ending: Ending,
 }
@@ -48,20 +51,21 @@ pub struct WholeAnswer {
     pub ending: Ending,
 }
 
-// Over a split table: eight machines of one bit.
+// Over the two tables of the split layout: eight machines of one bit each.
 pub fn read_split(
-    table: &[u16],
-    place: [u16; 8],
+    first: &[u16],
+    second: &[u16],
+    place: [u16; 16],
     count: u32,
     piece: &[u8],
     list: &mut [u32],
 ) -> SplitAnswer
     ensures { λ r. ⌜ SplitTells r place (now (list .entry)) (now (list .exit))
-        (readOf 1 8 (now (table .entry)) place count (now (piece .entry)) (length (now (list .entry)))) ⌝ }
+        (readOf splitLayout (now (first .entry) ∷ now (second .entry) ∷ []) place count (now (piece .entry)) (length (now (list .entry)))) ⌝ }
 {
-    let s = slots(table.len(), 1, 8);
+    let s = slots_of(first.len(), second.len());
     let start = widened(place);
-    let sound = all_below(s, 8, start);
+    let sound = all_states(s, start);
     let long = too_long(count, piece.len());
     let verdict = judge(sound, long);
     if let Verdict::Refuse(why) = verdict {
@@ -72,7 +76,7 @@ pub fn read_split(
             ending: Ending::Refused(why),
         };
     }
-    let r = on_split(table, s, start, count, piece, list);
+    let r = on_split(first, second, s, start, count, piece, list);
     let at = r.place;
     let stop = r.stop;
     SplitAnswer {
@@ -92,7 +96,7 @@ pub fn read_whole(
     list: &mut [u32],
 ) -> WholeAnswer
     ensures { λ r. ⌜ WholeTells r place (now (list .entry)) (now (list .exit))
-        (readOf 8 1 (now (table .entry)) (place ∷ []) count (now (piece .entry)) (length (now (list .entry)))) ⌝ }
+        (readOf wholeLayout (now (table .entry) ∷ []) (place ∷ []) count (now (piece .entry)) (length (now (list .entry)))) ⌝ }
 {
     let s = slots(table.len(), 8, 1);
     let start = wide(place);

@@ -1,13 +1,8 @@
-// The loops over a piece, one for each slicing: called with constants, the parts of a step are compiled for them.
-// Quiet bytes are passed over, but only after a byte without a match, so that input full of matches is no slower.
+// The loop over a piece, for the whole-byte layout. Quiet bytes are passed over, but only after a byte without a match, so that
+// input full of matches is no slower.
 use crate::records::Emit;
 use crate::records::put_all;
 use matching::Stop;
-use passing::places::all_below;
-use passing::split::pass_split;
-use passing::starts::starts_of;
-use passing::steps::next_numbers;
-use passing::steps::vectors;
 use passing::whole::next_of;
 use passing::whole::pass_whole;
 use passing::whole::vector_of;
@@ -16,71 +11,9 @@ ghost use mathlib.Core.List.{[], _∷_};
 ghost use Prim.Native.Nat.{_+_, _*_, _/_, _<_, _≤_, _^_};
 ghost use lib.ListN.{length};
 ghost use Rattle.matching.specs.Reading.{read};
-ghost use Rattle.passing.specs.Steps.{Ready};
-ghost use Rattle.reading.specs.Walks.{Walked, WalkedOne};
+ghost use Rattle.reading.specs.Walks.{WalkedOne};
 
-// What reading comes to: the bytes taken, the place then, the records written, and why it stopped.
-pub struct Went {
-    pub taken: usize,
-    pub place: [usize; 8],
-    pub records: usize,
-    pub stop: Stop,
-}
-
-fn stopped(taken: usize, place: [usize; 8], records: usize, stop: Stop) -> Went
-    ensures { λ r. ⌜ r ≡ record { taken = taken; place = place; records = records; stop = stop } ⌝ }
-{
-    Went {
-        taken,
-        place,
-        records,
-        stop,
-    }
-}
-
-// Over a split table.
-pub fn on_split(
-    table: &[u16],
-    s: usize,
-    start: [usize; 8],
-    count: u32,
-    piece: &[u8],
-    list: &mut [u32],
-) -> Went
-    requires { ⌜ (Ready 1 8 s (now table) start) × ((s ≤ 513) × (count + length (now piece) < 2 ^ 32)) ⌝ }
-    ensures { λ r. ⌜ Walked r (now (list .entry)) (now (list .exit))
-        (read 1 s (now (table .entry)) start count (length (now (list .entry)) / 2) (now (piece .entry))) ⌝ }
-{
-    let starts = starts_of(1, s);
-    let mut place = start;
-    let mut w: usize = 0;
-    let mut i: usize = 0;
-    while i < piece.len() {
-        let next = next_numbers(table, s, 1, &starts, place, piece[i]);
-        if !all_below(s, 8, next) {
-            return stopped(i, place, w, Stop::Damaged);
-        }
-        let hits = vectors(table, s, 1, 0, 8, next, 65535);
-        match put_all(list, w, count + (i as u32) + 1, hits) {
-            Emit::Written(x) => {
-                w = x;
-            }
-            Emit::NoRoom => {
-                return stopped(i, place, w, Stop::Full);
-            }
-        }
-        place = next;
-        i += 1;
-        if hits == 0 {
-            let q = pass_split(table, s, &starts, place, piece, i);
-            let at = q.place;
-            place = at;
-            i = q.at;
-        }
-    }
-    stopped(i, place, w, Stop::All)
-}
-
+// What reading comes to: the bytes taken, the state then, the records written, and why it stopped.
 pub struct WentOne {
     pub taken: usize,
     pub state: usize,

@@ -15,10 +15,16 @@ struct Turn {
 }
 
 // At first all numbers are 0.
-fn new_table() -> [u16; 131841]
+fn new_first() -> [u16; 131841]
     ensures { λ r. ⌜ r ≡ replicate 131841 0 ⌝ }
 {
     [0u16; 131841]
+}
+
+fn new_second() -> [u16; 16384]
+    ensures { λ r. ⌜ r ≡ replicate 16384 0 ⌝ }
+{
+    [0u16; 16384]
 }
 
 fn new_list() -> [u32; 2048] {
@@ -44,7 +50,8 @@ fn one_line(
     line: &mut [u8; 20001],
     bytes: &mut [u8; 20000],
     set: &mut [u8; 4096],
-    table: &mut [u16; 131841],
+    first: &mut [u16; 131841],
+    second: &mut [u16; 16384],
     list: &mut [u32; 2048],
     out: &mut [u8; 65536],
 ) -> Turn
@@ -62,7 +69,7 @@ fn one_line(
         };
     }
     let whole = lines::first(line, gathered.kept);
-    let next = calling::answer_line(s, n, whole, bytes, set, table, list, out);
+    let next = calling::answer_line(s, n, whole, bytes, set, first, second, list, out);
     Turn {
         state: next,
         rest: after,
@@ -76,7 +83,8 @@ fn run(fd: i32) -> bool {
     let mut line = new_line();
     let mut bytes = new_bytes();
     let mut set = io::buffer();
-    let mut table = new_table();
+    let mut first = new_first();
+    let mut second = new_second();
     let mut list = new_list();
     let mut out = io::large_buffer();
     let mut s = calling::new_state();
@@ -96,7 +104,8 @@ fn run(fd: i32) -> bool {
             &mut line,
             &mut bytes,
             &mut set,
-            &mut table,
+            &mut first,
+            &mut second,
             &mut list,
             &mut out,
         );

@@ -1,5 +1,5 @@
 -- What call a line makes: each call of the replay script, with its numbers and bytes.
-use Prim.Native.Nat.{ℕ, zero, suc, _+_, _≤_, _<_}
+use Prim.Native.Nat.{ℕ, zero, suc, _+_, _-_, _≤_, _<_}
 use mathlib.Core.Bool.{Bool, true, false, _||_, cond}
 use mathlib.Core.List.{List, [], _∷_}
 use mathlib.Core.Path.{_≡_}
@@ -30,7 +30,7 @@ pub data CallOf : Type 0 where
   passedOver : CallOf
   notACall : CallOf
   callSet : List ℕ → CallOf
-  callLend : ℕ → CallOf
+  callLend : ℕ → ℕ → CallOf
   callReplace : CallOf
   callOpen : CallOf
   callFeed : ℕ → List ℕ → CallOf
@@ -40,21 +40,25 @@ pub data CallOf : Type 0 where
   callShow : CallOf
   callBuild : Layout → CallOf
   callRead : Layout → ℕ → ℕ → List ℕ → List ℕ → CallOf
-  callPoke : ℕ → ℕ → CallOf
-  callPeek : ℕ → ℕ → CallOf
+  callPoke : ℕ → ℕ → ℕ → CallOf
+  callPeek : ℕ → ℕ → ℕ → CallOf
 
 -- how many numbers a place of a layout has
 abbrev pub machinesOf : Layout → ℕ
-machinesOf Split = 8
+machinesOf Split = 16
 machinesOf Whole = 1
 machinesOf Bitmap = 1
+
+-- the numbers that the program has in table 0, and in table 1
+abbrev pub sizeOf : ℕ → ℕ
+sizeOf t = cond (eqb t 0) 131841 16384
 
 -- what a call means beside the place and the bytes that were read with it
 abbrev pub meant : List ℕ → List ℕ → Call → CallOf
 meant place bytes C.PassedOver = passedOver
 meant place bytes C.NotACall = notACall
 meant place bytes (C.Set n) = callSet (take n bytes)
-meant place bytes (C.Lend lent) = callLend lent
+meant place bytes (C.Lend lent t) = callLend lent t
 meant place bytes C.Replace = callReplace
 meant place bytes C.Open = callOpen
 meant place bytes (C.Feed serial n) = callFeed serial (take n bytes)
@@ -64,15 +68,15 @@ meant place bytes C.Take = callTake
 meant place bytes C.Show = callShow
 meant place bytes (C.Build layout) = callBuild layout
 meant place bytes (C.Read r) = callRead (r .layout) (r .count) (r .room) (take (machinesOf (r .layout)) place) (take (r .piece) bytes)
-meant place bytes (C.Poke at value) = callPoke at value
-meant place bytes (C.Peek at count) = callPeek at count
+meant place bytes (C.Poke at value t) = callPoke at value t
+meant place bytes (C.Peek at count t) = callPeek at count t
 
 -- a call's numbers stand within what the program holds, and its bytes within the buffer
 abbrev pub Bounded : Call → Type 0
 Bounded C.PassedOver = Unit {0}
 Bounded C.NotACall = Unit {0}
 Bounded (C.Set n) = n ≤ 4096
-Bounded (C.Lend lent) = lent ≤ 131841
+Bounded (C.Lend lent t) = lent ≤ sizeOf t
 Bounded C.Replace = Unit {0}
 Bounded C.Open = Unit {0}
 Bounded (C.Feed serial n) = n ≤ 20000
@@ -82,8 +86,8 @@ Bounded C.Take = Unit {0}
 Bounded C.Show = Unit {0}
 Bounded (C.Build layout) = Unit {0}
 Bounded (C.Read r) = (r .room ≤ 2048) × (r .piece ≤ 20000)
-Bounded (C.Poke at value) = at < 131841
-Bounded (C.Peek at count) = at + count ≤ 131841
+Bounded (C.Poke at value t) = at < sizeOf t
+Bounded (C.Peek at count t) = at + count ≤ sizeOf t
 
 -- a call says this, whatever place and bytes stand beside it, and is bounded
 pub record Plain (says : CallOf) (call : Call) : Type 0 where
@@ -130,9 +134,18 @@ abbrev pub setBy : BytesOf → CallOf
 setBy (these bytes) = callSet bytes
 setBy noBytes = notACall
 
-abbrev pub lendBy : Number → CallOf
-lendBy (Is lent) = callLend lent
-lendBy NoNumber = notACall
+-- T: the table that is named behind the word at the front, 0 where nothing stands there
+unfoldable pub tableOf : List ℕ → Number
+tableOf words = cond (eqb (reach 32 words) (length words)) (Is 0) (numberOf 1 (behind words))
+
+abbrev pub lendBy : ℕ → Number → CallOf
+lendBy t (Is lent) = callLend lent t
+lendBy t NoNumber = notACall
+
+-- LENT, of table T
+abbrev pub lendOf : Number → List ℕ → CallOf
+lendOf (Is t) words = lendBy t (numberOf (sizeOf t) (wordOf words))
+lendOf NoNumber words = notACall
 
 abbrev pub feedBy : Number → BytesOf → CallOf
 feedBy (Is serial) (these piece) = callFeed serial piece
@@ -175,14 +188,24 @@ abbrev pub readOn : Layouts → List ℕ → CallOf
 readOn (Named layout) words = readOver layout words
 readOn Unnamed words = notACall
 
-abbrev pub pokeBy : Numbers → CallOf
-pokeBy (Both at value) = callPoke at value
-pokeBy NotBoth = notACall
+abbrev pub pokeBy : ℕ → Numbers → CallOf
+pokeBy t (Both at value) = callPoke at value t
+pokeBy t NotBoth = notACall
 
--- all numbers that are shown stand in the table buffer
-abbrev pub peekBy : Numbers → CallOf
-peekBy (Both at count) = cond (leb (at + count) 131841) (callPeek at count) notACall
-peekBy NotBoth = notACall
+-- AT VALUE, of table T
+abbrev pub pokeOf : Number → List ℕ → CallOf
+pokeOf (Is t) words = pokeBy t (numbersOf (sizeOf t - 1) 65535 words)
+pokeOf NoNumber words = notACall
+
+-- all numbers that are shown stand in the table
+abbrev pub peekBy : ℕ → Numbers → CallOf
+peekBy t (Both at count) = cond (leb (at + count) (sizeOf t)) (callPeek at count t) notACall
+peekBy t NotBoth = notACall
+
+-- AT COUNT, of table T
+abbrev pub peekOf : Number → List ℕ → CallOf
+peekOf (Is t) words = peekBy t (numbersOf 4294967295 256 words)
+peekOf NoNumber words = notACall
 
 -- the name of a call on the desk
 unfoldable pub deskName : List ℕ → Name
@@ -221,7 +244,7 @@ pub record Alone (whole : Bool) (call r : Call) : Type 0 where
 -- a call by its name, whether that is the whole line, and the words behind it
 abbrev pub callBy : Name → Bool → List ℕ → CallOf
 callBy N.Set whole words = setBy (setOf words)
-callBy N.Lend whole words = lendBy (numberOf 131841 words)
+callBy N.Lend whole words = lendOf (tableOf words) words
 callBy N.Replace whole words = alone whole callReplace
 callBy N.Open whole words = alone whole callOpen
 callBy N.Feed whole words = feedBy (numberOf 4294967295 (wordOf words)) (bytesOf (behind words))
@@ -231,8 +254,8 @@ callBy N.Take whole words = alone whole callTake
 callBy N.Show whole words = alone whole callShow
 callBy N.Build whole words = buildBy (layoutOf words)
 callBy N.Read whole words = readOn (layoutOf (wordOf words)) (behind words)
-callBy N.Poke whole words = pokeBy (numbersOf 131840 65535 words)
-callBy N.Peek whole words = peekBy (numbersOf 4294967295 256 words)
+callBy N.Poke whole words = pokeOf (tableOf (behind words)) words
+callBy N.Peek whole words = peekOf (tableOf (behind words)) words
 callBy N.Other whole words = notACall
 
 -- a line says what its name and the words behind it mean

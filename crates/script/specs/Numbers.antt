@@ -37,6 +37,6 @@ bothBy (Is n) (Is m) = Both n m
 bothBy (Is n) NoNumber = NotBoth
 bothBy NoNumber second = NotBoth
 
--- a word as a number of at most `first`, and what stands behind it as one of at most `last`
+-- the word at the front as a number of at most `first`, and the next one as a number of at most `last`
 unfoldable pub numbersOf : ℕ → ℕ → List ℕ → Numbers
-numbersOf first last words = bothBy (numberOf first (wordOf words)) (numberOf last (behind words))
+numbersOf first last words = bothBy (numberOf first (wordOf words)) (numberOf last (wordOf (behind words)))

@@ -5,6 +5,7 @@ mod names;
 mod numbers;
 mod reads;
 mod sets;
+mod tables;
 mod words;
 
 use bytes::Bytes;
@@ -15,9 +16,7 @@ pub use lines::line_part;
 use names::Layouts;
 use names::Name;
 use numbers::Number;
-use numbers::Numbers;
 use numbers::number_of;
-use numbers::numbers_of;
 pub use reads::machines;
 use words::behind;
 use words::word;
@@ -26,11 +25,10 @@ ghost use Prim.Native.Nat.{_≤_};
 ghost use lib.ListN.{length};
 ghost use Rattle.script.specs.Words.{wordOf};
 ghost use Rattle.script.specs.Words.{behind as behind·of};
-ghost use Rattle.script.specs.Numbers.{numberOf, numbersOf};
+ghost use Rattle.script.specs.Numbers.{numberOf};
 ghost use Rattle.script.specs.Bytes.{bytesOf};
 ghost use Rattle.script.specs.Sets.{setOf};
-ghost use Rattle.script.specs.Calls.{Bounded, Plain, Filled, Alone, Called, callOf, meant, setBy, lendBy, feedBy, closeBy, stateBy, buildBy};
-ghost use Rattle.script.specs.Calls.{pokeBy, peekBy, layoutOf};
+ghost use Rattle.script.specs.Calls.{Bounded, Plain, Filled, Alone, Called, callOf, meant, setBy, feedBy, closeBy, stateBy, buildBy, layoutOf};
 
 pub enum Layout {
     Split,
@@ -38,12 +36,12 @@ pub enum Layout {
     Bitmap,
 }
 
-// A call's numbers; of its bytes, how many the buffer begins with.
+// A call's numbers, with the table's as the last; of its bytes, how many the buffer begins with.
 pub enum Call {
     PassedOver,
     NotACall,
     Set(usize),
-    Lend(usize),
+    Lend(usize, usize),
     Replace,
     Open,
     Feed(u32, usize),
@@ -53,8 +51,8 @@ pub enum Call {
     Show,
     Build(Layout),
     Read(ReadCall),
-    Poke(usize, u16),
-    Peek(usize, usize),
+    Poke(usize, u16, usize),
+    Peek(usize, usize, usize),
 }
 
 // A read outside the desk: so many bytes were taken before, and its list has so many numbers.
@@ -65,10 +63,10 @@ pub struct ReadCall {
     pub piece: usize,
 }
 
-// A line's call, and the place of a read: 8 numbers, or 1 and zeros. Of any other call the place is all 0.
+// A line's call, and the place of a read: 16 numbers, or 1 and zeros. Of any other call the place is all 0.
 pub struct Line {
     pub call: Call,
-    pub place: [u16; 8],
+    pub place: [u16; 16],
 }
 
 const LONGEST: usize = 20000;
@@ -97,7 +95,7 @@ pub fn call_of(line: &[u8], buffer: &mut [u8; 20000]) -> Line
 fn plain(call: Call) -> Line
     ensures { λ r. ⌜ r .call ≡ call ⌝ }
 {
-    let place = [0u16; 8];
+    let place = [0u16; 16];
     Line { call, place }
 }
 
@@ -108,7 +106,7 @@ fn by_name(name: Name, whole: bool, words: &[u8], buffer: &mut [u8]) -> Line
 {
     match name {
         Name::Set => plain(set(words, buffer)),
-        Name::Lend => plain(lend(words)),
+        Name::Lend => plain(tables::lend(words)),
         Name::Replace => plain(alone(whole, Call::Replace)),
         Name::Open => plain(alone(whole, Call::Open)),
         Name::Feed => plain(feed(words, buffer)),
@@ -118,8 +116,8 @@ fn by_name(name: Name, whole: bool, words: &[u8], buffer: &mut [u8]) -> Line
         Name::Show => plain(alone(whole, Call::Show)),
         Name::Build => plain(build(words)),
         Name::Read => reads::read(words, buffer),
-        Name::Poke => plain(poke(words)),
-        Name::Peek => plain(peek(words)),
+        Name::Poke => plain(tables::poke(words)),
+        Name::Peek => plain(tables::peek(words)),
         Name::Other => plain(Call::NotACall),
     }
 }
@@ -141,15 +139,6 @@ fn set(words: &[u8], buffer: &mut [u8]) -> Call
         return Call::NotACall;
     };
     Call::Set(n)
-}
-
-fn lend(words: &[u8]) -> Call
-    ensures { λ r. ⌜ Plain (lendBy (numberOf 131841 (now (words .entry)))) r ⌝ }
-{
-    let Number::Is(lent) = number_of(words, 131841) else {
-        return Call::NotACall;
-    };
-    Call::Lend(lent as usize)
 }
 
 fn feed(words: &[u8], buffer: &mut [u8]) -> Call
@@ -190,27 +179,4 @@ fn build(words: &[u8]) -> Call
         return Call::NotACall;
     };
     Call::Build(layout)
-}
-
-fn poke(words: &[u8]) -> Call
-    ensures { λ r. ⌜ Plain (pokeBy (numbersOf 131840 65535 (now (words .entry)))) r ⌝ }
-{
-    let Numbers::Both(at, value) = numbers_of(words, 131840, 65535) else {
-        return Call::NotACall;
-    };
-    Call::Poke(at as usize, value as u16)
-}
-
-fn peek(words: &[u8]) -> Call
-    ensures { λ r. ⌜ Plain (peekBy (numbersOf 4294967295 256 (now (words .entry)))) r ⌝ }
-{
-    let Numbers::Both(at, count) = numbers_of(words, LARGEST, 256) else {
-        return Call::NotACall;
-    };
-    let from = at as usize;
-    let shown = count as usize;
-    if 131841 < from + shown {
-        return Call::NotACall;
-    }
-    Call::Peek(from, shown)
 }

@@ -9,7 +9,7 @@ pub enum Number {
     NoNumber,
 }
 
-// A number and another behind it; or one of the two is none.
+// Two numbers, one behind the other; or one of the two is none.
 pub enum Numbers {
     Both(u32, u32),
     NotBoth,
@@ -71,14 +71,14 @@ pub fn number_of(word: &[u8], most: u32) -> Number
     Number::Is(n as u32)
 }
 
-// The first word as a number of at most `first`, and what stands behind it as one of at most `last`.
+// The first word as a number of at most `first`, and the next one as a number of at most `last`.
 pub fn numbers_of(words: &[u8], first: u32, last: u32) -> Numbers
     ensures { λ r. ⌜ r ≡ numbersOf first last (now (words .entry)) ⌝ }
 {
     let Number::Is(n) = number_of(word(words), first) else {
         return Numbers::NotBoth;
     };
-    let Number::Is(m) = number_of(behind(words), last) else {
+    let Number::Is(m) = number_of(word(behind(words)), last) else {
         return Numbers::NotBoth;
     };
     Numbers::Both(n, m)

@@ -26,7 +26,7 @@ pub fn machines(layout: Layout) -> usize
     ensures { λ r. ⌜ r ≡ machinesOf layout ⌝ }
 {
     match layout {
-        Layout::Split => 8,
+        Layout::Split => 16,
         Layout::Whole => 1,
         Layout::Bitmap => 1,
     }
@@ -35,14 +35,14 @@ pub fn machines(layout: Layout) -> usize
 // The numbers of a place, where all its words are numbers.
 pub struct Place {
     pub found: bool,
-    pub numbers: [u16; 8],
+    pub numbers: [u16; 16],
 }
 
 fn place_of(words: &[u8], k: usize) -> Place
-    requires { ⌜ k ≤ 8 ⌝ }
+    requires { ⌜ k ≤ 16 ⌝ }
     ensures { λ r. ⌜ placeIn k r ≡ placeOf k (now (words .entry)) ⌝ }
 {
-    let mut numbers = [0u16; 8];
+    let mut numbers = [0u16; 16];
     let mut rest = words;
     let mut i: usize = 0;
     while i < k {

@@ -5,6 +5,7 @@ use desk::Desk;
 use desk::Serial;
 use desk::pieces::new_list;
 use desk::pieces::taken_by;
+ghost use Rattle.desk.specs.Layout.{lent};
 ghost use Rattle.output.specs.Buffer.{buffer};
 ghost use Rattle.serving.specs.Serving.{FeedsRest, FeedsPiece};
 
@@ -19,14 +20,16 @@ pub struct Fed {
 fn feed_rest(
     desk: Desk,
     serial: Serial,
-    table: &[u16],
+    first: &[u16],
+    second: &[u16],
     rest: &[u8],
     out: &mut [u8; 65536],
     used: usize,
 ) -> Fed
-    ensures { λ r. ⌜ FeedsRest serial (now (table .entry)) desk (now (rest .entry)) (buffer (now (out .entry)) used) r (buffer (now (out .exit)) (r .used)) ⌝ }
+    ensures { λ r. ⌜ FeedsRest serial (lent (now (first .entry)) (now (second .entry))) desk (now (rest .entry))
+        (buffer (now (out .entry)) used) r (buffer (now (out .exit)) (r .used)) ⌝ }
 {
-    let feeding = desk.feed(serial, table, rest);
+    let feeding = desk.feed(serial, first, second, rest);
     let fed = feeding.desk;
     let answer = feeding.answer;
     let mut list = new_list();
@@ -44,19 +47,20 @@ fn feed_rest(
 pub fn feed_piece(
     desk: Desk,
     serial: Serial,
-    table: &[u16],
+    first: &[u16],
+    second: &[u16],
     piece: &[u8],
     out: &mut [u8; 65536],
     used: usize,
 ) -> Fed
-    ensures { λ r. ⌜ FeedsPiece serial (now (table .entry)) desk (now (piece .entry))
+    ensures { λ r. ⌜ FeedsPiece serial (lent (now (first .entry)) (now (second .entry))) desk (now (piece .entry))
         (buffer (now (out .entry)) used) r (buffer (now (out .exit)) (r .used)) ⌝ }
 {
     let mut now = desk;
     let mut put = used;
     let mut from: usize = 0;
     while from < piece.len() {
-        let fed = feed_rest(now, serial, table, &piece[from..], out, put);
+        let fed = feed_rest(now, serial, first, second, &piece[from..], out, put);
         let next = fed.desk;
         now = next;
         put = fed.used;

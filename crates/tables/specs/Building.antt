@@ -1,12 +1,12 @@
--- Building a table for a slicing of n bits and k machines, from the bytes of a set, over a lent run of numbers.
-use Prim.Native.Nat.{ℕ, zero, suc, _*_, max}
-use mathlib.Core.Bool.{cond}
-use mathlib.Core.List.{List, [], _∷_, _++_}
-use lib.Dec.{eqb}
-use lib.ListN.{length, drop}
+-- Building the tables of a layout, from the bytes of a set, over lent runs of numbers, one for each part.
+use Prim.Native.Nat.{ℕ, zero, suc, max}
+use mathlib.Core.List.{List, [], _∷_, map}
+use lib.ListN.{getD, length}
 use Rattle.matching.specs.Words.{Word}
 use Rattle.matching.specs.Machine.{states}
-use Rattle.matching.specs.Table.{slotSize, slotsIn, tagsFor, built, Room, enoughSlots, shortOfSlots, roomFrom}
+use Rattle.matching.specs.Parts.{Layout, Part, Runs, kindsFor, lengths, roomIn, tablesFor}
+use Rattle.matching.specs.Table.{tagsFor, Room, enoughSlots, shortOfSlots}
+use Rattle.matching.specs.Tags.{Tags, ofKind}
 use Rattle.tagset.specs.Grammar.{SetOf, goodSet, badSet, setOf}
 use Rattle.tagset.specs.Answer.{faultNumber, faultValues}
 use Rattle.tables.specs.declared.Built.{Built}
@@ -14,50 +14,49 @@ use Rattle.tables.specs.declared.Built.the-variants as B
 use Rattle.tables.specs.declared.Needed.{Needed}
 use Rattle.tables.specs.declared.Needed.the-variants as N
 
--- a machine's name: its number, and 254 for the one machine of whole bytes
-abbrev pub machineName : ℕ → ℕ → ℕ
-machineName n m = cond (eqb n 8) 254 m
+abbrev pub builtBy : Tags → Room → Built
+builtBy tags enoughSlots = B.Tags (length tags)
+builtBy tags (shortOfSlots name needs) = B.Table name needs
 
-abbrev pub builtBy : ℕ → List Word → Room → Built
-builtBy n ts enoughSlots = B.Tags (length ts)
-builtBy n ts (shortOfSlots m needs) = B.Table (machineName n m) needs
+abbrev pub onSet : Layout → List ℕ → SetOf → Built
+onSet layout lens (badSet fault) = B.Fault fault
+onSet layout lens (goodSet tags) = builtBy tags (roomIn layout tags lens)
 
-abbrev pub onSet : ℕ → ℕ → ℕ → SetOf → Built
-onSet n k s (badSet fault) = B.Fault fault
-onSet n k s (goodSet ts) = builtBy n ts (roomFrom n s ts 0 k)
+-- the answer, for runs of so many numbers: set faults, then TABLE
+unfoldable pub builtOf : Layout → List ℕ → List ℕ → Built
+builtOf layout bytes lens = onSet layout lens (setOf (kindsFor layout) bytes)
 
--- the answer, for a run of so many numbers: set faults, then TABLE
-unfoldable pub builtOf : ℕ → ℕ → List ℕ → ℕ → Built
-builtOf n k bytes len = onSet n k (slotsIn n k len) (setOf bytes)
+abbrev pub tablesBy : Layout → Tags → Runs → Room → Runs
+tablesBy layout tags runs enoughSlots = tablesFor layout tags runs
+tablesBy layout tags runs (shortOfSlots name needs) = runs
 
--- a run of numbers with the table of the tags at its front: the numbers beyond the last slot are unchanged
-abbrev pub withTable : ℕ → ℕ → List Word → List ℕ → List ℕ
-withTable n k ts run = built n k (slotsIn n k (length run)) ts ++ drop (k * (slotsIn n k (length run) * slotSize n)) run
+abbrev pub onSetTables : Layout → Runs → SetOf → Runs
+onSetTables layout runs (badSet fault) = runs
+onSetTables layout runs (goodSet tags) = tablesBy layout tags runs (roomIn layout tags (lengths runs))
 
-abbrev pub tableBy : ℕ → ℕ → List Word → List ℕ → Room → List ℕ
-tableBy n k ts run enoughSlots = withTable n k ts run
-tableBy n k ts run (shortOfSlots m needs) = run
-
-abbrev pub onSetTable : ℕ → ℕ → List ℕ → SetOf → List ℕ
-onSetTable n k run (badSet fault) = run
-onSetTable n k run (goodSet ts) = tableBy n k ts run (roomFrom n (slotsIn n k (length run)) ts 0 k)
-
--- the run after building: the table where it is accepted, what it was where it is refused
-unfoldable pub tableOf : ℕ → ℕ → List ℕ → List ℕ → List ℕ
-tableOf n k bytes run = onSetTable n k run (setOf bytes)
+-- the runs after building: the tables where it is accepted, what they were where it is refused
+unfoldable pub tablesOf : Layout → List ℕ → Runs → Runs
+tablesOf layout bytes runs = onSetTables layout runs (setOf (kindsFor layout) bytes)
 
 -- the most states that one of machines m, .., m + k - 1 needs
 unfoldable pub mostStates : ℕ → List Word → ℕ → ℕ → ℕ
 mostStates n ts m zero = 0
 mostStates n ts m (suc k) = max (states (tagsFor n ts m)) (mostStates n ts (suc m) k)
 
--- the slots that the split and the whole-byte layout need
-abbrev pub neededBy : SetOf → Needed
-neededBy (badSet fault) = N.Fault fault
-neededBy (goodSet ts) = N.Slots (mostStates 1 ts 0 8) (mostStates 8 ts 0 1)
+-- the slots that a part needs for its tags, and those that each part of a layout needs
+abbrev pub partNeeds : Part → Tags → ℕ
+partNeeds p tags = mostStates (p .bits) (ofKind (p .kind) tags) 0 (p .machines)
 
-unfoldable pub neededOf : List ℕ → Needed
-neededOf bytes = neededBy (setOf bytes)
+abbrev pub slotsNeeded : Layout → Tags → List ℕ
+slotsNeeded layout tags = map (λ (p : Part). partNeeds p tags) layout
+
+-- those of the first and of the second part; 0 where there is no second
+abbrev pub neededBy : Layout → SetOf → Needed
+neededBy layout (badSet fault) = N.Fault fault
+neededBy layout (goodSet tags) = N.Slots (getD (slotsNeeded layout tags) 0 0) (getD (slotsNeeded layout tags) 1 0)
+
+unfoldable pub neededOf : Layout → List ℕ → Needed
+neededOf layout bytes = neededBy layout (setOf (kindsFor layout) bytes)
 
 -- the number of an answer in the table of refusals, 0 where it is none; and what is returned with it, or given
 abbrev pub builtNumber : Built → ℕ
@@ -71,9 +70,9 @@ builtValues (B.Fault fault) = faultValues fault
 builtValues (B.Table machine needs) = machine ∷ needs ∷ []
 
 abbrev pub neededNumber : Needed → ℕ
-neededNumber (N.Slots split whole) = 0
+neededNumber (N.Slots first second) = 0
 neededNumber (N.Fault fault) = faultNumber fault
 
 abbrev pub neededValues : Needed → List ℕ
-neededValues (N.Slots split whole) = split ∷ whole ∷ []
+neededValues (N.Slots first second) = first ∷ second ∷ []
 neededValues (N.Fault fault) = faultValues fault

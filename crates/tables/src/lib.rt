@@ -1,163 +1,82 @@
-// Building tables (docs/RULES.md, 2 and 3): one builder for every slicing of a byte.
+// Building tables (docs/RULES.md, 2 and 3): one builder for the machines of every part of a layout.
 ghost use mathlib.Core.Path.{_≡_};
-ghost use mathlib.Core.Bool.{cond};
-ghost use mathlib.Core.List.{List, _++_};
-ghost use Prim.Native.Nat.{ℕ, _+_, _*_, _<_, _≤_};
-ghost use lib.ListN.{length, drop};
-ghost use Rattle.matching.specs.Words.{Word};
-ghost use Rattle.matching.specs.Machine.{states};
-ghost use Rattle.matching.specs.Table.{slotSize, tagsFor, built, roomFrom};
-ghost use Rattle.tagset.specs.Answer.{cutAt};
-ghost use Rattle.tables.specs.Building.{machineName, builtBy, builtOf, tableOf, mostStates, neededOf};
-ghost use Rattle.machines.specs.Rows.{Filled};
-ghost use Rattle.tables.specs.Shape.{Shaped, Tagged, builtTags, tableTags, isAccepted};
-use machines::count_states;
-use machines::larger;
-use machines::make_slots;
-use machines::spell;
-use matching::slots;
+ghost use mathlib.Core.Bool.{_&&_, cond};
+ghost use mathlib.Core.List.{[], _∷_};
+ghost use Prim.Native.Nat.{_≤_};
+ghost use lib.ListN.{length};
+ghost use Rattle.matching.specs.Parts.{roomIn, splitLayout, wholeLayout};
+ghost use Rattle.matching.specs.Tags.{Tags};
+ghost use Rattle.choosing.specs.Choosing.{lyingIn};
+ghost use Rattle.tables.specs.Building.{builtBy, builtOf, neededOf, tablesBy, tablesOf};
+ghost use Rattle.tables.specs.Shape.{Folded, Held, isAccepted};
+use kinds::EXACT;
+use kinds::FOLDED;
+use kinds::Takes;
+use kinds::folding::fold_all;
+use parts::fill_part;
+use parts::judge_part;
+use parts::part_needs;
+use tagset::Places;
 use tagset::SetFault;
 use tagset::Verdict;
 use tagset::read_set;
 
-// What building gives: the number of tags; or the set's fault; or the lowest machine short of slots and the states that it needs.
+mod parts;
+
+// What building gives: the number of tags; or the set's fault; or the lowest machine short of slots, by its name, and the states that it needs.
 pub enum Built {
     Tags(usize),
     Fault(SetFault),
     Table(usize, usize),
 }
 
-// The slots that each layout needs for a set; or the set's fault.
+// The slots that the first and the second part of a layout need for a set, 0 where there is no second; or the set's fault.
 pub enum Needed {
     Slots(usize, usize),
     Fault(SetFault),
 }
 
-// A slicing: so many bits for each of the machines, the letters that they make, and the mask that leaves them.
-struct Layout {
+// A part of a layout: the kind of its tags, so many bits for each of its machines, the name of the first of them, the letters that the bits make,
+// and the mask that leaves them.
+struct Part {
+    kind: usize,
     bits: usize,
     machines: usize,
+    name: usize,
     letters: usize,
     mask: u8,
 }
 
-const SPLIT: Layout = Layout {
+// The split layout has two parts, each with a machine for each bit of a byte.
+const BIT_MACHINES: usize = 8;
+
+const EXACT_BITS: Part = Part {
+    kind: EXACT,
     bits: 1,
-    machines: 8,
+    machines: BIT_MACHINES,
+    name: 0,
     letters: 2,
     mask: 1,
 };
 
-const WHOLE: Layout = Layout {
+const FOLDED_BITS: Part = Part {
+    kind: FOLDED,
+    bits: 1,
+    machines: BIT_MACHINES,
+    name: 8,
+    letters: 2,
+    mask: 1,
+};
+
+// The whole-byte layout has one.
+const WHOLE_BYTES: Part = Part {
+    kind: EXACT,
     bits: 8,
     machines: 1,
+    name: 254,
     letters: 256,
     mask: 255,
 };
-
-// The states that machine m needs.
-fn states_of(set: &[u8], from: &[usize], to: &[usize], layout: Layout, m: usize) -> usize
-    ghost { List Word }
-    requires { λ ts. ⌜ cutAt (now set) (now from) (now to) ≡ ts ⌝ }
-    requires { λ ts. ⌜ (Shaped layout) × (m < layout .machines) × (Tagged (now set) (length (now from)) ts) ⌝ }
-    ensures { λ ts r. ⌜ r ≡ states (tagsFor (layout .bits) ts m) ⌝ }
-{
-    let mut letters = [0u8; 576];
-    spell(set, m * layout.bits, layout.mask, &mut letters);
-    let n = set.len();
-    count_states(&letters[..n], from, to)
-}
-
-// The slots of machine m.
-fn fill_machine(
-    set: &[u8],
-    from: &[usize],
-    to: &[usize],
-    layout: Layout,
-    m: usize,
-    part: &mut [u16],
-)
-    ghost { List Word }
-    requires { λ ts. ⌜ cutAt (now set) (now from) (now to) ≡ ts ⌝ }
-    requires { λ ts. ⌜ (Shaped layout) × (m < layout .machines) × (Tagged (now set) (length (now from)) ts)
-        × (states (tagsFor (layout .bits) ts m) * (layout .letters + 1) ≤ length (now part)) ⌝ }
-    ensures { λ ts _. ⌜ Filled (tagsFor (layout .bits) ts m) (layout .letters) (now (part .exit)) ⌝ }
-{
-    let mut letters = [0u8; 576];
-    spell(set, m * layout.bits, layout.mask, &mut letters);
-    let n = set.len();
-    make_slots(&letters[..n], from, to, layout.letters, part);
-}
-
-// Every machine's slots, one machine behind the other.
-fn fill_machines(
-    set: &[u8],
-    from: &[usize],
-    to: &[usize],
-    layout: Layout,
-    s: usize,
-    table: &mut [u16],
-)
-    ghost { List Word }
-    requires { λ ts. ⌜ cutAt (now set) (now from) (now to) ≡ ts ⌝ }
-    requires { λ ts. ⌜ (Shaped layout) × (Tagged (now set) (length (now from)) ts) × (layout .machines * (s * (layout .letters + 1)) ≤ length (now table))
-        × ((m : ℕ) → m < layout .machines → states (tagsFor (layout .bits) ts m) ≤ s) ⌝ }
-    ensures { λ ts _. ⌜ now (table .exit) ≡ built (layout .bits) (layout .machines) s ts
-        ++ drop (layout .machines * (s * slotSize (layout .bits))) (now (table .entry)) ⌝ }
-{
-    let machines = layout.machines;
-    let size = s * (layout.letters + 1);
-    let mut m = 0;
-    let mut at = 0;
-    while m < machines {
-        let end = at + size;
-        fill_machine(set, from, to, layout, m, &mut table[at..end]);
-        at = end;
-        m += 1;
-    }
-}
-
-// A machine's name in a refusal.
-fn name_of(layout: Layout, m: usize) -> usize
-    ensures { λ r. ⌜ r ≡ machineName (layout .bits) m ⌝ }
-{
-    if layout.bits == 8 { 254 } else { m }
-}
-
-// The tags that are accepted, or the lowest machine short of slots: all are counted, and nothing is written.
-fn judge(set: &[u8], from: &[usize], to: &[usize], layout: Layout, s: usize) -> Built
-    ghost { List Word }
-    requires { λ ts. ⌜ cutAt (now set) (now from) (now to) ≡ ts ⌝ }
-    requires { λ ts. ⌜ (Shaped layout) × (Tagged (now set) (length (now from)) ts) ⌝ }
-    ensures { λ ts r. ⌜ r ≡ builtBy (layout .bits) ts (roomFrom (layout .bits) s ts 0 (layout .machines)) ⌝ }
-{
-    let machines = layout.machines;
-    let mut m = 0;
-    while m < machines {
-        let needs = states_of(set, from, to, layout, m);
-        if s < needs {
-            return Built::Table(name_of(layout, m), needs);
-        }
-        m += 1;
-    }
-    Built::Tags(from.len())
-}
-
-// The most states that one of the machines needs.
-fn most_states(set: &[u8], from: &[usize], to: &[usize], layout: Layout) -> usize
-    ghost { List Word }
-    requires { λ ts. ⌜ cutAt (now set) (now from) (now to) ≡ ts ⌝ }
-    requires { λ ts. ⌜ (Shaped layout) × (Tagged (now set) (length (now from)) ts) ⌝ }
-    ensures { λ ts r. ⌜ r ≡ mostStates (layout .bits) ts 0 (layout .machines) ⌝ }
-{
-    let mut most = 0;
-    let mut m = layout.machines;
-    while 0 < m {
-        m -= 1;
-        most = larger(states_of(set, from, to, layout, m), most);
-    }
-    most
-}
 
 fn accepted(answer: Built) -> bool
     ensures { λ r. ⌜ r ≡ isAccepted answer ⌝ }
@@ -169,90 +88,161 @@ fn accepted(answer: Built) -> bool
     }
 }
 
-// The tags' table, where it is accepted and to be written.
-fn build_tags(
-    set: &[u8],
-    from: &[usize],
-    to: &[usize],
-    layout: Layout,
-    table: &mut [u16],
+// Whether the tables are to be written: where building is accepted and asked to write.
+fn writes(answer: Built, write: bool) -> bool
+    ensures { λ r. ⌜ r ≡ (write && isAccepted answer) ⌝ }
+{
+    if write {
+        return accepted(answer);
+    }
+    false
+}
+
+// The bytes of a set folded, at the front of an array.
+fn fold_set(set: &[u8]) -> [u8; 576]
+    requires { ⌜ length (now set) ≤ 576 ⌝ }
+    ensures { λ r. ⌜ Folded (now (set .entry)) r ⌝ }
+{
+    let mut folded = [0u8; 576];
+    fold_all(set, &mut folded);
+    folded
+}
+
+// Both parts of the split layout are judged, the first before the second.
+fn judge_split<'a>(
+    set: &'a [u8],
+    folded: &'a [u8],
+    places: Places,
+    first: usize,
+    second: usize,
+) -> Built
+    ghost { Tags }
+    requires { λ tags. ⌜ lyingIn (now set) places ≡ tags ⌝ }
+    requires { λ tags. ⌜ Held (now set) (now folded) places tags ⌝ }
+    ensures { λ tags r. ⌜ r ≡ builtBy tags (roomIn splitLayout tags (first ∷ second ∷ [])) ⌝ }
+{
+    let answer = judge_part(set, folded, places, EXACT_BITS, first);
+    if !accepted(answer) {
+        return answer;
+    }
+    judge_part(set, folded, places, FOLDED_BITS, second)
+}
+
+// The split tables of tags: both parts are judged before either is written.
+fn build_split_tags<'a>(
+    set: &'a [u8],
+    folded: &'a [u8],
+    places: Places,
+    first: &mut [u16],
+    second: &mut [u16],
     write: bool,
 ) -> Built
-    ghost { List Word }
-    requires { λ ts. ⌜ cutAt (now set) (now from) (now to) ≡ ts ⌝ }
-    requires { λ ts. ⌜ (Shaped layout) × (Tagged (now set) (length (now from)) ts) ⌝ }
-    ensures answer { λ ts r. ⌜ r ≡ builtTags (layout .bits) (layout .machines) ts (length (now (table .entry))) ⌝ }
-    ensures left { λ ts _. ⌜ now (table .exit) ≡ cond write (tableTags (layout .bits) (layout .machines) ts (now (table .entry))) (now (table .entry)) ⌝ }
+    ghost { Tags }
+    requires { λ tags. ⌜ lyingIn (now set) places ≡ tags ⌝ }
+    requires { λ tags. ⌜ Held (now set) (now folded) places tags ⌝ }
+    ensures answer { λ tags r. ⌜ r ≡ builtBy tags (roomIn splitLayout tags (length (now (first .entry)) ∷ length (now (second .entry)) ∷ [])) ⌝ }
+    ensures left { λ tags _. ⌜ now (first .exit) ∷ now (second .exit) ∷ []
+        ≡ cond write (tablesBy splitLayout tags (now (first .entry) ∷ now (second .entry) ∷ [])
+        (roomIn splitLayout tags (length (now (first .entry)) ∷ length (now (second .entry)) ∷ [])))
+        (now (first .entry) ∷ now (second .entry) ∷ []) ⌝ }
 {
-    let s = slots(table.len(), layout.bits, layout.machines);
-    let answer = judge(set, from, to, layout, s);
-    if !write {
+    let answer = judge_split(set, folded, places, first.len(), second.len());
+    if !writes(answer, write) {
         return answer;
     }
-    if accepted(answer) {
-        fill_machines(set, from, to, layout, s, table);
-        return answer;
-    }
+    fill_part(set, folded, places, EXACT_BITS, first);
+    fill_part(set, folded, places, FOLDED_BITS, second);
     answer
 }
 
-// A set's table: its faults, then its machines.
-fn build(set: &[u8], layout: Layout, table: &mut [u16], write: bool) -> Built
-    requires { ⌜ Shaped layout ⌝ }
-    ensures answer { λ r. ⌜ r ≡ builtOf (layout .bits) (layout .machines) (now (set .entry)) (length (now (table .entry))) ⌝ }
-    ensures left { λ _. ⌜ now (table .exit)
-        ≡ cond write (tableOf (layout .bits) (layout .machines) (now (set .entry)) (now (table .entry))) (now (table .entry)) ⌝ }
+// The whole-byte table of tags.
+fn build_whole_tags<'a>(set: &'a [u8], folded: &'a [u8], places: Places, table: &mut [u16]) -> Built
+    ghost { Tags }
+    requires { λ tags. ⌜ lyingIn (now set) places ≡ tags ⌝ }
+    requires { λ tags. ⌜ Held (now set) (now folded) places tags ⌝ }
+    ensures answer { λ tags r. ⌜ r ≡ builtBy tags (roomIn wholeLayout tags (length (now (table .entry)) ∷ [])) ⌝ }
+    ensures left { λ tags _. ⌜ now (table .exit) ∷ []
+        ≡ tablesBy wholeLayout tags (now (table .entry) ∷ []) (roomIn wholeLayout tags (length (now (table .entry)) ∷ [])) ⌝ }
 {
-    let read = read_set(set);
+    let answer = judge_part(set, folded, places, WHOLE_BYTES, table.len());
+    if !accepted(answer) {
+        return answer;
+    }
+    fill_part(set, folded, places, WHOLE_BYTES, table);
+    answer
+}
+
+// The split tables of a set, one for its exact and one for its folded tags; and whether they are to be written. The answer is the same either way.
+pub fn build_split_if(set: &[u8], first: &mut [u16], second: &mut [u16], write: bool) -> Built
+    ensures answer { λ r. ⌜ r ≡ builtOf splitLayout (now (set .entry)) (length (now (first .entry)) ∷ length (now (second .entry)) ∷ []) ⌝ }
+    ensures left { λ _. ⌜ now (first .exit) ∷ now (second .exit) ∷ []
+        ≡ cond write (tablesOf splitLayout (now (set .entry)) (now (first .entry) ∷ now (second .entry) ∷ []))
+        (now (first .entry) ∷ now (second .entry) ∷ []) ⌝ }
+{
+    let read = read_set(set, Takes::BothKinds);
     let verdict = read.verdict;
     if let Verdict::Bad(fault) = verdict {
         return Built::Fault(fault);
     }
-    let tags = read.tags;
-    let count = tags.count;
-    let from = tags.from;
-    let to = tags.to;
-    build_tags(set, &from[..count], &to[..count], layout, table, write)
+    let places = read.tags;
+    let folded = fold_set(set);
+    let n = set.len();
+    build_split_tags(set, &folded[..n], places, first, second, write)
 }
 
-// The split table of a set: eight machines of one bit each.
-pub fn build_split(set: &[u8], table: &mut [u16]) -> Built
-    ensures answer { λ r. ⌜ r ≡ builtOf 1 8 (now (set .entry)) (length (now (table .entry))) ⌝ }
-    ensures left { λ _. ⌜ now (table .exit) ≡ tableOf 1 8 (now (set .entry)) (now (table .entry)) ⌝ }
+// The split tables of a set.
+pub fn build_split(set: &[u8], first: &mut [u16], second: &mut [u16]) -> Built
+    ensures answer { λ r. ⌜ r ≡ builtOf splitLayout (now (set .entry)) (length (now (first .entry)) ∷ length (now (second .entry)) ∷ []) ⌝ }
+    ensures left { λ _. ⌜ now (first .exit) ∷ now (second .exit) ∷ []
+        ≡ tablesOf splitLayout (now (set .entry)) (now (first .entry) ∷ now (second .entry) ∷ []) ⌝ }
 {
-    build(set, SPLIT, table, true)
+    build_split_if(set, first, second, true)
 }
 
-// The same answer; the table is written only where it is to be.
-pub fn build_split_if(set: &[u8], table: &mut [u16], write: bool) -> Built
-    ensures answer { λ r. ⌜ r ≡ builtOf 1 8 (now (set .entry)) (length (now (table .entry))) ⌝ }
-    ensures left { λ _. ⌜ now (table .exit) ≡ cond write (tableOf 1 8 (now (set .entry)) (now (table .entry))) (now (table .entry)) ⌝ }
-{
-    build(set, SPLIT, table, write)
-}
-
-// The whole-byte table of a set: one machine of eight bits.
+// The whole-byte table of a set, of exact tags alone.
 pub fn build_whole(set: &[u8], table: &mut [u16]) -> Built
-    ensures answer { λ r. ⌜ r ≡ builtOf 8 1 (now (set .entry)) (length (now (table .entry))) ⌝ }
-    ensures left { λ _. ⌜ now (table .exit) ≡ tableOf 8 1 (now (set .entry)) (now (table .entry)) ⌝ }
+    ensures answer { λ r. ⌜ r ≡ builtOf wholeLayout (now (set .entry)) (length (now (table .entry)) ∷ []) ⌝ }
+    ensures left { λ _. ⌜ now (table .exit) ∷ [] ≡ tablesOf wholeLayout (now (set .entry)) (now (table .entry) ∷ []) ⌝ }
 {
-    build(set, WHOLE, table, true)
+    let read = read_set(set, Takes::ExactAlone);
+    let verdict = read.verdict;
+    if let Verdict::Bad(fault) = verdict {
+        return Built::Fault(fault);
+    }
+    let places = read.tags;
+    let folded = fold_set(set);
+    let n = set.len();
+    build_whole_tags(set, &folded[..n], places, table)
 }
 
-// The slots that the split and the whole-byte table need for a set.
+// The slots that the two split tables need for a set.
 pub fn slots_needed(set: &[u8]) -> Needed
-    ensures { λ r. ⌜ r ≡ neededOf (now (set .entry)) ⌝ }
+    ensures { λ r. ⌜ r ≡ neededOf splitLayout (now (set .entry)) ⌝ }
 {
-    let read = read_set(set);
+    let read = read_set(set, Takes::BothKinds);
     let verdict = read.verdict;
     if let Verdict::Bad(fault) = verdict {
         return Needed::Fault(fault);
     }
-    let tags = read.tags;
-    let count = tags.count;
-    let from = tags.from;
-    let to = tags.to;
-    let split = most_states(set, &from[..count], &to[..count], SPLIT);
-    let whole = most_states(set, &from[..count], &to[..count], WHOLE);
-    Needed::Slots(split, whole)
+    let places = read.tags;
+    let folded = fold_set(set);
+    let n = set.len();
+    let first = part_needs(set, &folded[..n], places, EXACT_BITS);
+    let second = part_needs(set, &folded[..n], places, FOLDED_BITS);
+    Needed::Slots(first, second)
+}
+
+// The slots that the whole-byte table needs for a set.
+pub fn whole_slots_needed(set: &[u8]) -> Needed
+    ensures { λ r. ⌜ r ≡ neededOf wholeLayout (now (set .entry)) ⌝ }
+{
+    let read = read_set(set, Takes::ExactAlone);
+    let verdict = read.verdict;
+    if let Verdict::Bad(fault) = verdict {
+        return Needed::Fault(fault);
+    }
+    let places = read.tags;
+    let folded = fold_set(set);
+    let n = set.len();
+    Needed::Slots(part_needs(set, &folded[..n], places, WHOLE_BYTES), 0)
 }

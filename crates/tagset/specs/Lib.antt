@@ -2,4 +2,5 @@
 pub mod Grammar
 pub mod Answer
 pub mod Refusals
+pub mod Lying
 pub mod Laws

@@ -1,13 +1,27 @@
 //! The rules of each call for any image, in the plainest way.
 
-use crate::raw::{Answer, GateImage, Image, Record, Seen, Ticket};
+use crate::raw::{Answer, GateImage, Image, Place, Record, Seen, Ticket};
 
 pub const FREE: Ticket = Ticket {
     serial: 0,
     edition: 0,
     taken: 0,
-    place: [0; 8],
+    place: [0; 16],
 };
+
+/// The two tables that a call is lent.
+pub type Tables<'t> = [&'t [u16]; 2];
+
+/// The slots of each.
+fn slots_of(tables: Tables) -> [usize; 2] {
+    tables.map(|table| (table.len() / 24).min(513))
+}
+
+/// Whether each state is below the slots of its own table.
+fn are_below(place: &Place, slots: [usize; 2]) -> bool {
+    let mut states = place.iter().enumerate();
+    states.all(|(machine, state)| usize::from(*state) < slots[machine / 8])
+}
 
 pub fn answer(refusal: u64, values: [u64; 4]) -> Answer {
     let [a, b, c, d] = values;
@@ -74,34 +88,33 @@ pub fn taken(image: &mut Image) -> Answer {
     answer(0, [serial, edition, oldest.end.into(), oldest.tag.into()])
 }
 
-pub fn fed(image: &mut Image, serial: u32, table: &[u16], piece: &[u8]) -> Answer {
-    let slots = (table.len() / 24).min(513);
+pub fn fed(image: &mut Image, serial: u32, tables: Tables, piece: &[u8]) -> Answer {
+    let slots = slots_of(tables);
     let room = match room_of(image, serial) {
         None => return refused(12),
         Some(room) => room,
     };
     let ticket = image.tickets[room];
-    let below = |state: &u16| usize::from(*state) < slots;
     if ticket.edition != image.edition {
         return answer(13, [ticket.edition.into(), 0, 0, 0]);
     }
-    if slots as u64 != image.slots {
+    if slots.map(|slots| slots as u64) != image.slots {
         return answer(0, [0, 2, 0, 0]);
     }
     if u64::from(ticket.taken) + piece.len() as u64 > u64::from(u32::MAX) {
         return refused(14);
     }
-    if !ticket.place.iter().all(below) {
+    if !are_below(&ticket.place, slots) {
         return answer(0, [0, 2, 0, 0]);
     }
-    read_on(image, room, table, piece)
+    read_on(image, room, tables, piece)
 }
 
-fn read_on(image: &mut Image, room: usize, table: &[u16], piece: &[u8]) -> Answer {
+fn read_on(image: &mut Image, room: usize, tables: Tables, piece: &[u8]) -> Answer {
     let held = image.count;
     for (read, byte) in (0..).zip(piece) {
         let stopped = |image: &Image, why| answer(0, [read, why, image.count - held, 0]);
-        let (place, vector) = match stepped(table, image.tickets[room].place, *byte) {
+        let (place, vector) = match stepped(tables, image.tickets[room].place, *byte) {
             None => return stopped(image, 2),
             Some(step) => step,
         };
@@ -118,20 +131,33 @@ fn read_on(image: &mut Image, room: usize, table: &[u16], piece: &[u8]) -> Answe
     answer(0, [piece.len() as u64, 0, image.count - held, 0])
 }
 
-/// The place after a byte and the AND of its vectors; nothing where a next isn't below the slots.
-fn stepped(table: &[u16], place: [u16; 8], byte: u8) -> Option<([u16; 8], u16)> {
-    let slots = (table.len() / 24).min(513);
-    let (mut after, mut vector) = (place, u16::MAX);
-    for (machine, state) in place.iter().enumerate() {
-        let bit = usize::from(byte >> machine & 1);
-        let next = table[(machine * slots + usize::from(*state)) * 3 + bit];
-        after[machine] = next;
-        if usize::from(next) < slots {
-            vector &= table[(machine * slots + usize::from(next)) * 3 + 2];
-        }
+/// The byte as the machines of a table read it: those of the second read it folded.
+fn read_by(table: usize, byte: u8) -> u8 {
+    match (table, byte) {
+        (1, b'A'..=b'Z') => byte + 32,
+        _ => byte,
     }
-    let lawful = after.iter().all(|next| usize::from(*next) < slots);
-    lawful.then_some((after, vector))
+}
+
+/// The place after a byte and the tags found there; nothing where a next isn't below its table's slots.
+fn stepped(tables: Tables, place: Place, byte: u8) -> Option<(Place, u16)> {
+    let slots = slots_of(tables);
+    let number = |machine: usize, state: u16, at: usize| {
+        let slot = (machine % 8) * slots[machine / 8] + usize::from(state);
+        tables[machine / 8][3 * slot + at]
+    };
+    let mut after = place;
+    for (machine, state) in after.iter_mut().enumerate() {
+        let bit = read_by(machine / 8, byte) >> (machine % 8) & 1;
+        *state = number(machine, *state, usize::from(bit));
+    }
+    if !are_below(&after, slots) {
+        return None;
+    }
+    let vector = |machine: usize| number(machine, after[machine], 2);
+    let exact = (0..8).map(vector).fold(u16::MAX, |left, one| left & one);
+    let folded = (8..16).map(vector).fold(u16::MAX, |left, one| left & one);
+    Some((after, exact | folded))
 }
 
 fn push(image: &mut Image, room: usize, tag: u8) {
@@ -168,7 +194,7 @@ pub fn begun(gate: &mut GateImage) -> Answer {
     said
 }
 
-pub fn pieced(gate: &mut GateImage, serial: u32, table: &[u16], piece: &[u8]) -> Answer {
+pub fn pieced(gate: &mut GateImage, serial: u32, tables: Tables, piece: &[u8]) -> Answer {
     let room = match room_of(&gate.desk, serial) {
         None => return refused(12),
         Some(room) => room,
@@ -179,7 +205,7 @@ pub fn pieced(gate: &mut GateImage, serial: u32, table: &[u16], piece: &[u8]) ->
     }
     let mut rest = piece;
     while !rest.is_empty() {
-        let said = fed(&mut gate.desk, serial, table, rest);
+        let said = fed(&mut gate.desk, serial, tables, rest);
         (0..256).for_each(|_| note(gate));
         match (said.refusal, said.a as usize) {
             (0, 1..) => rest = &rest[said.a as usize..],

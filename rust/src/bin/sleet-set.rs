@@ -14,16 +14,19 @@ usage: sleet-set make IN.txt OUT.bin    makes a set from a text
        sleet-set --help | --version
 
 A - stands for standard input or standard output. A set has 1 to 16 tags of 1 to
-32 bytes, no two equal. The text has one tag a line:
+32 bytes, no two of one kind equal. The text has one tag a line:
 
   nothing, or only blanks and tabs       the line is passed over
   # in front                             a remark, passed over
+  \~ in front                            a folded tag stands behind it: it is matched
+                                         with A to Z and a to z taken as equal; all
+                                         other tags are exact, byte for byte
   \\ \# \n \r \t \xHH                    a byte, by an escape
   any other printable byte of ASCII      itself
 
-A blank at the front or end of a tag is written \x20, and a # behind a blank \#. A
-byte of 128 and above may stand in a remark; in a tag it is written \xHH. Faults in
-every line are a byte order mark, and what may be shown as a line's end and is none.
+A blank at the front or end of a tag is written \x20, and a # behind a blank or \~ as
+\#. A byte of 128 and above may stand in a remark; in a tag it is written \xHH. Faults
+in every line are a byte order mark, and what may be shown as a line's end and is none.
 Where the text is faulty nothing is written, and OUT.bin stays as it was.
 
 It ends with 0 where it is done, 1 where the input is at fault or a file can't be

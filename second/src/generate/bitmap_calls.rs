@@ -2,22 +2,20 @@
 //! damage that readings come past, and tables of another layout.
 
 use super::outside_calls::name_of;
-use super::{pieces, Generator};
+use super::Generator;
 use crate::bitmap::{FAILURE, FIRST_CHILD, VECTOR};
-use crate::table::Layout;
+use crate::layout::Layout;
 
 impl Generator {
     /// Lends just too little, just enough, or about as much, and builds.
     pub(super) fn bitmap_short(&mut self) {
-        if self.rng.once_in(2) {
-            self.good_set();
-        }
-        let exact = 19 * self.needed(Layout::Bitmap);
+        self.set_for_at_times(Layout::Bitmap);
+        let exact = 19 * self.needed(Layout::Bitmap, 0);
         let odd = self.rng.below(19);
         let lengths = [exact - 1, exact - 19, exact - 1 - odd, exact, exact + odd];
         for _ in 0..self.rng.between(1, 3) {
             let lent = self.rng.one_of(&lengths);
-            self.say(&format!("lend {lent}"));
+            self.lend_of(lent, 0);
             self.say("build bitmap");
             self.peek_at(Layout::Bitmap);
             self.read_a_piece(Layout::Bitmap);
@@ -27,12 +25,10 @@ impl Generator {
     /// Pokes numbers into a bitmap table as building left it, and reads over
     /// them, from the start and from any state.
     pub(super) fn bitmap_damage(&mut self) {
-        if self.rng.once_in(2) {
-            self.good_set();
-        }
+        self.set_for_at_times(Layout::Bitmap);
         self.lend_enough(Layout::Bitmap);
         self.say("build bitmap");
-        let s = Layout::Bitmap.slots(self.replay.lent());
+        let s = self.slots(Layout::Bitmap, 0);
         for _ in 0..self.rng.between(1, 4) {
             match self.rng.once_in(8) {
                 true => self.poke_past_16_bits(s),
@@ -47,29 +43,12 @@ impl Generator {
     /// Builds in one layout and reads in another, from anywhere.
     pub(super) fn read_across(&mut self) {
         let (built, read) = (self.layout(), self.layout());
-        if self.rng.once_in(3) {
-            self.good_set();
-        }
+        self.set_for_at_times(built);
         self.lend_enough(built);
         self.say(&format!("build {}", name_of(built)));
         for _ in 0..self.rng.between(1, 4) {
             self.read_a_piece(read);
         }
-    }
-
-    /// Reads a piece of the tags, from the start or from any used state.
-    fn read_a_piece(&mut self, layout: Layout) {
-        let used = self.needed(layout);
-        let place: Vec<usize> = (0..layout.machines())
-            .map(|_| match self.rng.below(4) {
-                0 => self.rng.below(used),
-                1 => self.rng.below(used.min(8)),
-                _ => 0,
-            })
-            .collect();
-        let piece = pieces::piece(&mut self.rng, &self.tags);
-        let count = self.count(piece.len());
-        self.read(layout, count, &place, &piece);
     }
 
     /// One number of a slot of the bitmap layout, near the front most often,
@@ -78,9 +57,9 @@ impl Generator {
         let few = self.rng.between(1, 6);
         let most = self
             .rng
-            .one_of(&[few, few, few, self.needed(Layout::Bitmap)]);
+            .one_of(&[few, few, few, self.needed(Layout::Bitmap, 0)]);
         let state = self.rng.below(s.min(most));
-        let first = self.tags[0][0];
+        let first = self.first_byte();
         let byte = match self.rng.once_in(3) {
             true => self.rng.byte(),
             false => first,
@@ -98,8 +77,7 @@ impl Generator {
             _ => self.map_value(byte),
         };
         let at = Layout::Bitmap.slot_at(s, 0, state) + column;
-        let (at, value) = (self.number(at as u64), self.number(value as u64));
-        self.say(&format!("poke {at} {value}"));
+        self.poke_at(at, value, 0);
     }
 
     /// Sixteen ones below nearly every byte, and a first child so large that
@@ -108,8 +86,8 @@ impl Generator {
         let state = self.rng.below(s.min(3));
         let at = Layout::Bitmap.slot_at(s, 0, state);
         let large = 65_536 - self.rng.between(1, 16);
-        self.say(&format!("poke {at} 65535"));
-        self.say(&format!("poke {} {large}", at + FIRST_CHILD));
+        self.poke_at(at, 65_535, 0);
+        self.poke_at(at + FIRST_CHILD, large, 0);
     }
 
     /// A number of a map: one byte alone, all, none, all below it, or any.

@@ -1,11 +1,13 @@
 //! The desk's calls in scripts.
 
-use super::{pieces, sets, Generator};
-use crate::table::Layout;
+use super::cases::recased;
+use super::{pieces, Generator};
+use crate::desk::MOST_RECORDS;
+use crate::layout::Layout;
 
 impl Generator {
     /// A ticket that is open and not stale.
-    fn live(&mut self) -> Option<u32> {
+    pub(super) fn live(&mut self) -> Option<u32> {
         let desk = self.replay.desk();
         let live = desk.tickets().iter().filter(|t| !desk.is_stale(t));
         let live: Vec<u32> = live.map(|ticket| ticket.serial.0).collect();
@@ -27,17 +29,19 @@ impl Generator {
         .unwrap_or(ever)
     }
 
-    /// Sees to it that there is a live ticket over a table of its slot count.
-    fn make_ready(&mut self) {
+    /// Sees to it that there is a live ticket over tables of its slot counts.
+    pub(super) fn make_ready(&mut self) {
         if self.replay.desk().edition().0 == 0 {
             self.good_set();
             self.lend_enough(Layout::Split);
             self.say("replace");
         }
         let slots = self.replay.desk().slots();
-        if Layout::Split.slots(self.replay.lent()) != slots {
-            let odd = self.rng.below(24);
-            self.say(&format!("lend {}", 24 * slots + odd));
+        for (table, slots) in slots.into_iter().enumerate() {
+            if self.slots(Layout::Split, table) != slots {
+                let odd = self.rng.below(24);
+                self.lend_of(24 * slots + odd, table);
+            }
         }
         if self.live().is_none() {
             let tickets = self.replay.desk().tickets();
@@ -49,9 +53,9 @@ impl Generator {
         }
     }
 
-    fn feed_to(&mut self, serial: u32, piece: &[u8]) {
+    pub(super) fn feed_to(&mut self, serial: u32, piece: &[u8]) -> Vec<String> {
         let serial = self.number(u64::from(serial));
-        self.say_with(&format!("feed {serial}"), piece);
+        self.say_with(&format!("feed {serial}"), piece)
     }
 
     /// A piece for some ticket, most often a live one.
@@ -83,6 +87,25 @@ impl Generator {
                 self.feed_to(other, &piece);
             }
         }
+    }
+
+    /// A piece over tables of other slot counts than those of the replacement,
+    /// in one of them or in both; at times the counts are the other table's.
+    pub(super) fn feed_over_other_slots(&mut self) {
+        self.make_ready();
+        let [first, second] = self.replay.desk().slots();
+        let which = self.rng.below(3);
+        for (table, own, other) in [(0, first, second), (1, second, first)] {
+            if which == 2 || which == table {
+                let slots = [own + 1, own.saturating_sub(1), other, 0];
+                let lent = 24 * self.rng.one_of(&slots);
+                let odd = self.rng.below(24);
+                self.lend_of(lent + odd, table);
+            }
+        }
+        let serial = self.serial();
+        let piece = pieces::piece(&mut self.rng, &self.tags);
+        self.feed_to(serial, &piece);
     }
 
     pub(super) fn take(&mut self) {
@@ -146,17 +169,18 @@ impl Generator {
         self.say("replace");
         if self.rng.once_in(2) {
             let stale = self.serial();
-            self.feed_to(stale, &self.tags[0].clone());
+            let piece = self.tags[0].bytes.clone();
+            self.feed_to(stale, &piece);
         }
     }
 
     /// Fills the list with matches of nested tags, then goes on at its brink.
     pub(super) fn fill_list(&mut self) {
-        self.nested_set();
+        self.nested_set(Layout::Split);
         self.lend_enough(Layout::Split);
         self.say("replace");
         self.make_ready();
-        let letter = self.tags[0][0];
+        let letter = self.first_byte();
         for _ in 0..self.rng.between(1, 4) {
             let serial = self.serial();
             let length = self.rng.between(1, 300);
@@ -168,28 +192,29 @@ impl Generator {
         self.say("show");
     }
 
+    /// Takes records until there is room for so many, or as many as there are.
+    pub(super) fn take_for_room(&mut self, room: usize) {
+        let room_now = MOST_RECORDS - self.replay.desk().held();
+        for _ in room_now..room {
+            self.say("take");
+        }
+    }
+
     /// Every count of matches meets just too little room, just enough, or any.
     fn feed_at_brink(&mut self, letter: u8) {
         let matches = self.tags.len();
         let any = self.rng.below(18);
         let room = self.rng.one_of(&[matches - 1, matches - 1, matches, any]);
-        let room_now = 256 - self.replay.desk().held();
-        for _ in room_now..room {
-            self.say("take");
-        }
+        self.take_for_room(room);
         let serial = self.serial();
         let length = self.rng.one_of(&[0, 1, 1, 1, 2, 3]);
         let mut piece = vec![letter; length];
-        if self.rng.once_in(6) {
-            piece.insert(0, letter ^ 1);
+        // Another letter parts them; in the other case the folded tags go on.
+        match self.rng.below(8) {
+            0 => piece.insert(0, letter ^ 1),
+            1 => piece = recased(&mut self.rng, &piece),
+            _ => {}
         }
         self.feed_to(serial, &piece);
-    }
-
-    /// A set in which as many tags end at a byte as there are.
-    pub(super) fn nested_set(&mut self) {
-        let tags = sets::nested(&mut self.rng);
-        self.use_tags(tags);
-        self.set_of_tags();
     }
 }

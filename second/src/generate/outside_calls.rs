@@ -1,7 +1,9 @@
-//! Building and reading outside the desk, and damage to the table, in scripts.
+//! Building and reading outside the desk in scripts.
 
 use super::{pieces, Generator};
-use crate::table::Layout;
+use crate::layout::Layout;
+use crate::occurrences::occurrences;
+use crate::script::TABLE_BUFFERS;
 
 /// The largest count of bytes taken.
 const LARGEST: u64 = 4_294_967_295;
@@ -50,7 +52,7 @@ impl Generator {
         self.read_into(room, layout, count, place, piece)
     }
 
-    fn read_into(
+    pub(super) fn read_into(
         &mut self,
         room: usize,
         layout: Layout,
@@ -73,10 +75,7 @@ impl Generator {
     /// place that the reading before it left.
     pub(super) fn build_and_read(&mut self) {
         let layout = self.layout();
-        match self.rng.below(3) {
-            0 => self.set_of_tags(),
-            _ => self.good_set(),
-        }
+        self.set_for(layout);
         if !self.rng.once_in(6) {
             self.lend_enough(layout);
         }
@@ -105,14 +104,13 @@ impl Generator {
     /// enough, for the matches of one byte.
     pub(super) fn read_at_brink(&mut self) {
         let layout = self.layout();
-        self.nested_set();
+        self.nested_set(layout);
         self.lend_enough(layout);
         self.say(&format!("build {}", name_of(layout)));
-        let letter = self.tags[0][0];
+        let letter = self.first_byte();
         for _ in 0..self.rng.between(2, 8) {
-            // The bytes up to the k-th have 1, 2, ... k matches.
             let k = self.rng.between(1, self.tags.len());
-            let records = k * (k + 1) / 2;
+            let records = occurrences(&self.tags, &vec![letter; k]).len();
             let room = (2 * records + self.rng.below(5)).saturating_sub(3);
             let more = self.rng.one_of(&[0, 0, 1, 2]);
             let piece = vec![letter; k + more];
@@ -121,20 +119,23 @@ impl Generator {
         }
     }
 
-    /// A read of whatever the table holds, from any place.
+    /// A read of whatever the tables hold, from any place; at times one state,
+    /// of any machine, is about its table's s.
     pub(super) fn read_anywhere(&mut self) {
         let layout = self.layout();
-        let s = layout.slots(self.replay.lent());
-        let edges = [s.saturating_sub(1), s, s + 1, 65_535, 0, 1];
-        let mut place: Vec<usize> = (0..layout.machines())
-            .map(|_| match self.rng.below(3) {
+        let mut place = Vec::new();
+        for machine in 0..layout.machines() {
+            let s = self.slots(layout, layout.home_of(machine).0);
+            place.push(match self.rng.below(3) {
                 0 => 0,
                 1 => self.rng.below(s.min(12)),
                 _ => self.rng.below(s),
-            })
-            .collect();
+            });
+        }
         if self.rng.once_in(4) {
             let machine = self.rng.below(place.len());
+            let s = self.slots(layout, layout.home_of(machine).0);
+            let edges = [s.saturating_sub(1), s, s + 1, 65_535, 0, 1];
             place[machine] = self.rng.one_of(&edges);
         }
         let piece = pieces::piece(&mut self.rng, &self.tags);
@@ -142,57 +143,20 @@ impl Generator {
         self.read(layout, count, &place, &piece);
     }
 
-    /// Pokes numbers into the lent table's slots and reads over them.
-    pub(super) fn damage(&mut self) {
-        let layout = self.layout();
-        let s = layout.slots(self.replay.lent());
-        for _ in 0..self.rng.between(1, 4) {
-            match layout {
-                Layout::Bitmap => self.poke_bitmap(s),
-                Layout::Split | Layout::Whole => self.poke(layout, s),
-            }
+    /// Reads a piece of the tags, from the start or from any used state.
+    pub(super) fn read_a_piece(&mut self, layout: Layout) {
+        let mut place = Vec::new();
+        for machine in 0..layout.machines() {
+            let used = self.needed(layout, layout.home_of(machine).0);
+            place.push(match self.rng.below(4) {
+                0 => self.rng.below(used),
+                1 => self.rng.below(used.min(8)),
+                _ => 0,
+            });
         }
-        for _ in 0..self.rng.between(1, 3) {
-            match (layout, self.rng.below(3)) {
-                (Layout::Split, 0..=1) => self.feed(),
-                _ => {
-                    let piece = pieces::piece(&mut self.rng, &self.tags);
-                    let count = self.count(piece.len());
-                    self.read(layout, count, &vec![0; layout.machines()], &piece);
-                }
-            }
-        }
-        // The damage is left, or built over.
-        match self.rng.below(4) {
-            0 => self.say("replace"),
-            1 => self.say("build split"),
-            _ => vec![],
-        };
-    }
-
-    /// Most often a next number or vector near the front, where readings come
-    /// past.
-    fn poke(&mut self, layout: Layout, s: usize) {
-        let machine = self.rng.below(layout.machines());
-        let few = self.rng.between(1, 6);
-        let state = self.rng.below(s.min(few));
-        let byte = self.tags[0][0] as usize;
-        let any = self.rng.below(layout.before_vector());
-        let column = self
-            .rng
-            .one_of(&[byte % layout.before_vector(), any, layout.before_vector()]);
-        let random = self.rng.below(65_536);
-        let below_s = self.rng.below(s);
-        let value = match column == layout.before_vector() {
-            true => self.rng.one_of(&[0xffff, 0x8000, 0x7fff, 0xff00, random]),
-            false => {
-                let choices = [s.saturating_sub(1), s, s + 1, 65_535, below_s, random];
-                self.rng.one_of(&choices)
-            }
-        };
-        let at = layout.slot_at(s, machine, state) + column;
-        let (at, value) = (self.number(at as u64), self.number(value as u64));
-        self.say(&format!("poke {at} {value}"));
+        let piece = pieces::piece(&mut self.rng, &self.tags);
+        let count = self.count(piece.len());
+        self.read(layout, count, &place, &piece);
     }
 
     pub(super) fn peek(&mut self) {
@@ -200,19 +164,19 @@ impl Generator {
         self.peek_at(layout);
     }
 
-    /// Shows some of the table: slots that are likely used, the end of the lent
+    /// Shows some of a table: slots that are likely used, the end of the lent
     /// run, anywhere.
     pub(super) fn peek_at(&mut self, layout: Layout) {
-        let lent = self.replay.lent();
         let machine = self.rng.below(layout.machines());
-        let state = self.rng.below(self.needed(layout));
-        let used = layout.slot_at(layout.slots(lent), machine, state);
+        let (table, in_table) = layout.home_of(machine);
+        let state = self.rng.below(self.needed(layout, table));
+        let used = layout.slot_at(self.slots(layout, table), in_table, state);
         let count = self.rng.one_of(&[0, 1, 24, 100, 255, 256]);
-        let any = self.rng.below(131_842);
-        let about_the_end = lent.saturating_sub(count / 2);
+        let any = self.rng.below(TABLE_BUFFERS[table] + 1);
+        let about_the_end = self.replay.lent()[table].saturating_sub(count / 2);
         let at = self.rng.one_of(&[used, used, used, any, about_the_end]);
         let (at, count) = (self.number(at as u64), self.number(count as u64));
-        self.say(&format!("peek {at} {count}"));
+        self.say_of_table(&format!("peek {at} {count}"), table);
     }
 }
 

@@ -1,10 +1,13 @@
 //! Pieces for scripts: tags, near-tags and parts of tags, one after another.
 
+use super::cases::{case_bit_changed, recased};
 use super::sets::word;
+use crate::kind::Kind;
 use crate::rng::Rng;
+use crate::set::Tag;
 
 /// A piece in which the tags often occur, or nearly.
-pub fn piece(rng: &mut Rng, tags: &[Vec<u8>]) -> Vec<u8> {
+pub fn piece(rng: &mut Rng, tags: &[Tag]) -> Vec<u8> {
     let most = match rng.below(10) {
         0 => return vec![],
         1 => 1,
@@ -16,26 +19,28 @@ pub fn piece(rng: &mut Rng, tags: &[Vec<u8>]) -> Vec<u8> {
 }
 
 /// A piece of exactly this length.
-pub fn of_length(rng: &mut Rng, tags: &[Vec<u8>], length: usize) -> Vec<u8> {
+pub fn of_length(rng: &mut Rng, tags: &[Tag], length: usize) -> Vec<u8> {
     let mut piece = Vec::new();
     while piece.len() < length {
-        let tag = rng.pick(tags).unwrap_or_else(|| b"a".to_vec());
-        piece.extend(morsel(rng, &tag));
+        let tag = rng.pick(tags).unwrap_or(Tag::exact("a"));
+        piece.extend(morsel(rng, &tag.bytes));
     }
     piece.truncate(length);
     piece
 }
 
-/// A tag, a front of it, an end of it, a near-tag, or bytes of no tag; never
-/// no byte at all.
+/// A tag, as it is or in other letter cases, a front of it, an end of it, a
+/// near-tag, or bytes of no tag; never no byte at all.
 fn morsel(rng: &mut Rng, tag: &[u8]) -> Vec<u8> {
     let cut = rng.below(tag.len());
-    let mut bytes = match rng.below(10) {
-        0..=4 => tag.to_vec(),
-        5 => tag[..cut].to_vec(),
-        6 => tag[cut..].to_vec(),
-        7 => changed(rng, tag),
-        8 => {
+    let mut bytes = match rng.below(12) {
+        0..=3 => tag.to_vec(),
+        4 | 5 => recased(rng, tag),
+        6 => case_bit_changed(rng, tag),
+        7 => tag[..cut].to_vec(),
+        8 => tag[cut..].to_vec(),
+        9 => changed(rng, tag),
+        10 => {
             let length = rng.between(1, 3);
             word(rng, tag, length)
         }
@@ -81,6 +86,15 @@ pub fn can_be_quoted(bytes: &[u8]) -> bool {
 
 pub fn quoted(bytes: &[u8]) -> Vec<u8> {
     [b"\"", bytes, b"\""].concat()
+}
+
+/// The word of a tag in `set`.
+pub fn tag_word(tag: &Tag) -> Vec<u8> {
+    let mark: &[u8] = match tag.kind {
+        Kind::Exact => b"",
+        Kind::Folded => b"~",
+    };
+    [mark, &quoted(&tag.bytes)].concat()
 }
 
 pub fn hexadecimal(bytes: &[u8]) -> Vec<u8> {

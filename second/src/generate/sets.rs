@@ -1,13 +1,67 @@
-//! Sets for scripts, good and bad.
+//! Good sets for scripts: tags of both kinds.
 
+use super::cases::{recased, EDGES};
+use crate::kind::Kind;
 use crate::rng::Rng;
-use crate::set::{write_entry, write_set};
+use crate::set::{Tag, MOST_TAGS};
 
-/// Tags of a good set: 1 to 16 of 1 to 32 bytes, no two equal.
-pub fn good_tags(rng: &mut Rng) -> Vec<Vec<u8>> {
-    let mut tags = match rng.below(9) {
+/// Tags of a good set: 1 to 16 of 1 to 32 bytes, of one kind or of both, none
+/// repeating another.
+pub fn good_tags(rng: &mut Rng) -> Vec<Tag> {
+    let words = words(rng);
+    let tags = with_kinds(rng, words, true);
+    lawful(tags)
+}
+
+/// Tags of kind 1 alone, as every layout takes them.
+pub fn exact_tags(rng: &mut Rng) -> Vec<Tag> {
+    let words = words(rng);
+    lawful(words.into_iter().map(Tag::exact).collect())
+}
+
+/// Those of the tags that make a good set.
+pub fn lawful(tags: Vec<Tag>) -> Vec<Tag> {
+    let mut kept: Vec<Tag> = Vec::new();
+    for tag in tags {
+        let repeats = kept.iter().any(|earlier| tag.repeats(earlier));
+        let allowed = tag.kind.row().allows(tag.bytes.len());
+        if kept.len() < MOST_TAGS && allowed && !repeats {
+            kept.push(tag);
+        }
+    }
+    if kept.is_empty() {
+        kept.push(Tag::exact("a"));
+    }
+    kept
+}
+
+/// The words as tags: all of one kind, each of either, or each of both; some of
+/// the folded ones in other letter cases, where that may be.
+pub fn with_kinds(rng: &mut Rng, words: Vec<Vec<u8>>, in_other_cases: bool) -> Vec<Tag> {
+    let how = rng.below(7);
+    let mut tags = Vec::new();
+    for word in words {
+        let folded = Tag::folded(match in_other_cases && rng.once_in(2) {
+            true => recased(rng, &word),
+            false => word.clone(),
+        });
+        match how {
+            0 | 1 => tags.push(Tag::exact(word)),
+            2 => tags.push(folded),
+            3 | 4 if rng.once_in(2) => tags.push(Tag::exact(word)),
+            3 | 4 => tags.push(folded),
+            5 => tags.extend([Tag::exact(word), folded]),
+            _ => tags.extend([folded, Tag::exact(word)]),
+        }
+    }
+    tags
+}
+
+/// The bytes of tags; some may be the same, or too many.
+fn words(rng: &mut Rng) -> Vec<Vec<u8>> {
+    match rng.below(13) {
         0 => vec![b"he".to_vec(), b"she".into(), b"his".into(), b"hers".into()],
-        1 => nested(rng),
+        1 => same_letter(rng),
         2 => sharing(rng, true),
         3 => sharing(rng, false),
         4 => drawn(rng, &[0, 255], 6),
@@ -17,23 +71,12 @@ pub fn good_tags(rng: &mut Rng) -> Vec<Vec<u8>> {
         }
         6 => greatest(rng),
         7 => of_lengths(rng, &[1, 31, 32]),
+        8 => drawn(rng, b"aA", 4),
+        9 => drawn(rng, b"hHeEsSiIrR", 5),
+        10 => drawn(rng, &EDGES, 1),
+        11 => drawn(rng, &EDGES, 4),
         _ => drawn(rng, b"ab", 5),
-    };
-    keep_distinct(&mut tags);
-    tags
-}
-
-fn keep_distinct(tags: &mut Vec<Vec<u8>>) {
-    let mut kept: Vec<Vec<u8>> = Vec::new();
-    for tag in tags.drain(..) {
-        if kept.len() < 16 && !tag.is_empty() && tag.len() <= 32 && !kept.contains(&tag) {
-            kept.push(tag);
-        }
     }
-    if kept.is_empty() {
-        kept.push(b"a".to_vec());
-    }
-    *tags = kept;
 }
 
 /// A word of a length over an alphabet.
@@ -53,17 +96,30 @@ fn drawn(rng: &mut Rng, alphabet: &[u8], longest: usize) -> Vec<Vec<u8>> {
         .collect()
 }
 
-/// a, aa, aaa ...: as many matches at a byte as there are tags.
-pub fn nested(rng: &mut Rng) -> Vec<Vec<u8>> {
+/// a, aa, aaa ...
+fn same_letter(rng: &mut Rng) -> Vec<Vec<u8>> {
     let any = rng.between(1, 16);
     // Only 16 tags stop FULL with room for 15.
     let count = rng.one_of(&[any, any, any, 16]);
-    let letter = rng.one_of(&[97, 0, 255, 128]) as u8;
-    let mut tags: Vec<Vec<u8>> = (1..=count).map(|length| vec![letter; length]).collect();
+    let letter = rng.pick(b"aaAZz\x00\xff\x80").unwrap_or(b'a');
+    let mut words: Vec<Vec<u8>> = (1..=count).map(|length| vec![letter; length]).collect();
     if rng.once_in(2) {
-        tags.reverse();
+        words.reverse();
     }
-    tags
+    words
+}
+
+/// Tags a, aa, aaa ..., of the kinds that are taken: as many matches at a byte
+/// as there are tags, of both tables where both kinds are among them.
+pub fn nested(rng: &mut Rng, taken: &[Kind]) -> Vec<Tag> {
+    let words = same_letter(rng);
+    if !taken.contains(&Kind::Folded) {
+        return words.into_iter().map(Tag::exact).collect();
+    }
+    // In other cases not every letter is matched by all.
+    let in_other_cases = rng.once_in(4);
+    let tags = with_kinds(rng, words, in_other_cases);
+    lawful(tags)
 }
 
 /// Tags with one front, or one end, in common.
@@ -95,10 +151,13 @@ fn of_lengths(rng: &mut Rng, lengths: &[usize]) -> Vec<Vec<u8>> {
 }
 
 /// 16 tags of 32 bytes for which the whole-byte machine needs 513 states and
-/// each bit machine 479: bit b of the bytes 0 to 3 spells the tag's number.
+/// each bit machine 479: bit b of the bytes 0 to 3 spells the tag's number, in
+/// an order of b's own, or so that no letter comes up and folding changes none.
 fn greatest(rng: &mut Rng) -> Vec<Vec<u8>> {
+    let turned = rng.once_in(2);
     let spelt = |tag: usize, byte: usize| {
-        let bit = |b: usize| ((tag >> ((byte + b) % 4) & 1) << b) as u8;
+        let digit = |b: usize| if turned { (byte + b) % 4 } else { byte };
+        let bit = |b: usize| ((tag >> digit(b) & 1) << b) as u8;
         (0..8).map(bit).sum()
     };
     let every: Vec<u8> = (0..=255).collect();
@@ -109,99 +168,4 @@ fn greatest(rng: &mut Rng) -> Vec<Vec<u8>> {
             bytes
         })
         .collect()
-}
-
-/// The bytes of a set that is faulty, or was meant to be.
-pub fn bad_set(rng: &mut Rng) -> Vec<u8> {
-    match rng.below(9) {
-        0 => vec![],
-        1 => cut(rng),
-        2 | 8 => crowded(rng),
-        3 => wrong_entry(rng, true),
-        4 => wrong_entry(rng, false),
-        5 => repeating(rng),
-        6 => {
-            let length = rng.between(1, 40);
-            word(rng, &[0, 1, 2, 33], length)
-        }
-        _ => {
-            let mut set = wrong_entry(rng, false);
-            set.extend(wrong_entry(rng, true));
-            set
-        }
-    }
-}
-
-/// Payloads for quoted words: of any length, often the same, sometimes 17.
-pub fn bad_payloads(rng: &mut Rng) -> Vec<Vec<u8>> {
-    let count = rng.one_of(&[1, 1, 2, 3, 16, 17, 18]);
-    (0..count)
-        .map(|_| {
-            let length = rng.one_of(&[0, 1, 2, 3, 4, 31, 32, 32, 33]);
-            word(rng, b"ab c", length)
-        })
-        .collect()
-}
-
-/// A good set cut anywhere, most often inside its last entry.
-fn cut(rng: &mut Rng) -> Vec<u8> {
-    let mut set = write_set(&good_tags(rng));
-    let off = match rng.once_in(3) {
-        true => rng.between(1, set.len()),
-        false => rng.between(1, 6),
-    };
-    set.truncate(set.len().saturating_sub(off));
-    set
-}
-
-/// 16 entries (15 or 17 too) with 0 to 5 bytes following.
-fn crowded(rng: &mut Rng) -> Vec<u8> {
-    let count = rng.one_of(&[15, 16, 16, 16, 17]);
-    let mut tags: Vec<Vec<u8>> = (0..count).map(|k| vec![b'A' + k as u8, b'x']).collect();
-    if rng.once_in(4) {
-        tags[1] = tags[0].clone();
-    }
-    let mut set = write_set(&tags);
-    let following = rng.below(6);
-    set.extend(word(rng, &[0, 1, 2, 33], following));
-    set
-}
-
-/// Good entries, then one of a wrong kind or a wrong length, its payload whole
-/// or cut, then good entries again.
-fn wrong_entry(rng: &mut Rng, kind_too: bool) -> Vec<u8> {
-    let tags = good_tags(rng);
-    let before = rng.below(tags.len() + 1);
-    let kind = match kind_too {
-        true => rng.one_of(&[0, 2, 256, 257, 65_535]) as u16,
-        false => 1,
-    };
-    let length = match kind_too && rng.once_in(2) {
-        true => rng.between(1, 32),
-        false => rng.one_of(&[0, 33, 34, 256, 257, 288, 65_535]),
-    };
-    let mut entry = write_entry(kind, &[]);
-    entry[..2].copy_from_slice(&(length as u16).to_le_bytes());
-    let payload = match rng.once_in(2) {
-        true => length.min(300),
-        false => rng.below(length.min(40) + 1),
-    };
-    entry.extend(word(rng, b"ab", payload));
-    let after = match rng.once_in(2) {
-        true => write_set(&tags[before..]),
-        false => vec![],
-    };
-    [write_set(&tags[..before]), entry, after].concat()
-}
-
-/// A set in which one tag or more equals an earlier one.
-fn repeating(rng: &mut Rng) -> Vec<u8> {
-    let mut tags = good_tags(rng);
-    for _ in 0..rng.between(1, 3) {
-        let again = rng.pick(&tags).unwrap_or_default();
-        let at = rng.between(0, tags.len());
-        tags.insert(at, again);
-    }
-    tags.truncate(rng.one_of(&[16, 16, 16, 17]));
-    write_set(&tags)
 }

@@ -3,10 +3,10 @@ use Rattle.bench.proofs.feed_all.Statement.{statement}
 use Rattle.bench.proofs.feed_all.Tie as tie
 
 abbrev Inv-loop : tie.InvT-loop
-Inv-loop fd serial table out₀ used now₀ put₀ turns₀ out now put turns = Unit {0}
+Inv-loop fd serial first second out₀ used now₀ put₀ turns₀ out now put turns = Unit {0}
 
 abbrev μ-loop : tie.MeasureT-loop
-μ-loop fd serial table out₀ used now₀ put₀ turns₀ out now put turns = turns
+μ-loop fd serial first second out₀ used now₀ put₀ turns₀ out now put turns = turns
 
 loop-holds : tie.Need-loop-holds Inv-loop μ-loop
 loop-holds c = search needs

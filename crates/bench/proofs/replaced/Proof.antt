@@ -1,6 +1,6 @@
 use Prim.Native.Nat.{ℕ}
 use borrow.Author.Needs.{needs}
-use lib.ListN.{length, take}
+use lib.ListN.{take}
 use lib.Seq.{take-all}
 use mathlib.Core.List.{List}
 use mathlib.Core.Path.{_≡_, ap, sym}
@@ -11,12 +11,12 @@ use Rattle.desk.specs.declared.Desk.{Desk}
 use Rattle.desk.specs.declared.Replacing.{Replacing}
 use Rattle.bench.proofs.replaced.Statement.{statement}
 use Rattle.bench.proofs.replaced.Tie as tie
-use Rattle.desk.specs.Layout.{bySet, oneBit}
+use Rattle.desk.specs.Layout.{Lent, bySet, lent, oneBit, sizesOf}
 
 -- the desk is new, and the bytes are the set
-by-same : {d : Desk} {bytes set after : List ℕ} {r : Replacing} (run : List ℕ) → d ≡ newDesk oneBit → bytes ≡ set → r ≡ replaceOf d (bySet bytes) (length run)
-    → after ≡ replacedRun d (bySet bytes) run
-    → (r ≡ replaceOf (newDesk oneBit) (bySet set) (length run)) × (after ≡ replacedRun (newDesk oneBit) (bySet set) run)
+by-same : {d : Desk} {bytes set : List ℕ} {after : Lent} {r : Replacing} (run : Lent) → d ≡ newDesk oneBit → bytes ≡ set
+    → r ≡ replaceOf d (bySet bytes) (sizesOf run) → after ≡ replacedRun d (bySet bytes) run
+    → (r ≡ replaceOf (newDesk oneBit) (bySet set) (sizesOf run)) × (after ≡ replacedRun (newDesk oneBit) (bySet set) run)
 by-same run new same replaced left = (cc, cc)
 
 new-requires : tie.Need-new-requires
@@ -36,8 +36,8 @@ replace-requires c κs = search needs
 
 returns : tie.Need-returns
 returns c =
-    let a = c .before .before .before .before .before .before .args in
-    by-same (a .table .now) (c .before .before .before .new .ensures) (ap (λ (k : ℕ). take k (a .set .now)) (sub-zero (a .n))) (c .replace .ensures .0)
+    let a = c .before .before .before .before .before .before .before .args in
+    by-same (lent (a .first .now) (a .second .now)) (c .before .before .before .before .new .ensures) (ap (λ (k : ℕ). take k (a .set .now)) (sub-zero (a .n))) (c .replace .ensures .0)
     (c .replace .ensures .1)
 
 new-requires-2 : tie.Need-new-requires-2
@@ -48,8 +48,8 @@ replace-requires-2 c κs = search needs
 
 returns-2 : tie.Need-returns-2
 returns-2 c =
-    let a = c .before .before .before .before .before .args in
-    by-same (a .table .now) (c .before .before .new2 .ensures) (sym (take-all (a .n) (a .set .now) (c .before .before .before .if1 .left)))
+    let a = c .before .before .before .before .before .before .args in
+    by-same (lent (a .first .now) (a .second .now)) (c .before .before .before .new2 .ensures) (sym (take-all (a .n) (a .set .now) (c .before .before .before .before .if1 .left)))
     (c .replace2 .ensures .0) (c .replace2 .ensures .1)
 
 pub replaced-spec : {M : Type 1} → statement M

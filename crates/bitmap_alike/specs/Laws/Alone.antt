@@ -17,7 +17,6 @@ use Rattle.matching.specs.Stepping.{OutcomeOf}
 use Rattle.matching.specs.Words.{Below, Lawful, Word, among, indexOf}
 use Rattle.reading.specs.Outside.{ReadAt, readBy, readTo}
 use Rattle.tagset.specs.Grammar.{goodSet}
-use Rattle.tagset.specs.Laws.Places.{tags-of}
 use Rattle.history.specs.Readings.{Turn, TurnsOfBytes}
 use Rattle.bitmap.specs.Laws.Built.{Holds, level-first, level-tree}
 use Rattle.bitmap.specs.Laws.Moves.{movesIn-append, movesIn-few, movesIn-paid}
@@ -27,10 +26,11 @@ use Rattle.bitmap.specs.Slots.{slotsOf}
 use Rattle.bitmap_reading.specs.Laws.Readings.{MapDone, map-done}
 use Rattle.bitmap_reading.specs.Outside.{readMapOf}
 use Rattle.bitmap_reading.specs.Reading.{Standing, readMap}
-use Rattle.bitmap_tables.specs.Building.{mapTableOf}
+use Rattle.bitmap_tables.specs.Building.{mapKinds, mapTableOf, wordsOf}
 use Rattle.bitmap_alike.specs.Readings.{AsTags, MapAsBuilt, MapReads, MapRow, MapRowDone, isLong, isRead, mapInTurn, mapRowThen, onMapTurn}
 use Rattle.bitmap_tables.specs.Refusals.{MapBuilds}
-use Rattle.bitmap_tables.specs.Laws.Exact.{map-tags-iff}
+use Rattle.bitmap_tables.specs.Laws.Exact.{map-lawful, map-tags-iff, words-exact}
+use Rattle.matching.specs.Tags.{Tags, exact}
 use Rattle.bitmap_tables.specs.Laws.Left.{map-left-holds, map-left-length}
 use Rattle.tagset.specs.Laws.Exact.{accepted-iff}
 use Rattle.matching.specs.Laws.Inputs.{done-by}
@@ -59,16 +59,19 @@ module _ (set run : List ℕ) (ts : List Word) (b : MapAsBuilt set run ts) where
   after v = walk (byLevel ts) 0 v
 
   pub lawful : Lawful ts
-  lawful = tags-of set ts (b .tags) .lawful (b .bytes)
+  lawful = map-lawful set (b .bytes) ts (accepted-iff mapKinds set (exact ts) .0 (b .tags))
 
-  same-set : {x y : List Word} → goodSet x ≡ goodSet y → x ≡ y
+  same-set : {x y : Tags} → goodSet x ≡ goodSet y → x ≡ y
   same-set e = cc
 
   builds : MapBuilds set (length run) (length ts)
   builds = map-tags-iff set (b .bytes) (length run) (length ts) .0 (b .answered)
 
   tags-are : builds .tags ≡ ts
-  tags-are = same-set (sym (accepted-iff set (builds .tags) .1 (builds .set)) ∙ b .tags)
+  tags-are =
+      sym (words-exact (builds .tags))
+      ∙ ap wordsOf (same-set (sym (accepted-iff mapKinds set (exact (builds .tags)) .1 (builds .set)) ∙ b .tags))
+      ∙ words-exact ts
 
   size : slots ≡ slotsOf (length run)
   size = ap slotsOf (map-left-length set run)

@@ -21,7 +21,7 @@ use Rattle.bitmap_maps.specs.Through.{through}
 -- bit u says whether p begins tag u
 pub through-bit : (ts : List Word) (p : Word) (u : ℕ) → u < length ts → eqb (through ts p / 2 ^ u % 2) 1 ≡ begins p (getD ts u [])
 unfolding through
-through-bit ts p u h = bit-is (begins p (getD ts u [])) (through ts p / 2 ^ u % 2) (vectorBy-bit (λ t. begins p t) ts u h)
+through-bit ts p u h = bit-is (begins p (getD ts u [])) (through ts p / 2 ^ u % 2) (vectorBy-bit [] (λ t. begins p t) ts u h)
 
 -- as `goes_through` says it
 pub goes-begins : (ts : List Word) (p : Word) (mask u : ℕ) (b : Bool) → mask ≡ through ts p → u < length ts → b ≡ eqb (mask / 2 ^ u % 2) 1

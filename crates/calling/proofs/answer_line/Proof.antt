@@ -11,7 +11,7 @@ make-requires : tie.Need-make-requires
 make-requires c κs = search needs
 
 returns : tie.Need-returns
-returns c = (rw (sym (c .before .before .before .before .before .before .before .before .call-of .ensures .0)) (c .make .ensures .0), c .make .ensures .1)
+returns c = (rw (sym (c .before .before .before .before .before .before .before .before .before .call-of .ensures .0)) (c .make .ensures .0), c .make .ensures .1)
 
 pub answer-line-spec : {M : Type 1} → statement M
 answer-line-spec = tie.close (tie.spec call-of-requires make-requires returns)

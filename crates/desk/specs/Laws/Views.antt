@@ -34,7 +34,7 @@ use Rattle.matching.specs.Words.{Word}
 use Rattle.matching.specs.declared.Stop.the-variants.{Damaged}
 use Rattle.tables.specs.declared.Built.{Built}
 use Rattle.tagset.specs.declared.SetFault.{SetFault}
-use Rattle.desk.specs.Layout.{deskBuilt, deskSlots, Fits, Lent, lentFits, Order, placeIn, Sizes, sizesOf}
+use Rattle.desk.specs.Layout.{deskBuilt, deskSlots, Fits, Lent, lentFits, Order, placeFits, Sizes, sizesOf}
 use Rattle.desk.specs.Laws.Layout.{fits-not, fits-so}
 use Rattle.desk.specs.Limits.{mostRecords, mostTickets}
 use Rattle.matching.specs.Limits.{largest}
@@ -117,7 +117,7 @@ pub data Feeds (d : Desk) (i : ℕ) (table : Lent) (piece : Word) : Feeding → 
   feed-long : i < mostTickets → ticketIn (d .tickets) i .edition .0 ≡ d .edition .0 → Fits (sizesOf table) (d .slots)
       → largest < ticketIn (d .tickets) i .taken + length piece → Feeds d i table piece (record { desk = d; answer = F.Long })
   feed-no-place : i < mostTickets → ticketIn (d .tickets) i .edition .0 ≡ d .edition .0 → Fits (sizesOf table) (d .slots)
-      → ticketIn (d .tickets) i .taken + length piece ≤ largest → placeIn (sizesOf table) (d .slots) (ticketIn (d .tickets) i .place) ≡ false
+      → ticketIn (d .tickets) i .taken + length piece ≤ largest → placeFits (sizesOf table) (d .slots) (ticketIn (d .tickets) i .place) ≡ false
       → Feeds d i table piece (record { desk = d; answer = F.Fed (advance 0 0 Damaged) })
   feed-read : i < mostTickets → ticketIn (d .tickets) i .edition .0 ≡ d .edition .0 → Fits (sizesOf table) (d .slots)
       → ticketIn (d .tickets) i .taken + length piece ≤ largest
@@ -127,7 +127,7 @@ pub feeds-in : (d : Desk) (i : ℕ) (table : Lent) (piece : Word) → Feeds d i 
 feeds-in d i table piece = go _ _ _ _ _ refl refl refl refl refl
   where
     go : (a b c e f : Bool) → ltb i mostTickets ≡ a → eqb (ticketIn (d .tickets) i .edition .0) (d .edition .0) ≡ b → lentFits (sizesOf table) (d .slots) ≡ c
-        → ltb largest (ticketIn (d .tickets) i .taken + length piece) ≡ e → placeIn (sizesOf table) (d .slots) (ticketIn (d .tickets) i .place) ≡ f
+        → ltb largest (ticketIn (d .tickets) i .taken + length piece) ≡ e → placeFits (sizesOf table) (d .slots) (ticketIn (d .tickets) i .place) ≡ f
         → Feeds d i table piece (feedBy d i (ticketIn (d .tickets) i) table piece a b c e f)
     go false b c e f p q r u z = feed-no-ticket (ltb-false _ _ p)
     go true false c e f p q r u z = feed-stale (ltb-true _ _ p) (eqb-false _ _ q)

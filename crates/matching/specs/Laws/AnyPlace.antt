@@ -1,4 +1,4 @@
--- Over a table as building left it, a reading from ANY place goes on: unused slots hold zeros, so that no next number is out of range.
+-- Over a table as building left it, ANY place leads on: unused slots hold zeros, so that no next number is out of range.
 use Prim.Native.Nat.{_%_, _+_, _/_, _<_, _≤_, suc, zero, ℕ}
 use mathlib.Core.Bool.{true}
 use mathlib.Core.List.{List, [], _++_, _∷_}
@@ -6,18 +6,17 @@ use mathlib.Core.Logic.{_⊎_, inl, inr}
 use mathlib.Core.Path.{_∙_, _≡_, ap, refl}
 use native.Mathlib.Decide.{decLe}
 use native.Mathlib.Omega.{arith}
-use lib.Dec.{leb, le→leb, ltb, lt→ltb}
+use lib.Dec.{ltb, lt→ltb}
 use lib.ListN.{getD, getD-replicate, length}
 use borrow.Author.Tests.{ltb-true}
 use Rattle.matching.specs.Laws.Bits.{bit-cases, onesOf-none, onesOf-one}
 use Rattle.matching.specs.Laws.Bools.{and-both, and-l, and-r, is-true}
 use Rattle.matching.specs.Laws.Machine.{next-lt}
 use Rattle.matching.specs.Laws.Prefixes.{tree}
-use Rattle.matching.specs.Laws.Readings.{read-tookByte, slice-lt}
+use Rattle.matching.specs.Laws.Readings.{slice-lt}
 use Rattle.matching.specs.Laws.Tables.{built-at, slot-next, slot-unused}
-use Rattle.matching.specs.Limits.{mostTags}
 use Rattle.matching.specs.Machine.{prefixes, states}
-use Rattle.matching.specs.Reading.{allBelow, flagged, nexts, onesOf, read, tookByte, vectorsAt}
+use Rattle.matching.specs.Reading.{allBelow, flagged, nexts, onesOf, vectorsAt}
 use Rattle.matching.specs.Slicing.{anded, slice}
 use Rattle.matching.specs.Table.{built, slot, slotSize, spot, tagsFor}
 use Rattle.matching.specs.Words.{Word}
@@ -31,47 +30,35 @@ ones-few (suc width) i v = go (bit-cases v) (ones-few width (suc i) (v / 2))
     go (inl e) h = rw (onesOf-one i width v e) (omega (arith, h))
     go (inr e) h = rw (onesOf-none i width v e) (omega (arith, h))
 
-flagged-few : (n s : ℕ) (table qs : List ℕ) → length (flagged n s table qs) ≤ 16
+pub flagged-few : (n s : ℕ) (table qs : List ℕ) → length (flagged n s table qs) ≤ 16
 unfolding flagged
 flagged-few n s table qs = ones-few 16 0 (anded 65535 (vectorsAt n s table 0 qs))
 
 -- over a built table each next number is below the slots, from ANY state below them: unused slots hold zeros
-module _ (n k s : ℕ) (ts : List Word) (rest : List ℕ) (some : 0 < s) (fits : (m : ℕ) → m < k → states (tagsFor n ts m) ≤ s) where
-  next-below : (m q c : ℕ) → m < k → q < s → getD (built n k s ts ++ rest) (spot n s m q + slice n m c) 0 < s
+module _ (n k s : ℕ) (ts : List Word) (mark : ℕ → Word → ℕ) (rest : List ℕ) (some : 0 < s) (fits : (m : ℕ) → m < k → states (tagsFor n ts m) ≤ s) where
+  next-below : (m q c : ℕ) → m < k → q < s → getD (built n k s ts mark ++ rest) (spot n s m q + slice n m c) 0 < s
   unfolding states
   next-below m q c hm hq = go (decLe (length (prefixes (tagsFor n ts m))) q)
     where
-      at : getD (built n k s ts ++ rest) (spot n s m q + slice n m c) 0 ≡ getD (slot n (tagsFor n ts m) (prefixes (tagsFor n ts m)) q) (slice n m c) 0
-      at = built-at n k s ts rest m q (slice n m c) hm hq (omega (arith, slice-lt n m c))
+      at : getD (built n k s ts mark ++ rest) (spot n s m q + slice n m c) 0 ≡ getD (slot n (mark m) (prefixes (tagsFor n ts m)) q) (slice n m c) 0
+      at = built-at n k s ts mark rest m q (slice n m c) hm hq (omega (arith, slice-lt n m c))
 
-      go : Dec (length (prefixes (tagsFor n ts m)) ≤ q) → getD (built n k s ts ++ rest) (spot n s m q + slice n m c) 0 < s
+      go : Dec (length (prefixes (tagsFor n ts m)) ≤ q) → getD (built n k s ts mark ++ rest) (spot n s m q + slice n m c) 0 < s
       go (yes h) =
-          let z : getD (slot n (tagsFor n ts m) (prefixes (tagsFor n ts m)) q) (slice n m c) 0 ≡ 0
-          = ap (λ (l : List ℕ). getD l (slice n m c) 0) (slot-unused n (tagsFor n ts m) (prefixes (tagsFor n ts m)) q h)
+          let z : getD (slot n (mark m) (prefixes (tagsFor n ts m)) q) (slice n m c) 0 ≡ 0
+          = ap (λ (l : List ℕ). getD l (slice n m c) 0) (slot-unused n (mark m) (prefixes (tagsFor n ts m)) q h)
           ∙ getD-replicate (slotSize n) (slice n m c) 0 0 (omega (arith, slice-lt n m c)) in
           omega (arith, at, z, some)
       go (no h) =
-          let z = slot-next n (tagsFor n ts m) (prefixes (tagsFor n ts m)) q (slice n m c) (omega arith) (slice-lt n m c) in
+          let z = slot-next n (mark m) (prefixes (tagsFor n ts m)) q (slice n m c) (omega arith) (slice-lt n m c) in
           let y = next-lt (prefixes (tagsFor n ts m)) (tree (tagsFor n ts m) .root) q (slice n m c) in
           omega (arith, at, z, y, fits m hm)
 
-  nexts-below : (qs : List ℕ) (m c : ℕ) → m + length qs ≤ k → allBelow s qs ≡ true → allBelow s (nexts n s (built n k s ts ++ rest) m qs c) ≡ true
+  pub nexts-below : (qs : List ℕ) (m c : ℕ) → m + length qs ≤ k → allBelow s qs ≡ true → allBelow s (nexts n s (built n k s ts mark ++ rest) m qs c) ≡ true
   unfolding allBelow nexts
   nexts-below [] m c h e = refl
   nexts-below (q ∷ qs) m c h e =
       let x = next-below m q c (omega arith) (ltb-true q s (and-l (ltb q s) (allBelow s qs) e)) in
-      and-both (ltb (getD (built n k s ts ++ rest) (spot n s m q + slice n m c) 0) s) (allBelow s (nexts n s (built n k s ts ++ rest) (suc m) qs c))
-      (is-true (ltb (getD (built n k s ts ++ rest) (spot n s m q + slice n m c) 0) s) (lt→ltb _ s x))
+      and-both (ltb (getD (built n k s ts mark ++ rest) (spot n s m q + slice n m c) 0) s) (allBelow s (nexts n s (built n k s ts mark ++ rest) (suc m) qs c))
+      (is-true (ltb (getD (built n k s ts mark ++ rest) (spot n s m q + slice n m c) 0) s) (lt→ltb _ s x))
       (nexts-below qs (suc m) c (omega arith) (and-r (ltb q s) (allBelow s qs) e))
-
-  -- so a reading from any place, with room for a record of each tag, advances
-  pub reads-on : (qs : List ℕ) → length qs ≤ k → allBelow s qs ≡ true → (count room c : ℕ) (w : Word) → mostTags ≤ room
-      → 0 < read n s (built n k s ts ++ rest) qs count room (c ∷ w) .taken
-  unfolding tookByte
-  reads-on qs h e count room c w r =
-      let t = built n k s ts ++ rest in
-      let to = nexts n s t 0 qs c in
-      let f = flagged-few n s t to in
-      let few : length (flagged n s t to) ≤ room = omega (arith, f, r) in
-      let l = is-true (leb (length (flagged n s t to)) room) (le→leb (length (flagged n s t to)) room few) in
-      rw (read-tookByte n s t qs count room c w (nexts-below qs 0 c (omega arith) e) l) (omega arith)

@@ -2,31 +2,18 @@
 use Prim.Native.Nat.{_%_, _+_, _/_, _<_, _≤_, suc, zero, ℕ}
 use mathlib.Core.Bool.{false, true}
 use mathlib.Core.List.{List, [], _∷_}
-use mathlib.Core.Logic.{_↔_, _⊎_, inl, inr}
+use mathlib.Core.Logic.{_⊎_, inl, inr}
 use mathlib.Core.Path.{_∙_, _≡_, ap, refl, subst, sym}
 use native.Mathlib.Omega.{arith}
 use lib.ListN.{length}
 use Rattle.matching.specs.Laws.Bits.{bit-cases, onesOf-none, onesOf-one}
 use Rattle.matching.specs.Laws.Bools.{decided}
 use Rattle.matching.specs.Laws.Readings.{tableStep-goes, tableStep-wrong}
-use Rattle.matching.specs.Laws.Stepping.{Rising, every-both, every-map, readBy-keeps, readBy-ordered, readBy-tags, went}
+use Rattle.matching.specs.Laws.Stepping.{Rising, every-map}
 pub use Rattle.matching.specs.Laws.Stepping.{Every}
-use Rattle.matching.specs.Occurrence.{Ordered}
-use Rattle.matching.specs.Reading.{Outcome, allBelow, flagged, nexts, onesOf, read, tableStep, vectorsAt}
+use Rattle.matching.specs.Reading.{allBelow, flagged, nexts, onesOf, tableStep, vectorsAt}
 use Rattle.matching.specs.Slicing.{anded}
-use Rattle.matching.specs.Stepping.{goesTo, readBy}
-use Rattle.matching.specs.Words.{Word}
-use Rattle.matching.specs.declared.Stop.the-variants.{All}
-
--- what a reading r of w has done: from a place, with count bytes taken before and room for so many records
-pub record Kept (s : ℕ) (place : List ℕ) (count room : ℕ) (w : Word) (r : Outcome) : Type 0 where
-  pub part : r .taken ≤ length w
-  pub fits : length (r .found) ≤ room
-  pub long : length (r .place) ≡ length place
-  pub below : allBelow s place ≡ true → allBelow s (r .place) ≡ true
-  pub records : Every (λ o. (count < o .end) × (o .end ≤ count + r .taken) × (o .tag < 16)) (r .found)
-  pub idle : r .taken ≡ 0 → (r .place ≡ place) × (r .found ≡ [])
-  pub whole : (r .stop ≡ All) ↔ (r .taken ≡ length w)
+use Rattle.matching.specs.Stepping.{goesTo}
 
 -- the places of the ones lie among the bits, and rise
 pub onesOf-within : (width i v : ℕ) → Every (λ j. (i ≤ j) × (j < i + width)) (onesOf i width v)
@@ -90,26 +77,3 @@ module _ (n s : ℕ) (table place : List ℕ) (c : ℕ) where
   moved-tags to tags e = subst (Every (λ i. i < 16)) (moved to tags e .marks)
       (every-map _ (λ i. i < 16) (onesOf 0 16 (anded 65535 (vectorsAt n s table 0 to))) (λ j h. omega (arith, h .1))
       (onesOf-within 16 0 (anded 65535 (vectorsAt n s table 0 to))))
-
-pub read-kept : (n s : ℕ) (table place : List ℕ) (count room : ℕ) (w : Word) → Kept s place count room w (read n s table place count room w)
-unfolding read
-read-kept n s table place count room w =
-    let g = went (tableStep n s table) w place count room in
-    let r = readBy (tableStep n s table) place count room w in
-    record {
-      part = g .part;
-      fits = g .fits;
-      long = readBy-keeps (tableStep n s table) (λ p. length p ≡ length place)
-          (λ p c to tags h e. ap length (sym (moved n s table p c to tags e .there)) ∙ nexts-length n s table 0 p c ∙ h) w place count room refl;
-      below = readBy-keeps (tableStep n s table) (λ p. allBelow s p ≡ true) (λ p c to tags h e. moved n s table p c to tags e .below) w place count room;
-      records = every-map _ _ (r .found) (λ o h. (h .0 .0, h .0 .1, h .1))
-          (every-both (λ o. (count < o .end) × (o .end ≤ count + r .taken)) (λ o. o .tag < 16) (r .found) (g .between)
-          (readBy-tags (tableStep n s table) (λ i. i < 16) (λ p c to tags e. moved-tags n s table p c to tags e) w place count room));
-      idle = g .idle;
-      whole = g .whole;
-    }
-
--- in which order a reading writes its records
-pub read-ordered : (n s : ℕ) (table place : List ℕ) (count room : ℕ) (w : Word) → Ordered (read n s table place count room w .found)
-unfolding read
-read-ordered n s table place count room w = readBy-ordered (tableStep n s table) (λ p c to tags e. moved-rising n s table p c to tags e) w place count room

@@ -26,10 +26,6 @@ numbersWhere-length g i (t ∷ ts) = go (decided (g t)) (numbersWhere-length g (
     go (inl e) ih = rw (numbersWhere-hit g i t ts e) (omega arith)
     go (inr e) ih = rw (numbersWhere-miss g i t ts e) (omega arith)
 
-pub tagsEnding-length : (ts : List Word) (w : Word) → length (tagsEnding ts w) ≤ length ts
-unfolding tagsEnding
-tagsEnding-length ts w = numbersWhere-length (λ t. ends t w) 0 ts
-
 -- ---- the tags that are found
 
 pub numbersWhere-has : {A : Type 0} (z : A) (g : A → Bool) (ts : List A) (i j : ℕ) → j < length ts → g (getD ts j z) ≡ true

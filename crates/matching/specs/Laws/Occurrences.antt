@@ -6,13 +6,13 @@ use mathlib.Core.List.{append-nil}
 use mathlib.Core.Logic.{_↔_, _⊎_, inl, inr}
 use mathlib.Core.Path.{_∙_, _≡_, ap, ap₂, subst, sym}
 use native.Mathlib.Omega.{arith}
-use lib.ListN.{getD, length, take}
+use lib.ListN.{length, take}
 use Rattle.matching.specs.Laws.Bits.{numbersWhere-hit, numbersWhere-miss}
 use Rattle.matching.specs.Laws.Bools.{decided}
-use Rattle.matching.specs.Laws.Matches.{occurAt-has, occurAt-only, tagsEnding-has}
+use Rattle.matching.specs.Laws.Matches.{occurAt-has, occurAt-only}
 use Rattle.matching.specs.Laws.Stepping.{Every, Rising, every-all, every-append, every-map, every-occurAt, rising-before}
-use Rattle.matching.specs.Occurrence.{Occurrence, Ordered, numbersWhere, occurAt, occurrences, occurrencesBy, occurrencesFrom, tagsEnding}
-use Rattle.matching.specs.Words.{Word, ends}
+use Rattle.matching.specs.Occurrence.{Occurrence, Ordered, numbersWhere, occurAt, occurrencesBy}
+use Rattle.matching.specs.Words.{Word}
 
 module _ (f : Word → List ℕ) where
   -- over a cut
@@ -112,22 +112,3 @@ numbersWhere-rising {A} g (t ∷ ts) i = go (decided (g t)) (numbersWhere-rising
         → Every (λ j. i ≤ j) (numbersWhere g i (t ∷ ts)) × Rising (numbersWhere g i (t ∷ ts))
     go (inl e) ih = rw (numbersWhere-hit g i t ts e) ((omega arith, low (ih .0)), (ih .0, ih .1))
     go (inr e) ih = rw (numbersWhere-miss g i t ts e) (low (ih .0), ih .1)
-
--- ---- of tags
-
-module _ (ts : List Word) where
-  pub tagsEnding-rising : (w : Word) → Rising (tagsEnding ts w)
-  unfolding tagsEnding
-  tagsEnding-rising w = numbersWhere-rising (λ t. ends t w) ts 0 .1
-
-  -- by end, then by tag number
-  pub occurrences-ordered : (w v : Word) (count : ℕ) → Ordered (occurrencesFrom ts v count w)
-  occurrences-ordered = occurrencesBy-ordered (tagsEnding ts) tagsEnding-rising
-
-  -- THE OCCURRENCES: the record (e, i) is one exactly if the first e bytes of the input end with tag i
-  pub occurrence-iff : (w : Word) (e i : ℕ)
-      → List·Memᴰ (record { end = e; tag = i }) (occurrences ts w) ↔ ((0 < e) × (e ≤ length w) × (i < length ts) × (ends (getD ts i []) (take e w) ≡ true))
-  occurrence-iff w e i = (
-    λ m. (let h = found-iff (tagsEnding ts) w e i .0 m in let t = tagsEnding-has ts (take e w) i .0 (h .2) in (h .0, h .1, t .0, t .1)),
-    λ h. found-iff (tagsEnding ts) w e i .1 (h .0, h .1, tagsEnding-has ts (take e w) i .1 (h .2, h .3)),
-  )

@@ -269,5 +269,9 @@ pub walk-lt : (ts : List Word) (w : Word) → walk (prefixes ts) 0 w < states ts
 unfolding states
 walk-lt ts w = lt-tree (prefixes ts) (tree ts) (indexOf-nil ts) w
 
+-- there is a start state
+pub states-some : (ts : List Word) → 0 < states ts
+states-some ts = omega (arith, walk-lt ts [])
+
 pub vector-walk : (ts : List Word) (w : Word) → vector ts (getD (prefixes ts) (walk (prefixes ts) 0 w) []) ≡ vector ts w
 vector-walk ts w = vector-tree (prefixes ts) (tree ts) (indexOf-nil ts) ts (tags-among ts) w

@@ -15,7 +15,7 @@ use lib.Seq.{ext-getD, getD-append-add, getD-at, getD-drop, getD-take, length-ta
 use Rattle.matching.specs.Laws.Bools.{decided, is-false, is-true, to-T}
 use Rattle.matching.specs.Laws.Counting.{after}
 use Rattle.matching.specs.Laws.Readings.{Holds}
-use Rattle.matching.specs.Machine.{next, prefixes, states, vector}
+use Rattle.matching.specs.Machine.{next, prefixes, states}
 use Rattle.matching.specs.Table.{Room, built, enoughSlots, laid, roomFrom, shortOfSlots, slot, slotSize, slots, spot, tagsFor}
 use Rattle.matching.specs.Words.{Word}
 
@@ -40,48 +40,48 @@ module _ (f : ℕ → List ℕ) (z : ℕ) (size : (i : ℕ) → length (f i) ≡
 
 -- ---- a slot
 
-slot-used : (n : ℕ) (ts ps : List Word) (q : ℕ) → q < length ps → slot n ts ps q ≡ laid (λ c. next ps q c ∷ []) 0 (2 ^ n) ++ vector ts (getD ps q []) ∷ []
+slot-used : (n : ℕ) (mark : Word → ℕ) (ps : List Word) (q : ℕ) → q < length ps → slot n mark ps q ≡ laid (λ c. next ps q c ∷ []) 0 (2 ^ n) ++ mark (getD ps q []) ∷ []
 unfolding slot
-slot-used n ts ps q h = rw (is-true (ltb q (length ps)) (lt→ltb q (length ps) h), slot) refl
+slot-used n mark ps q h = rw (is-true (ltb q (length ps)) (lt→ltb q (length ps) h), slot) refl
 
-pub slot-unused : (n : ℕ) (ts ps : List Word) (q : ℕ) → length ps ≤ q → slot n ts ps q ≡ replicate (slotSize n) 0
+pub slot-unused : (n : ℕ) (mark : Word → ℕ) (ps : List Word) (q : ℕ) → length ps ≤ q → slot n mark ps q ≡ replicate (slotSize n) 0
 unfolding slot
-slot-unused n ts ps q h = rw (is-false (ltb q (length ps)) (λ e. omega (arith, ltb→lt q (length ps) (to-T (ltb q (length ps)) e))), slot) refl
+slot-unused n mark ps q h = rw (is-false (ltb q (length ps)) (λ e. omega (arith, ltb→lt q (length ps) (to-T (ltb q (length ps)) e))), slot) refl
 
 nexts-length : (n q : ℕ) (ps : List Word) → length (laid (λ c. next ps q c ∷ []) 0 (2 ^ n)) ≡ 2 ^ n
 nexts-length n q ps = laid-length (λ c. next ps q c ∷ []) 1 (λ i. refl) 0 (2 ^ n) ∙ omega arith
 
-pub slot-length : (n : ℕ) (ts ps : List Word) (q : ℕ) → length (slot n ts ps q) ≡ slotSize n
+pub slot-length : (n : ℕ) (mark : Word → ℕ) (ps : List Word) (q : ℕ) → length (slot n mark ps q) ≡ slotSize n
 unfolding slot
-slot-length n ts ps q = go (decided (ltb q (length ps)))
+slot-length n mark ps q = go (decided (ltb q (length ps)))
   where
-    go : (ltb q (length ps) ≡ true) ⊎ (ltb q (length ps) ≡ false) → length (slot n ts ps q) ≡ slotSize n
-    go (inl e) = rw (e, slot) (length-append (laid (λ c. next ps q c ∷ []) 0 (2 ^ n)) (vector ts (getD ps q []) ∷ []) ∙ omega (arith, nexts-length n q ps))
+    go : (ltb q (length ps) ≡ true) ⊎ (ltb q (length ps) ≡ false) → length (slot n mark ps q) ≡ slotSize n
+    go (inl e) = rw (e, slot) (length-append (laid (λ c. next ps q c ∷ []) 0 (2 ^ n)) (mark (getD ps q []) ∷ []) ∙ omega (arith, nexts-length n q ps))
     go (inr e) = rw (e, slot) (length-replicate (slotSize n) 0)
 
-pub slot-next : (n : ℕ) (ts ps : List Word) (q c : ℕ) → q < length ps → c < 2 ^ n → getD (slot n ts ps q) c 0 ≡ next ps q c
-slot-next n ts ps q c hq hc =
-    ap (λ (l : List ℕ). getD l c 0) (slot-used n ts ps q hq)
-    ∙ List·getD-append (laid (λ c. next ps q c ∷ []) 0 (2 ^ n)) (vector ts (getD ps q []) ∷ []) 0 c (omega (arith, nexts-length n q ps))
+pub slot-next : (n : ℕ) (mark : Word → ℕ) (ps : List Word) (q c : ℕ) → q < length ps → c < 2 ^ n → getD (slot n mark ps q) c 0 ≡ next ps q c
+slot-next n mark ps q c hq hc =
+    ap (λ (l : List ℕ). getD l c 0) (slot-used n mark ps q hq)
+    ∙ List·getD-append (laid (λ c. next ps q c ∷ []) 0 (2 ^ n)) (mark (getD ps q []) ∷ []) 0 c (omega (arith, nexts-length n q ps))
     ∙ ap (λ (x : ℕ). getD (laid (λ c. next ps q c ∷ []) 0 (2 ^ n)) x 0) (omega arith)
     ∙ laid-at (λ c. next ps q c ∷ []) 1 (λ i. refl) (2 ^ n) 0 c 0 hc (omega arith)
     ∙ ap (next ps q) (zero-add c)
 
-pub slot-vector : (n : ℕ) (ts ps : List Word) (q : ℕ) → q < length ps → getD (slot n ts ps q) (2 ^ n) 0 ≡ vector ts (getD ps q [])
-slot-vector n ts ps q hq =
-    ap (λ (l : List ℕ). getD l (2 ^ n) 0) (slot-used n ts ps q hq)
-    ∙ getD-at (laid (λ c. next ps q c ∷ []) 0 (2 ^ n)) (vector ts (getD ps q [])) [] 0 (2 ^ n) (nexts-length n q ps)
+pub slot-vector : (n : ℕ) (mark : Word → ℕ) (ps : List Word) (q : ℕ) → q < length ps → getD (slot n mark ps q) (2 ^ n) 0 ≡ mark (getD ps q [])
+slot-vector n mark ps q hq =
+    ap (λ (l : List ℕ). getD l (2 ^ n) 0) (slot-used n mark ps q hq)
+    ∙ getD-at (laid (λ c. next ps q c ∷ []) 0 (2 ^ n)) (mark (getD ps q [])) [] 0 (2 ^ n) (nexts-length n q ps)
 
 -- ---- a machine, and the table
 
-pub slots-length : (n s : ℕ) (ts : List Word) (m : ℕ) → length (slots n s ts m) ≡ s * (slotSize n)
+pub slots-length : (n s : ℕ) (ts : List Word) (mark : ℕ → Word → ℕ) (m : ℕ) → length (slots n s ts mark m) ≡ s * (slotSize n)
 unfolding slots
-slots-length n s ts m = laid-length (slot n (tagsFor n ts m) (prefixes (tagsFor n ts m))) (slotSize n)
-    (slot-length n (tagsFor n ts m) (prefixes (tagsFor n ts m))) 0 s
+slots-length n s ts mark m = laid-length (slot n (mark m) (prefixes (tagsFor n ts m))) (slotSize n)
+    (slot-length n (mark m) (prefixes (tagsFor n ts m))) 0 s
 
-pub built-length : (n k s : ℕ) (ts : List Word) → length (built n k s ts) ≡ k * (s * (slotSize n))
+pub built-length : (n k s : ℕ) (ts : List Word) (mark : ℕ → Word → ℕ) → length (built n k s ts mark) ≡ k * (s * (slotSize n))
 unfolding built
-built-length n k s ts = laid-length (slots n s ts) (s * (slotSize n)) (slots-length n s ts) 0 k
+built-length n k s ts mark = laid-length (slots n s ts mark) (s * (slotSize n)) (slots-length n s ts mark) 0 k
 
 spot-as : (n s m q j : ℕ) → spot n s m q + j ≡ m * (s * (slotSize n)) + (q * (slotSize n) + j)
 unfolding spot
@@ -89,28 +89,28 @@ spot-as n s m q j =
     ap (λ (x : ℕ). x + j) (add-mul (m * s) q (slotSize n) ∙ ap (λ (x : ℕ). x + q * (slotSize n)) (mul-assoc m s (slotSize n)))
     ∙ add-assoc (m * (s * (slotSize n))) (q * (slotSize n)) j
 
-pub built-at : (n k s : ℕ) (ts : List Word) (rest : List ℕ) (m q j : ℕ) → m < k → q < s → j < slotSize n
-    → getD (built n k s ts ++ rest) (spot n s m q + j) 0 ≡ getD (slot n (tagsFor n ts m) (prefixes (tagsFor n ts m)) q) j 0
+pub built-at : (n k s : ℕ) (ts : List Word) (mark : ℕ → Word → ℕ) (rest : List ℕ) (m q j : ℕ) → m < k → q < s → j < slotSize n
+    → getD (built n k s ts mark ++ rest) (spot n s m q + j) 0 ≡ getD (slot n (mark m) (prefixes (tagsFor n ts m)) q) j 0
 unfolding built slots
-built-at n k s ts rest m q j hm hq hj =
-    ap (λ (x : ℕ). getD (built n k s ts ++ rest) x 0) (spot-as n s m q j)
-    ∙ List·getD-append (built n k s ts) rest 0 (m * (s * (slotSize n)) + (q * (slotSize n) + j))
-    (subst (λ (x : ℕ). m * (s * (slotSize n)) + (q * (slotSize n) + j) < x) (sym (built-length n k s ts)) (digits-lt hm (digits-lt hq hj)))
-    ∙ laid-at (slots n s ts) (s * (slotSize n)) (slots-length n s ts) k 0 m (q * (slotSize n) + j) hm (digits-lt hq hj)
-    ∙ ap (λ (x : ℕ). getD (slots n s ts x) (q * (slotSize n) + j) 0) (zero-add m)
-    ∙ laid-at (slot n (tagsFor n ts m) (prefixes (tagsFor n ts m))) (slotSize n) (slot-length n (tagsFor n ts m) (prefixes (tagsFor n ts m))) s 0 q j hq hj
-    ∙ ap (λ (x : ℕ). getD (slot n (tagsFor n ts m) (prefixes (tagsFor n ts m)) x) j 0) (zero-add q)
+built-at n k s ts mark rest m q j hm hq hj =
+    ap (λ (x : ℕ). getD (built n k s ts mark ++ rest) x 0) (spot-as n s m q j)
+    ∙ List·getD-append (built n k s ts mark) rest 0 (m * (s * (slotSize n)) + (q * (slotSize n) + j))
+    (subst (λ (x : ℕ). m * (s * (slotSize n)) + (q * (slotSize n) + j) < x) (sym (built-length n k s ts mark)) (digits-lt hm (digits-lt hq hj)))
+    ∙ laid-at (slots n s ts mark) (s * (slotSize n)) (slots-length n s ts mark) k 0 m (q * (slotSize n) + j) hm (digits-lt hq hj)
+    ∙ ap (λ (x : ℕ). getD (slots n s ts mark x) (q * (slotSize n) + j) 0) (zero-add m)
+    ∙ laid-at (slot n (mark m) (prefixes (tagsFor n ts m))) (slotSize n) (slot-length n (mark m) (prefixes (tagsFor n ts m))) s 0 q j hq hj
+    ∙ ap (λ (x : ℕ). getD (slot n (mark m) (prefixes (tagsFor n ts m)) x) j 0) (zero-add q)
 
 -- THE TABLE THEOREM: what `built` lays down, whatever stands behind it, holds the machines
-pub built-holds : (n k s : ℕ) (ts : List Word) (rest : List ℕ) → ((m : ℕ) → m < k → states (tagsFor n ts m) ≤ s) → Holds n k s ts (built n k s ts ++ rest)
+pub built-holds : (n k s : ℕ) (ts : List Word) (mark : ℕ → Word → ℕ) (rest : List ℕ) → ((m : ℕ) → m < k → states (tagsFor n ts m) ≤ s) → Holds n k s ts mark (built n k s ts mark ++ rest)
 unfolding states
-built-holds n k s ts rest room =
+built-holds n k s ts mark rest room =
     record {
       fits = room;
-      moves = λ m q c hm hq hc. built-at n k s ts rest m q c hm (omega (arith, room m hm, hq)) (omega (arith, hc))
-          ∙ slot-next n (tagsFor n ts m) (prefixes (tagsFor n ts m)) q c hq hc;
-      marks = λ m q hm hq. built-at n k s ts rest m q (2 ^ n) hm (omega (arith, room m hm, hq)) (omega arith)
-          ∙ slot-vector n (tagsFor n ts m) (prefixes (tagsFor n ts m)) q hq;
+      moves = λ m q c hm hq hc. built-at n k s ts mark rest m q c hm (omega (arith, room m hm, hq)) (omega (arith, hc))
+          ∙ slot-next n (mark m) (prefixes (tagsFor n ts m)) q c hq hc;
+      marks = λ m q hm hq. built-at n k s ts mark rest m q (2 ^ n) hm (omega (arith, room m hm, hq)) (omega arith)
+          ∙ slot-vector n (mark m) (prefixes (tagsFor n ts m)) q hq;
     }
 
 -- ---- the machine that is short of slots
@@ -194,35 +194,35 @@ module _ (f : ℕ → List ℕ) (z : ℕ) (size : (i : ℕ) → length (f i) ≡
               ∙ ap (λ (y : ℕ). getD (laid f 0 count) y 0) (div-add-mod' x z)
 
 -- a table of just the size that holds, cell by cell, the slots
-pub built-ext : (n k s : ℕ) (ts : List Word) (tab : List ℕ) → length tab ≡ k * (s * (slotSize n))
-    → ((m q j : ℕ) → m < k → q < s → j < slotSize n → getD tab (spot n s m q + j) 0 ≡ getD (slot n (tagsFor n ts m) (prefixes (tagsFor n ts m)) q) j 0)
-    → tab ≡ built n k s ts
+pub built-ext : (n k s : ℕ) (ts : List Word) (mark : ℕ → Word → ℕ) (tab : List ℕ) → length tab ≡ k * (s * (slotSize n))
+    → ((m q j : ℕ) → m < k → q < s → j < slotSize n → getD tab (spot n s m q + j) 0 ≡ getD (slot n (mark m) (prefixes (tagsFor n ts m)) q) j 0)
+    → tab ≡ built n k s ts mark
 unfolding built slots
-built-ext n k s ts tab e h = laid-ext (slots n s ts) (s * (slotSize n)) (slots-length n s ts) k tab e cell
+built-ext n k s ts mark tab e h = laid-ext (slots n s ts mark) (s * (slotSize n)) (slots-length n s ts mark) k tab e cell
   where
     pos : 0 < slotSize n
     pos = omega arith
 
-    cell : (m x : ℕ) → m < k → x < s * (slotSize n) → getD tab (m * (s * (slotSize n)) + x) 0 ≡ getD (slots n s ts m) x 0
+    cell : (m x : ℕ) → m < k → x < s * (slotSize n) → getD tab (m * (s * (slotSize n)) + x) 0 ≡ getD (slots n s ts mark m) x 0
     cell m x hm hx =
         ap (λ (y : ℕ). getD tab (m * (s * (slotSize n)) + y) 0) (sym (div-add-mod' x (slotSize n)))
         ∙ ap (λ (y : ℕ). getD tab y 0) (sym (spot-as n s m (x / (slotSize n)) (x % (slotSize n))))
         ∙ h m (x / (slotSize n)) (x % (slotSize n)) hm (div-lt-iff-lt-mul pos .1 hx) (mod-lt x pos)
-        ∙ ap (λ (y : ℕ). getD (slot n (tagsFor n ts m) (prefixes (tagsFor n ts m)) y) (x % (slotSize n)) 0) (sym (zero-add (x / (slotSize n))))
-        ∙ sym (laid-at (slot n (tagsFor n ts m) (prefixes (tagsFor n ts m))) (slotSize n) (slot-length n (tagsFor n ts m) (prefixes (tagsFor n ts m))) s 0
+        ∙ ap (λ (y : ℕ). getD (slot n (mark m) (prefixes (tagsFor n ts m)) y) (x % (slotSize n)) 0) (sym (zero-add (x / (slotSize n))))
+        ∙ sym (laid-at (slot n (mark m) (prefixes (tagsFor n ts m))) (slotSize n) (slot-length n (mark m) (prefixes (tagsFor n ts m))) s 0
         (x / (slotSize n)) (x % (slotSize n)) (div-lt-iff-lt-mul pos .1 hx) (mod-lt x pos))
-        ∙ ap (λ (y : ℕ). getD (slots n s ts m) y 0) (div-add-mod' x (slotSize n))
+        ∙ ap (λ (y : ℕ). getD (slots n s ts mark m) y 0) (div-add-mod' x (slotSize n))
 
 -- THE BUILDER'S EQUATION: a lent run after building, from its cells: the table, and behind it what was there
-pub built-run : (n k s : ℕ) (ts : List Word) (before after : List ℕ) → length after ≡ length before → k * (s * (slotSize n)) ≤ length before
-    → ((m q j : ℕ) → m < k → q < s → j < slotSize n → getD after (spot n s m q + j) 0 ≡ getD (slot n (tagsFor n ts m) (prefixes (tagsFor n ts m)) q) j 0)
+pub built-run : (n k s : ℕ) (ts : List Word) (mark : ℕ → Word → ℕ) (before after : List ℕ) → length after ≡ length before → k * (s * (slotSize n)) ≤ length before
+    → ((m q j : ℕ) → m < k → q < s → j < slotSize n → getD after (spot n s m q + j) 0 ≡ getD (slot n (mark m) (prefixes (tagsFor n ts m)) q) j 0)
     → ((x : ℕ) → k * (s * (slotSize n)) ≤ x → x < length before → getD after x 0 ≡ getD before x 0)
-    → after ≡ built n k s ts ++ drop (k * (s * (slotSize n))) before
-built-run n k s ts before after e room cells rest =
+    → after ≡ built n k s ts mark ++ drop (k * (s * (slotSize n))) before
+built-run n k s ts mark before after e room cells rest =
     sym (take-append-drop (k * (s * (slotSize n))) after) ∙ ap₂ _++_ front back
   where
-    front : take (k * (s * (slotSize n))) after ≡ built n k s ts
-    front = built-ext n k s ts (take (k * (s * (slotSize n))) after) (length-take-le (k * (s * (slotSize n))) after (omega arith))
+    front : take (k * (s * (slotSize n))) after ≡ built n k s ts mark
+    front = built-ext n k s ts mark (take (k * (s * (slotSize n))) after) (length-take-le (k * (s * (slotSize n))) after (omega arith))
         (λ m q j hm hq hj. getD-take (k * (s * (slotSize n))) after (spot n s m q + j) 0
         (subst (λ (y : ℕ). y < k * (s * (slotSize n))) (sym (spot-as n s m q j)) (digits-lt hm (digits-lt hq hj)))
         ∙ cells m q j hm hq hj)

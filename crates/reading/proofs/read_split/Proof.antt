@@ -1,30 +1,29 @@
 -- By the verdict: a refusal changes nothing, and otherwise the loop answers.
-use Rattle.reading.proofs.read_split.Statement.{statement}
-use Rattle.reading.proofs.read_split.Tie as tie
 use Prim.Native.Nat.{_+_, _/_}
-use mathlib.Core.Bool.{false, true}
-use mathlib.Core.Path.{_∙_, _≡_, ap, refl, sym}
-use native.Mathlib.Omega.{arith}
-use lib.Dec.{ltb}
-use lib.ListN.{length}
+use Rattle.matching.specs.Parts.{placeBelow, readIn, splitLayout, width}
+use Rattle.matching.specs.Refusal.{firstOf}
+use Rattle.reading.specs.Laws.Answers.{first-none, read-goes, read-refused, split-read, states-fit}
+use Rattle.reading.specs.Refusals.{readGrounds, verdictNumber}
+use Rattle.reading.specs.declared.split.Went.{Went}
 use borrow.Author.Needs.{needs}
 use borrow.Author.Tests.{ltb-false}
-use Rattle.matching.specs.Reading.{allBelow, read}
-use Rattle.matching.specs.Laws.Slots.{slots-room}
-use Rattle.passing.specs.Laws.Runs.{full}
-use Rattle.reading.specs.Laws.Answers.{first-none, list-long, read-goes, read-refused, slots-few, split-read, states-fit}
-use Rattle.matching.specs.Refusal.{firstOf}
-use Rattle.reading.specs.Refusals.{readGrounds, verdictNumber}
-use Rattle.reading.specs.declared.walks.Went.{Went}
+use lib.Dec.{ltb}
+use lib.ListN.{length}
+use mathlib.Core.Bool.{false, true}
+use mathlib.Core.List.{[], _∷_}
+use mathlib.Core.Path.{_∙_, _≡_, ap, refl, sym}
+use native.Mathlib.Omega.{arith}
+use Rattle.reading.proofs.read_split.Statement.{statement}
+use Rattle.reading.proofs.read_split.Tie as tie
 
-slots-requires : tie.Need-slots-requires
-slots-requires c κs = search needs
+slots-of-requires : tie.Need-slots-of-requires
+slots-of-requires c κs = search needs
 
 widened-requires : tie.Need-widened-requires
 widened-requires c κs = search needs
 
-all-below-requires : tie.Need-all-below-requires
-all-below-requires c κs = search needs
+all-states-requires : tie.Need-all-states-requires
+all-states-requires c κs = search needs
 
 too-long-requires : tie.Need-too-long-requires
 too-long-requires c κs = search needs
@@ -34,24 +33,17 @@ judge-requires c κs = search needs
 
 -- the verdict by what is refused
 verdict-is : (c : tie.After-judge)
-    → let args = c .before .before .before .before .before .before .before .before .args in
+    → let s = c .before .before .before .before in
+    let args = s .before .before .before .before .before .args in
     verdictNumber (c .judge .result)
-    ≡ firstOf (readGrounds (allBelow (c .before .before .before .before .slots .result) (args .place))
-    (ltb 4294967295 (args .count + length (args .piece .now))))
-verdict-is c =
-    let c2 = c .before .before in
-    let all-below = c2 .all-below in
-    let c3 = c2 .before in
-    let widened = c3 .widened in
-    let c8 = c3 .before .before .before .before .before in
-    let args = c8 .args in
-    rw (all-below .ensures, widened .ensures, full (args .place) (omega (arith, c8 .good)), c .before .too-long .ensures) at (c .judge .ensures)
+    ≡ firstOf (readGrounds (placeBelow splitLayout (s .slots-of .result) (args .place)) (ltb 4294967295 (args .count + length (args .piece .now))))
+verdict-is c = rw (c .before .before .all-states .ensures, c .before .before .before .widened .ensures, c .before .too-long .ensures) at (c .judge .ensures)
 
--- where it is to go, each state is below s and the count has room
+-- where it is to go, each number of the place is a state of its table and the count has room
 goes : (c : tie.After-enum-told)
-    → let args = c .before .before .before .before .before .before .before .before .before .before .args in
-    (allBelow (c .before .before .before .before .before .before .slots .result) (args .place) ≡ true)
-    × (ltb 4294967295 (args .count + length (args .piece .now)) ≡ false)
+    → let s = c .before .before .before .before .before .before in
+    let args = s .before .before .before .before .before .args in
+    (placeBelow splitLayout (s .slots-of .result) (args .place) ≡ true) × (ltb 4294967295 (args .count + length (args .piece .now)) ≡ false)
 goes c = first-none _ _ (sym (ap verdictNumber (c .enum-told .given .1)) ∙ verdict-is (c .before .before))
 
 enum-known-verdict : tie.Need-enum-known-verdict
@@ -59,87 +51,59 @@ enum-known-verdict c = search needs
 
 returns : tie.Need-returns
 returns c =
-    let c1 = c .before in
-    let verdict = c1 .verdict in
-    let c2 = c1 .before in
-    let before = c2 .before in
-    let c7 = c2 .before .before .before .before .before in
-    let slots = c7 .slots in
-    let args = c7 .before .before .before .before .args in
-    let a = args in
-    rw (read-refused 1 8 (a .table .now) (a .place) (a .count) (a .piece .now) (length (a .list .now)) (slots .result) (slots .ensures)
-    (verdict .given .0 .0) (sym (ap verdictNumber (verdict .given .1)) ∙ verdict-is before)) (refl, refl)
+    let j = c .before .before .before in
+    let s = j .before .before .before .before in
+    let a = s .before .before .before .before .before .args in
+    rw (read-refused splitLayout (a .first .now ∷ a .second .now ∷ []) (a .place) (a .count) (a .piece .now) (length (a .list .now)) (s .slots-of .result)
+    (s .slots-of .ensures) (c .before .verdict .given .0 .0) (sym (ap verdictNumber (c .before .verdict .given .1)) ∙ verdict-is j)) (refl, refl)
 
 enum-told : tie.Need-enum-told
 enum-told c = search needs
 
 on-split-requires : tie.Need-on-split-requires
 on-split-requires c κs =
-    let a = c .before .before .before .before .before .before .before .before .before .before .before .args in
-    let s = c .before .before .before .before .before .before .before .slots .result in
-    let e = c .before .before .before .before .before .before .before .slots .ensures in
-    let start = c .before .before .before .before .before .before .widened .result in
+    let w = c .before .before .before .before .before .before in
+    let s = w .before in
+    let a = s .before .before .before .before .before in
     let g = goes (c .before) in
-    let l = ltb-false 4294967295 (a .count + length (a .piece .now)) (g .1) in (
-      record {
-        room = slots-room 1 8 (length (a .table .now)) s e;
-        few = omega arith;
-        long = omega arith;
-        below = rw (full start (omega arith), c .before .before .before .before .before .before .widened .ensures) (g .0);
-      },
-      (slots-few 1 8 (length (a .table .now)) s e, omega (arith, l)),
-    )
+    let l = ltb-false 4294967295 (a .args .count + length (a .args .piece .now)) (g .1) in
+    (record { slots-are = s .slots-of .ensures; below = rw (w .widened .ensures) (g .0); wide = omega arith }, omega (arith, l))
 
 narrowed-requires : tie.Need-narrowed-requires
+unfolding readIn width
 narrowed-requires c κs =
-    let c3 = c .before .before .before in
-    let on-split = c3 .on-split in
-    let c4 = c3 .before in
-    let before = c4 .before in
-    let c10 = c4 .before .before .before .before .before .before in
-    let widened = c10 .widened in
-    let c11 = c10 .before in
-    let slots = c11 .slots in
-    let args = c11 .before .before .before .before .args in
-    let a = args in
-    let s = slots .result in
-    let start = widened .result in
-    let o = read 1 s (a .table .now) start (a .count) (length (a .list .now) / 2) (a .piece .now) in
-    let at : on-split .result .place ≡ o .place = ap (λ (r : Went). r .place) (on-split .ensures .0) in
-    let b : allBelow s start ≡ true = rw (widened .ensures) (goes before .0) in
-    λ i l. rw at (states-fit 1 s (a .table .now) start (a .count) (length (a .list .now) / 2) (a .piece .now)
-    (slots-few 1 8 (length (a .table .now)) s (slots .ensures)) b i (omega arith))
+    let o = c .before .before .before in
+    let w = o .before .before .before .before .before .before .before in
+    let s = w .before in
+    let a = s .before .before .before .before .before .args in
+    let runs = a .first .now ∷ a .second .now ∷ [] in
+    let at = ap (λ (r : Went). r .place) (o .on-split .ensures .0) in
+    λ i l. rw (at, w .widened .ensures) (states-fit splitLayout runs (a .place) (a .count) (length (a .list .now) / 2) (a .piece .now)
+    (omega (arith, s .before .before .before .before .before .good)) (rw (← s .slots-of .ensures) (goes (o .before .before) .0)) i l)
 
 same-length : tie.Need-same-length
-same-length c =
-    let a = c .before .before .before .before .before .before .before .before .before .before .before .before .before .before .before .before .args in
-    list-long 1 _ (a .table .now) _ (a .count) (a .piece .now) (a .list .now) _ (c .before .before .before .before .on-split .ensures .1)
+same-length c = search needs
 
 returns-2 : tie.Need-returns-2
 returns-2 c =
-    let c4 = c .before .before .before .before in
-    let on-split = c4 .on-split in
-    let c5 = c4 .before in
-    let before = c5 .before in
-    let c11 = c5 .before .before .before .before .before .before in
-    let widened = c11 .widened in
-    let c12 = c11 .before in
-    let slots = c12 .slots in
-    let args = c12 .before .before .before .before .args in
-    let a = args in
-    let g = goes before in
-    let reads = read-goes 1 8 (a .table .now) (a .place) (a .count) (a .piece .now) (length (a .list .now)) _ (slots .ensures) (g .0)
-    (g .1) in
-    split-read _ _ (a .place) (on-split .result) _ (a .list .now) _ reads
-    (rw (widened .ensures) at (on-split .ensures .0)) (c .narrowed .ensures) (rw (widened .ensures) at (on-split .ensures .1))
+    let o = c .before .before .before .before in
+    let w = o .before .before .before .before .before .before .before in
+    let s = w .before in
+    let a = s .before .before .before .before .before .args in
+    let g = goes (o .before .before) in
+    let reads = read-goes splitLayout (a .first .now ∷ a .second .now ∷ []) (a .place) (a .count) (a .piece .now) (length (a .list .now)) _
+    (s .slots-of .ensures)
+    (g .0) (g .1) in
+    split-read _ _ (a .place) (o .on-split .result) _ (a .list .now) _ reads
+    (rw (w .widened .ensures) at (o .on-split .ensures .0)) (c .narrowed .ensures) (rw (w .widened .ensures) at (o .on-split .ensures .1))
 
 pub read-split-spec : {M : Type 1} → statement M
 read-split-spec =
     tie.close
     (tie.spec
-    slots-requires
+    slots-of-requires
     widened-requires
-    all-below-requires
+    all-states-requires
     too-long-requires
     judge-requires
     enum-known-verdict

@@ -1,23 +1,24 @@
 -- By the verdict: a refusal changes nothing, and otherwise the loop answers.
-use Rattle.reading.proofs.read_whole.Statement.{statement}
-use Rattle.reading.proofs.read_whole.Tie as tie
-use Prim.Native.Nat.{_+_, _/_, _<_}
+use Prim.Native.Nat.{_+_, _/_}
 use mathlib.Core.Bool.{false, true}
 use mathlib.Core.List.{[], _∷_}
 use mathlib.Core.Path.{_∙_, _≡_, ap, refl, sym}
 use native.Mathlib.Nat.{one-mul}
 use native.Mathlib.Omega.{arith}
 use lib.Dec.{ltb}
-use lib.ListN.{getD, length}
+use lib.ListN.{length}
 use borrow.Author.Needs.{needs}
-use borrow.Author.Tests.{ltb-false}
-use Rattle.matching.specs.Reading.{allBelow, read}
-use Rattle.passing.specs.Laws.Below.{below-only, one-below}
+use borrow.Author.Tests.{ltb-false, ltb-true}
 use Rattle.matching.specs.Laws.Slots.{slots-room}
-use Rattle.reading.specs.Laws.Answers.{first-none, list-long, read-goes, read-refused, slots-few, states-fit, whole-read}
+use Rattle.matching.specs.Parts.{readIn, wholeLayout, width}
+use Rattle.matching.specs.Reading.{read}
 use Rattle.matching.specs.Refusal.{firstOf}
+use Rattle.reading.specs.Laws.Answers.{first-none, read-goes, read-refused, states-fit, whole-as-table, whole-below, whole-read, whole-slots}
 use Rattle.reading.specs.Refusals.{readGrounds, verdictNumber}
+use Rattle.reading.specs.Walks.{listOf, wentOneOf}
 use Rattle.reading.specs.declared.walks.WentOne.{WentOne}
+use Rattle.reading.proofs.read_whole.Statement.{statement}
+use Rattle.reading.proofs.read_whole.Tie as tie
 
 slots-requires : tie.Need-slots-requires
 slots-requires c κs = search needs
@@ -33,23 +34,16 @@ judge-requires c κs = search needs
 
 -- the verdict by what is refused
 verdict-is : (c : tie.After-judge)
-    → let args = c .before .before .before .before .before .before .before .args in
-    verdictNumber (c .judge .result)
-    ≡ firstOf (readGrounds (allBelow (c .before .before .before .slots .result) (args .place ∷ []))
-    (ltb 4294967295 (args .count + length (args .piece .now))))
-verdict-is c =
-    let c2 = c .before .before in
-    let wide = c2 .wide in
-    let c3 = c2 .before in
-    let slots = c3 .slots in
-    let args = c3 .before .before .before .before .args in
-    rw (below-only (slots .result) (args .place)) (rw (wide .ensures, c .before .too-long .ensures) at (c .judge .ensures))
+    → let s = c .before .before .before in
+    let args = s .before .before .before .before .args in
+    verdictNumber (c .judge .result) ≡ firstOf (readGrounds (ltb (args .place) (s .slots .result)) (ltb 4294967295 (args .count + length (args .piece .now))))
+verdict-is c = rw (c .before .before .wide .ensures, c .before .too-long .ensures) at (c .judge .ensures)
 
 -- where it is to go, the state is below s and the count has room
 goes : (c : tie.After-enum-told)
-    → let args = c .before .before .before .before .before .before .before .before .before .args in
-    (allBelow (c .before .before .before .before .before .slots .result) (args .place ∷ []) ≡ true)
-    × (ltb 4294967295 (args .count + length (args .piece .now)) ≡ false)
+    → let s = c .before .before .before .before .before in
+    let args = s .before .before .before .before .args in
+    (ltb (args .place) (s .slots .result) ≡ true) × (ltb 4294967295 (args .count + length (args .piece .now)) ≡ false)
 goes c = first-none _ _ (sym (ap verdictNumber (c .enum-told .given .1)) ∙ verdict-is (c .before .before))
 
 enum-known-verdict : tie.Need-enum-known-verdict
@@ -57,79 +51,66 @@ enum-known-verdict c = search needs
 
 returns : tie.Need-returns
 returns c =
-    let c1 = c .before in
-    let verdict = c1 .verdict in
-    let c2 = c1 .before in
-    let before = c2 .before in
-    let c6 = c2 .before .before .before .before in
-    let slots = c6 .slots in
-    let args = c6 .before .before .before .before .args in
-    let a = args in
-    rw (read-refused 8 1 (a .table .now) (a .place ∷ []) (a .count) (a .piece .now) (length (a .list .now)) (slots .result) (slots .ensures)
-    (verdict .given .0 .0) (sym (ap verdictNumber (verdict .given .1)) ∙ verdict-is before)) (refl, refl)
+    let j = c .before .before .before in
+    let s = j .before .before .before in
+    let a = s .before .before .before .before .args in
+    rw (read-refused wholeLayout (a .table .now ∷ []) (a .place ∷ []) (a .count) (a .piece .now) (length (a .list .now)) (s .slots .result ∷ [])
+    (whole-slots (a .table .now) (s .slots .result) (s .slots .ensures)) (c .before .verdict .given .0 .0)
+    (rw (whole-below (s .slots .result) (a .place)) (sym (ap verdictNumber (c .before .verdict .given .1)) ∙ verdict-is j))) (refl, refl)
 
 enum-told : tie.Need-enum-told
 enum-told c = search needs
 
 on-whole-requires : tie.Need-on-whole-requires
 on-whole-requires c κs =
-    let c5 = c .before .before .before .before .before in
-    let wide = c5 .wide in
-    let c6 = c5 .before in
-    let slots = c6 .slots in
-    let args = c6 .before .before .before .before .args in
-    let a = args in
-    let s = slots .result in
+    let w = c .before .before .before .before .before in
+    let s = w .before in
+    let a = s .before .before .before .before .args in
     let g = goes (c .before) in
     let l = ltb-false 4294967295 (a .count + length (a .piece .now)) (g .1) in (
-      rw one-mul at (slots-room 8 1 (length (a .table .now)) s (slots .ensures)),
-      (rw (wide .ensures) (one-below s (a .place) (g .0)), omega (arith, l)),
+      rw one-mul at (slots-room 8 1 (length (a .table .now)) (s .slots .result) (s .slots .ensures)),
+      (rw (w .wide .ensures) (ltb-true (a .place) (s .slots .result) (g .0)), omega (arith, l)),
     )
 
+-- the loop's reading is that of the layout
+loop-is : (c : tie.After-on-whole)
+    → let w = c .before .before .before .before .before .before in
+    let s = w .before in
+    let a = s .before .before .before .before .args in
+    read 8 (s .slots .result) (a .table .now) (w .wide .result ∷ []) (a .count) (length (a .list .now) / 2) (a .piece .now)
+    ≡ readIn wholeLayout (a .table .now ∷ []) (a .place ∷ []) (a .count) (length (a .list .now) / 2) (a .piece .now)
+loop-is c =
+    let w = c .before .before .before .before .before .before in
+    let s = w .before in
+    let a = s .before .before .before .before .args in
+    rw (w .wide .ensures)
+    (whole-as-table (a .table .now) (s .slots .result) (s .slots .ensures) (a .place) (a .count) (length (a .list .now) / 2) (a .piece .now))
+
 cast-at : tie.Need-cast-at
+unfolding width
 cast-at c =
-    let c3 = c .before .before .before in
-    let on-whole = c3 .on-whole in
-    let c4 = c3 .before in
-    let before = c4 .before in
-    let c9 = c4 .before .before .before .before .before in
-    let wide = c9 .wide in
-    let c10 = c9 .before in
-    let slots = c10 .slots in
-    let args = c10 .before .before .before .before .args in
-    let a = args in
-    let s = slots .result in
-    let q = wide .result in
-    let o = read 8 s (a .table .now) (q ∷ []) (a .count) (length (a .list .now) / 2) (a .piece .now) in
-    let at : on-whole .result .state ≡ getD (o .place) 0 0 = ap (λ (r : WentOne). r .state) (on-whole .ensures .0) in
-    let b : allBelow s (q ∷ []) ≡ true = rw (wide .ensures) (goes before .0) in
-    let fit : getD (o .place) 0 0 < 65536 =
-    states-fit 8 s (a .table .now) (q ∷ []) (a .count) (length (a .list .now) / 2) (a .piece .now)
-    (slots-few 8 1 (length (a .table .now)) s (slots .ensures)) b 0 (omega arith) in
-    omega arith
+    let o = c .before .before .before in
+    let s = o .before .before .before .before .before .before .before in
+    let a = s .before .before .before .before .args in
+    let at = ap (λ (r : WentOne). r .state) (o .on-whole .ensures .0 ∙ ap wentOneOf (loop-is o)) in
+    let sound = rw (← whole-below (s .slots .result) (a .place)) at (goes (o .before .before) .0) in
+    let fit = states-fit wholeLayout (a .table .now ∷ []) (a .place ∷ []) (a .count) (length (a .list .now) / 2) (a .piece .now) refl
+    (rw (← whole-slots (a .table .now) (s .slots .result) (s .slots .ensures)) sound) 0 (omega arith) in
+    omega (arith, at, fit)
 
 same-length : tie.Need-same-length
-same-length c =
-    let a = c .before .before .before .before .before .before .before .before .before .before .before .before .before .before .args in
-    list-long 8 _ (a .table .now) _ (a .count) (a .piece .now) (a .list .now) _ (c .before .before .before .on-whole .ensures .1)
+same-length c = search needs
 
 returns-2 : tie.Need-returns-2
 returns-2 c =
-    let c3 = c .before .before .before in
-    let on-whole = c3 .on-whole in
-    let c4 = c3 .before in
-    let before = c4 .before in
-    let c9 = c4 .before .before .before .before .before in
-    let wide = c9 .wide in
-    let c10 = c9 .before in
-    let slots = c10 .slots in
-    let args = c10 .before .before .before .before .args in
-    let a = args in
-    let g = goes before in
-    let reads = read-goes 8 1 (a .table .now) (a .place ∷ []) (a .count) (a .piece .now) (length (a .list .now)) _ (slots .ensures) (g .0)
-    (g .1) in
-    whole-read _ _ (a .place) (on-whole .result) (a .list .now) _ reads
-    (rw (wide .ensures) at (on-whole .ensures .0)) (rw (wide .ensures) at (on-whole .ensures .1))
+    let o = c .before .before .before in
+    let s = o .before .before .before .before .before .before .before in
+    let a = s .before .before .before .before .args in
+    let g = goes (o .before .before) in
+    let reads = read-goes wholeLayout (a .table .now ∷ []) (a .place ∷ []) (a .count) (a .piece .now) (length (a .list .now)) (s .slots .result ∷ [])
+    (whole-slots (a .table .now) (s .slots .result) (s .slots .ensures)) (whole-below (s .slots .result) (a .place) ∙ g .0) (g .1) in
+    whole-read _ _ (a .place) (o .on-whole .result) (a .list .now) _ reads
+    (o .on-whole .ensures .0 ∙ ap wentOneOf (loop-is o)) (o .on-whole .ensures .1 ∙ ap (listOf (a .list .now)) (loop-is o))
 
 pub read-whole-spec : {M : Type 1} → statement M
 read-whole-spec =

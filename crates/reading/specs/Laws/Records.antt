@@ -15,7 +15,7 @@ use Rattle.matching.specs.Laws.Matches.{occurAt-length}
 use Rattle.matching.specs.Occurrence.{Occurrence, flat, occurAt}
 use Rattle.matching.specs.Reading.{onesOf}
 use Rattle.passing.specs.Laws.Passing.{ones-none}
-use Rattle.reading.specs.Records.{emitOf, emitted, fitsIn, tagIf}
+use Rattle.reading.specs.Records.{emitBy, emitOf, emitted, fitsIn, tagIf}
 use Rattle.reading.specs.declared.records.Emit.the-variants.{NoRoom, Written}
 
 pub tag-none : (bit tag : ℕ) → bit ≡ 0 → tagIf bit tag ≡ []
@@ -48,7 +48,7 @@ records-length e tags = flat-length (occurAt e tags) ∙ ap (λ (n : ℕ). 2 * n
 records-append : (e : ℕ) (a b : List ℕ) → flat (occurAt e (a ++ b)) ≡ flat (occurAt e a) ++ flat (occurAt e b)
 records-append e a b = ap flat (occur-append e a b) ∙ flat-append (occurAt e a) (occurAt e b)
 
-sets-append : (l xs ys : List ℕ) (i : ℕ) → sets l i (xs ++ ys) ≡ sets (sets l i xs) (i + length xs) ys
+pub sets-append : (l xs ys : List ℕ) (i : ℕ) → sets l i (xs ++ ys) ≡ sets (sets l i xs) (i + length xs) ys
 sets-append l [] ys i = rw add-zero
 sets-append l (x ∷ xs) ys i = rw (add-suc, ← suc-add) (sets-append (set l i x) xs ys (suc i))
 
@@ -126,6 +126,16 @@ module _ (l : List ℕ) (w e hits : ℕ) where
   emit-zero z =
       let n : onesOf 0 16 hits ≡ [] = rw z (ones-none 0 16) in
       emit-room (omega (arith, ap length n)) w l (omega (arith, ap length n)) (rw n refl)
+
+-- ---- what put_all answered
+
+pub written-of : (b : Bool) (x y : ℕ) → Written x ≡ emitBy b y → (b ≡ true) × (x ≡ y)
+written-of true x y e = (refl, cc)
+written-of false x y e = let z : _≡_ {A = ℕ} 0 1 = cc in absurd (omega arith)
+
+pub none-of : (b : Bool) (y : ℕ) → NoRoom ≡ emitBy b y → b ≡ false
+none-of true y e = let z : _≡_ {A = ℕ} 0 1 = cc in absurd (omega arith)
+none-of false y e = refl
 
 -- the list keeps its length
 pub emitted-long : (l : List ℕ) (w e : ℕ) (tags l′ : List ℕ) → l′ ≡ emitted l w e tags → length l′ ≡ length l

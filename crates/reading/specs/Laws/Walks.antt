@@ -1,36 +1,31 @@
 -- The loop over a piece: what a byte does to what is left, and how it ends.
 use Prim.Native.Nat.{_*_, _+_, _-_, _/_, _<_, _≤_, suc, zero-le, ℕ}
-use mathlib.Core.Bool.{Bool, false, true}
+use mathlib.Core.Bool.{false, true}
 use mathlib.Core.List.{List, [], _++_, _∷_, append-assoc, append-nil}
-use mathlib.Core.Path.{_∙_, _≡_, ap, refl, sym}
+use mathlib.Core.Path.{_∙_, _≡_, ap, refl, subst, sym}
 use native.Mathlib.Nat.{add-zero, sub-zero}
 use native.Mathlib.Numerals.{add-one}
 use native.Mathlib.Omega.{arith}
 use lib.Dec.{leb}
-use lib.ListN.{drop, drop-of-length-le, getD, length, length-append, length-drop, take}
-use lib.Seq.{drop-append-add, drop-cons, drop-drop, sets, sets-eq, take-append-seam}
+use lib.ListN.{drop, drop-of-length-le, getD, length, length-append, length-drop, take, take-append-drop}
+use lib.Seq.{drop-append-add, drop-cons, drop-drop, length-take-le, sets, sets-eq, take-append-seam}
 use borrow.Author.Tests.{le-ltb, leb-true}
 use Rattle.matching.specs.Laws.AnyTable.{nexts-length}
 use Rattle.matching.specs.Laws.Matches.{occurAt-length}
 use Rattle.matching.specs.Laws.Readings.{tableStep-goes, tableStep-wrong}
-use Rattle.matching.specs.Laws.Stepping.{readBy-damaged, readBy-full, readBy-took}
-use Rattle.matching.specs.Machine.{next, vector}
+use Rattle.matching.specs.Laws.Stepping.{Went, cut-all, cut-stopped, readBy-damaged, readBy-full, readBy-took, went}
 use Rattle.matching.specs.Occurrence.{Occurrence, flat, occurAt}
 use Rattle.matching.specs.Reading.{Outcome, allBelow, flagged, halted, nexts, onesOf, read, tableStep, vectorsAt}
 use Rattle.matching.specs.Slicing.{anded}
-use Rattle.matching.specs.Stepping.{OutcomeOf, Step, goesTo, isDamaged, readBy}
-use Rattle.matching.specs.Words.{same}
+use Rattle.matching.specs.Stepping.{OutcomeOf, Step, goesTo, isDamaged, joined, readBy}
+use Rattle.matching.specs.Words.{Word}
 use Rattle.matching.specs.declared.Stop.{Stop}
 use Rattle.matching.specs.declared.Stop.the-variants.{All, Damaged, Full}
 use Rattle.passing.specs.Laws.Below.{below-one}
 use Rattle.passing.specs.Laws.Passing.{ahead-ahead, ahead-byte, ahead-none}
-use Rattle.passing.specs.Laws.Runs.{full}
-use Rattle.passing.specs.Laws.Starts.{one-even}
 use Rattle.passing.specs.Quiet.{Passes, PassesBy, ahead}
-use Rattle.passing.specs.Steps.{Ready, Starts}
-use Rattle.passing.specs.Steps as passing-steps
-use Rattle.reading.specs.Laws.Records.{flat-append, flat-length}
-use Rattle.reading.specs.Records.{emitBy, emitOf, emitted, fitsIn}
+use Rattle.reading.specs.Laws.Records.{flat-append, flat-length, none-of, written-of}
+use Rattle.reading.specs.Records.{emitOf, emitted, fitsIn}
 use Rattle.reading.specs.Walks.{Going, GoingBy, listOf, wentOf, wentOneOf}
 use Rattle.reading.specs.declared.records.Emit.the-variants.{NoRoom, Written}
 
@@ -57,16 +52,6 @@ records-after : (l l₀ : List ℕ) (done new : List Occurrence) (w : ℕ) → l
 records-after l l₀ done new w e el fits =
     let at : 2 * w ≡ length (flat done) = omega (arith, flat-length done) in
     rw (at, el, flat-append done new) (sets-after (flat done) (flat new) l₀ (omega (arith, flat-length done, flat-length new)))
-
--- ---- what put_all answered
-
-written-of : (b : Bool) (x y : ℕ) → Written x ≡ emitBy b y → (b ≡ true) × (x ≡ y)
-written-of true x y e = (refl, cc)
-written-of false x y e = let z : _≡_ {A = ℕ} 0 1 = cc in absurd (omega arith)
-
-none-of : (b : Bool) (y : ℕ) → NoRoom ≡ emitBy b y → b ≡ false
-none-of true y e = let z : _≡_ {A = ℕ} 0 1 = cc in absurd (omega arith)
-none-of false y e = refl
 
 -- ---- how a reading ended, as the code has it
 
@@ -130,6 +115,80 @@ module _ {P : Type 0} (step : Step P) (count : ℕ) (piece l₀ : List ℕ) (sta
     pub by-all : length piece ≤ i → Ended all l₀ l place All w i
     unfolding readBy
     by-all more = ended All (rw (drop-of-length-le piece {i = i} more))
+
+    -- a block: all of it is taken, or the reading ends in it
+    module _ (n : ℕ) (inside : i + n ≤ length piece) (o : OutcomeOf P) (eo : o ≡ readBy step place (count + i) (length l / 2 - w) (take n (drop i piece)))
+        (l′ : List ℕ) (el : l′ ≡ sets l (2 * w) (flat (o .found))) where
+      abbrev room : ℕ
+      room = length l₀ / 2 - w
+
+      abbrev block : Word
+      block = take n (drop i piece)
+
+      is : o ≡ readBy step place (count + i) room block
+      is = eo ∙ rw (by-long)
+
+      did : Went step place (count + i) room block o
+      did = rw is (went step block place (count + i) room)
+
+      long : length block ≡ n
+      long = length-take-le n (drop i piece) (omega (arith, length-drop i piece))
+
+      cut : drop i piece ≡ block ++ drop (i + n) piece
+      cut = sym (take-append-drop n (drop i piece)) ∙ rw (drop-drop n i piece)
+
+      written : length (g .done ++ o .found) ≡ w + length (o .found)
+      written = length-append (g .done) (o .found) ∙ rw (g .written)
+
+      fits : 2 * (w + length (o .found)) ≤ length l₀
+      fits = omega (arith, did .fits, g .fits)
+
+      list : l′ ≡ flat (g .done ++ o .found) ++ drop (length (flat (g .done ++ o .found))) l₀
+      list = el ∙ records-after l l₀ (g .done) (o .found) w (g .written) (g .list) fits
+
+      pub by-block : o .stop ≡ All → GoingBy step count piece l₀ start l′ (o .place) (w + length (o .found)) (i + o .taken)
+      unfolding ahead joined
+      by-block e =
+          let taken : o .taken ≡ n = did .whole .0 e ∙ long in
+          let on : count + i + o .taken ≡ count + (i + o .taken) = omega arith in
+          let less : room - length (o .found) ≡ length l₀ / 2 - (w + length (o .found)) = omega arith in
+          let there : i + n ≡ i + o .taken = omega (arith, taken) in
+          record {
+            most = omega (arith, taken);
+            done = g .done ++ o .found;
+            written = written;
+            fits = fits;
+            list = list;
+            is = g .is ∙ ap (ahead i (g .done)) (ap (readBy step place (count + i) room) cut ∙ first) ∙ ahead-ahead i (o .taken) (g .done) (o .found) rest
+                ∙ rw (on, less, there);
+          }
+        where
+          rest : OutcomeOf P
+          rest = readBy step (o .place) (count + i + o .taken) (room - length (o .found)) (drop (i + n) piece)
+
+          first : readBy step place (count + i) room (block ++ drop (i + n) piece) ≡ ahead (o .taken) (o .found) rest
+          first =
+              subst (λ (x : OutcomeOf P). readBy step place (count + i) room (block ++ drop (i + n) piece)
+              ≡ joined x (readBy step (x .place) (count + i + x .taken) (room - length (x .found)) (drop (i + n) piece))) (sym is)
+              (cut-all step block place (count + i) room (drop (i + n) piece) (sym (ap (λ (r : OutcomeOf P). r .stop) is) ∙ e))
+
+      pub by-stopped : (o .stop ≡ All → ⊥) → Ended all l₀ l′ (o .place) (o .stop) (w + length (o .found)) (i + o .taken)
+      unfolding ahead
+      by-stopped h =
+          let whole : all ≡ ahead i (g .done) o =
+          g .is
+          ∙ ap (ahead i (g .done))
+          (ap (readBy step place (count + i) room) cut
+          ∙ cut-stopped step block place (count + i) room (drop (i + n) piece) (λ e. h (ap (λ (r : OutcomeOf P). r .stop) is ∙ e))
+          ∙ sym is) in
+          let found : all .found ≡ g .done ++ o .found = ap (λ (r : OutcomeOf P). r .found) whole in
+          record {
+            taken = ap (λ (r : OutcomeOf P). r .taken) whole;
+            place-is = ap (λ (r : OutcomeOf P). r .place) whole;
+            stop = ap (λ (r : OutcomeOf P). r .stop) whole;
+            records = ap length found ∙ written;
+            list = list ∙ rw found;
+          }
 
     -- one byte
     module _ (less : i < length piece) where
@@ -226,59 +285,14 @@ module _ (n s : ℕ) (table : List ℕ) (count : ℕ) (piece l₀ start : List �
           below = below;
         }
 
--- ---- the same for eight machines, as the parts of a step give their numbers
+-- ---- for the split layout
 
-module _ (s : ℕ) (table : List ℕ) (count : ℕ) (piece l₀ start : List ℕ) where
-  -- the code's answer and list are those of the reading
-  abbrev SplitRight : List ℕ → List ℕ → Stop → ℕ → ℕ → Type 0
-  SplitRight l place why w i =
-      (record { taken = i; place = place; records = w; stop = why } ≡ wentOf (read 1 s table start count (length l₀ / 2) piece))
-      × (l ≡ listOf l₀ (read 1 s table start count (length l₀ / 2) piece))
+-- the code's answer and list are those of the reading
+pub split-right : (o : Outcome) (l₀ l place : List ℕ) (why : Stop) (w i : ℕ) → Ended o l₀ l place why w i
+    → (record { taken = i; place = place; records = w; stop = why } ≡ wentOf o) × (l ≡ listOf l₀ o)
+split-right o l₀ l place why w i e = (rw (e .taken, e .place-is, e .stop, e .records), e .list)
 
-  right : (l place : List ℕ) (why : Stop) (w i : ℕ) → Ended (read 1 s table start count (length l₀ / 2) piece) l₀ l place why w i → SplitRight l place why w i
-  right l place why w i e = (rw (e .taken, e .place-is, e .stop, e .records), e .list)
-
-  module _ (ready : Ready 1 8 s table start) where
-    pub split-begin : Going 1 s table count piece l₀ start l₀ start 0 0
-    split-begin = going-start 1 s table count piece l₀ start (rw (full start (ready .long)) at (ready .below))
-
-    module _ (l place : List ℕ) (w i : ℕ) (g : Going 1 s table count piece l₀ start l place w i) where
-      eight : length place ≡ 8
-      eight = g .long ∙ ready .long
-
-      pub split-able : (starts : List ℕ) → Starts 1 s starts → passing-steps.Step 1 s table starts place
-      split-able starts b = record {
-        even = one-even;
-        begins = b;
-        ready = record { room = ready .room; few = ready .few; long = eight; below = rw (full place eight) (g .below) };
-      }
-
-      pub split-all : length piece ≤ i → SplitRight l place All w i
-      split-all more = right l place All w i (going-all 1 s table count piece l₀ start l place w i g more)
-
-      module _ (less : i < length piece) (next : List ℕ) (long : length next ≡ 8)
-          (moves : take 8 next ≡ nexts 1 s table 0 (take 8 place) (getD piece i 0)) where
-        moved : next ≡ nexts 1 s table 0 place (getD piece i 0)
-        moved = rw (full next long, full place eight) at moves
-
-        pub split-damaged : allBelow s (take 8 next) ≡ false → SplitRight l place Damaged w i
-        split-damaged b = right l place Damaged w i (going-damaged 1 s table count piece l₀ start l place w i g less next moved (rw (full next long) at b))
-
-        module _ (below : allBelow s (take 8 next) ≡ true) (hits : ℕ) (vector : hits ≡ anded 65535 (vectorsAt 1 s table 0 (take 8 next))) where
-          pub split-full : NoRoom ≡ emitOf l w (onesOf 0 16 hits) → (l′ : List ℕ) → l′ ≡ emitted l w (count + i + 1) (onesOf 0 16 hits)
-              → SplitRight l′ place Full w i
-          split-full none l′ el =
-              right l′ place Full w i
-              (going-full 1 s table count piece l₀ start l place w i g less next moved (rw (full next long) at below) hits
-              (rw (full next long) at vector) none l′ el)
-
-          pub split-took : (x : ℕ) → Written x ≡ emitOf l w (onesOf 0 16 hits) → (l′ : List ℕ) → l′ ≡ emitted l w (count + i + 1) (onesOf 0 16 hits)
-              → Going 1 s table count piece l₀ start l′ next x (i + 1)
-          split-took x some l′ el =
-              going-took 1 s table count piece l₀ start l place w i g less next moved (rw (full next long) at below) hits
-              (rw (full next long) at vector) x some l′ el
-
--- ---- and for the whole-byte machine
+-- ---- for the whole-byte machine
 
 module _ (s : ℕ) (table : List ℕ) (count : ℕ) (piece l₀ : List ℕ) (start : ℕ) where
   abbrev WholeRight : List ℕ → ℕ → Stop → ℕ → ℕ → Type 0

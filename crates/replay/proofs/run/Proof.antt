@@ -1,4 +1,4 @@
--- `replay::run` meets its contract: it is safe and ends. The invariant: the set and the lent part are within their buffers.
+-- `replay::run` meets its contract: it is safe and ends. The invariant: the set and the lent parts are within their buffers.
 use Rattle.replay.proofs.run.Statement.{statement}
 use Rattle.replay.proofs.run.Tie as tie
 use borrow.Author.Needs.{needs}
@@ -6,10 +6,10 @@ use Prim.Native.Nat.{_-_}
 use Rattle.calling.specs.Calls.{Within}
 
 abbrev Inv-loop : tie.InvT-loop
-Inv-loop fd input₀ line₀ bytes₀ set₀ table₀ list₀ out₀ s₀ rest₀ n₀ input line bytes set table list out s rest n = Within s
+Inv-loop fd input₀ line₀ bytes₀ set₀ first₀ second₀ list₀ out₀ s₀ rest₀ n₀ input line bytes set first second list out s rest n = Within s
 
 abbrev μ-loop : tie.MeasureT-loop
-μ-loop fd input₀ line₀ bytes₀ set₀ table₀ list₀ out₀ s₀ rest₀ n₀ input line bytes set table list out s rest n = 18446744073709551615 - n
+μ-loop fd input₀ line₀ bytes₀ set₀ first₀ second₀ list₀ out₀ s₀ rest₀ n₀ input line bytes set first second list out s rest n = 18446744073709551615 - n
 
 large-buffer-requires : tie.Need-large-buffer-requires Inv-loop μ-loop
 large-buffer-requires c κs = search needs
@@ -23,8 +23,11 @@ new-bytes-requires c κs = search needs
 buffer-requires : tie.Need-buffer-requires Inv-loop μ-loop
 buffer-requires c κs = search needs
 
-new-table-requires : tie.Need-new-table-requires Inv-loop μ-loop
-new-table-requires c κs = search needs
+new-first-requires : tie.Need-new-first-requires Inv-loop μ-loop
+new-first-requires c κs = search needs
+
+new-second-requires : tie.Need-new-second-requires Inv-loop μ-loop
+new-second-requires c κs = search needs
 
 new-list-requires : tie.Need-new-list-requires Inv-loop μ-loop
 new-list-requires c κs = search needs
@@ -66,7 +69,8 @@ run-spec =
     new-line-requires
     new-bytes-requires
     buffer-requires
-    new-table-requires
+    new-first-requires
+    new-second-requires
     new-list-requires
     large-buffer-requires-2
     new-state-requires

@@ -2,7 +2,7 @@
 use Prim.Native.Nat.{ℕ, suc, _+_, _-_, _≤_, _<_}
 use native.Mathlib.Omega.{arith}
 use native.Mathlib.Numerals.{add-one}
-use mathlib.Core.Path.{_≡_, refl, sym, ap, subst, _∙_}
+use mathlib.Core.Path.{_≡_, refl, sym, ap, ap₂, subst, _∙_}
 use mathlib.Core.Bool.{Bool, true, false, cond, or-true}
 use mathlib.Core.List.{List, [], _∷_, _++_, append-assoc, append-nil}
 use lib.Dec.{eqb}
@@ -12,10 +12,10 @@ use borrow.Author.Tests.{eq-eqb, ne-eqb, le-leb, lt-leb, lt-ltb, le-ltb}
 use Rattle.matching.specs.Words.{same}
 use Rattle.script.specs.Words.{reach, wordOf, behind, skipped}
 use Rattle.script.specs.Bytes.{these, noBytes, bytesOf}
-use Rattle.script.specs.Numbers.{numberOf}
+use Rattle.script.specs.Numbers.{numberOf, numbersOf}
 use Rattle.script.specs.Calls.{CallOf, passedOver, notACall, callPeek, peekBy, NumbersOf, numbersAre, noNumbers, placeBy, placeOf, machinesOf}
 use Rattle.script.specs.Calls.{placeIn, readBy, readFrom, readOver, callRead, layoutOf, meant, Bounded, Plain, Filled, Says, alone, Alone}
-use Rattle.script.specs.Calls.{Called, nameOf, Row, callBy, callOf}
+use Rattle.script.specs.Calls.{Called, nameOf, Row, callBy, callOf, lendBy, lendOf, peekOf, pokeBy, pokeOf, sizeOf, tableOf}
 use Rattle.script.specs.declared.Call.{Call}
 use Rattle.script.specs.declared.Call.the-variants.{NotACall, PassedOver}
 use Rattle.script.specs.declared.Layout.{Layout}
@@ -26,13 +26,48 @@ use Rattle.script.specs.declared.names.Layouts.{Layouts}
 use Rattle.script.specs.declared.names.Name.{Name}
 use Rattle.script.specs.declared.numbers.Number.{Number}
 use Rattle.script.specs.declared.numbers.Number.the-variants.{Is, NoNumber}
+use Rattle.script.specs.declared.numbers.Numbers.{Numbers}
 use Rattle.script.specs.declared.numbers.Numbers.the-variants.{Both}
 
-pub peek-inside : (at count : ℕ) → at + count ≤ 131841 → peekBy (Both at count) ≡ callPeek at count
-peek-inside at count h = rw (le-leb _ _ h)
+-- ---- the numbers of a table
 
-pub peek-outside : (at count : ℕ) → 131841 < at + count → peekBy (Both at count) ≡ notACall
-peek-outside at count h = rw (lt-leb _ _ h)
+pub table-none : (w : List ℕ) (r : ℕ) → r ≡ reach 32 w → r ≡ length w → tableOf w ≡ Is 0
+unfolding tableOf
+table-none w r e f = rw (eq-eqb (reach 32 w) (length w) (sym e ∙ f))
+
+pub table-some : (w : List ℕ) (r : ℕ) → r ≡ reach 32 w → (r ≡ length w → ⊥) → tableOf w ≡ numberOf 1 (behind w)
+unfolding tableOf
+table-some w r e f = rw (ne-eqb (reach 32 w) (length w) (λ q. f (e ∙ q)))
+
+-- what a call on a table says, by what was found to stand in its words
+pub lend-said : (w u : List ℕ) (t size : ℕ) {n r : Number} (x : Number) → n ≡ tableOf w → n ≡ Is t → size ≡ sizeOf t → u ≡ wordOf w → r ≡ numberOf size u
+    → r ≡ x → lendOf (tableOf w) w ≡ lendBy t x
+lend-said w u t size x en et es eu er ex =
+    ap (λ (n : Number). lendOf n w) (sym en ∙ et) ∙ ap (lendBy t) (ap₂ numberOf (sym es) (sym eu) ∙ sym er ∙ ex)
+
+pub poke-said : (w b : List ℕ) (t size : ℕ) {n : Number} {r : Numbers} (x : Numbers) → n ≡ tableOf b → b ≡ behind w → n ≡ Is t → size ≡ sizeOf t
+    → r ≡ numbersOf (size - 1) 65535 w → r ≡ x → pokeOf (tableOf (behind w)) w ≡ pokeBy t x
+poke-said w b t size x en eb et es er ex =
+    ap (λ (n : Number). pokeOf n w) (ap tableOf (sym eb) ∙ sym en ∙ et)
+    ∙ ap (pokeBy t) (ap (λ (m : ℕ). numbersOf (m - 1) 65535 w) (sym es) ∙ sym er ∙ ex)
+
+pub peek-said : (w b : List ℕ) (t : ℕ) {n : Number} {r : Numbers} (x : Numbers) → n ≡ tableOf b → b ≡ behind w → n ≡ Is t
+    → r ≡ numbersOf 4294967295 256 w → r ≡ x → peekOf (tableOf (behind w)) w ≡ peekBy t x
+peek-said w b t x en eb et er ex =
+    ap (λ (n : Number). peekOf n w) (ap tableOf (sym eb) ∙ sym en ∙ et) ∙ ap (peekBy t) (sym er ∙ ex)
+
+pub size-some : (t : ℕ) → 0 < sizeOf t
+size-some t = go (eqb t 0)
+  where
+    go : (b : Bool) → 0 < cond b 131841 16384
+    go true = omega arith
+    go false = omega arith
+
+pub peek-inside : (t at count : ℕ) → at + count ≤ sizeOf t → peekBy t (Both at count) ≡ callPeek at count t
+peek-inside t at count h = rw (le-leb _ _ h)
+
+pub peek-outside : (t at count : ℕ) → sizeOf t < at + count → peekBy t (Both at count) ≡ notACall
+peek-outside t at count h = rw (lt-leb _ _ h)
 
 -- ---- the place of a read
 
@@ -86,7 +121,7 @@ place-whole k i w rest ns e p =
     ∙ ap (λ (n : ℕ). before (take i ns) (placeOf n rest)) (let z : k - i ≡ 0 = omega arith in z)
     ∙ ap numbersAre (append-nil (take i ns) ∙ ap (λ (n : ℕ). take n ns) (sym e))
 
-pub machines-most : (layout : Layout) → machinesOf layout ≤ 8
+pub machines-most : (layout : Layout) → machinesOf layout ≤ 16
 machines-most Split = omega arith
 machines-most Whole = omega arith
 machines-most Bitmap = omega arith

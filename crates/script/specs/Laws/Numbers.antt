@@ -143,14 +143,14 @@ both-second NoNumber y n m e = cc
 -- each is at most as large as it may be
 pub first-most : (first last : ℕ) (w : List ℕ) (n m : ℕ) → numbersOf first last w ≡ Both n m → n ≤ first
 unfolding numbersOf
-first-most first last w n m e = number-most first (wordOf w) n (both-first (numberOf first (wordOf w)) (numberOf last (behind w)) n m e)
+first-most first last w n m e = number-most first (wordOf w) n (both-first (numberOf first (wordOf w)) (numberOf last (wordOf (behind w))) n m e)
 
 pub second-most : (first last : ℕ) (w : List ℕ) (n m : ℕ) → numbersOf first last w ≡ Both n m → m ≤ last
 unfolding numbersOf
-second-most first last w n m e = number-most last (behind w) m (both-second (numberOf first (wordOf w)) (numberOf last (behind w)) n m e)
+second-most first last w n m e = number-most last (wordOf (behind w)) m (both-second (numberOf first (wordOf w)) (numberOf last (wordOf (behind w))) n m e)
 
 -- from what the numbers of two words were found to be
-pub numbers-are : (first last : ℕ) (w : List ℕ) (x y : Number) → numberOf first (wordOf w) ≡ x → numberOf last (behind w) ≡ y
+pub numbers-are : (first last : ℕ) (w : List ℕ) (x y : Number) → numberOf first (wordOf w) ≡ x → numberOf last (wordOf (behind w)) ≡ y
     → bothBy x y ≡ numbersOf first last w
 unfolding numbersOf
 numbers-are first last w x y e f = rw (e, f)

@@ -1,8 +1,8 @@
 -- Laws of sets: quotations, entries, and the bytes that are put for them.
 use Prim.Native.Nat.{ℕ, zero, suc, _+_, _-_, _≤_, _<_, _/_, _%_}
 use native.Mathlib.Omega.{arith}
-use mathlib.Core.Path.{_≡_, refl, sym, ap, _∙_}
-use mathlib.Core.Bool.{Bool, true, false, _&&_, cond, and-false}
+use mathlib.Core.Path.{_≡_, refl, sym, ap, ap₂, _∙_}
+use mathlib.Core.Bool.{Bool, true, false, _&&_, _||_, cond, and-false, true≢false}
 use mathlib.Core.List.{List, [], _∷_, _++_, append-assoc}
 use lib.Dec.{eqb, leb, ltb}
 use lib.ListN.{length, getD, take, drop, length-append, length-drop, drop-of-length-le}
@@ -10,7 +10,7 @@ use lib.Seq.{drop-cons, length-take-le, length-paste, paste, take-length, take-p
 use borrow.Author.Tests.{eq-eqb, ne-eqb, le-leb, lt-leb, lt-ltb, le-ltb, ltb-true, leb-false}
 use Rattle.script.specs.Words.{reach}
 use Rattle.script.specs.Bytes.{BytesOf, these, noBytes, bytesOf}
-use Rattle.script.specs.Sets.{entryOf, quotedAt, followed, inFront, payloadAt, onQuoted, entriesOf, within, setOf}
+use Rattle.script.specs.Sets.{entryOf, quotedAt, followed, inFront, payloadAt, onQuoted, entriesOf, within, setOf, isMarked, unmarked, kindAt}
 use Rattle.script.specs.declared.sets.Quoted.{Quoted}
 use Rattle.script.specs.declared.sets.Quoted.the-variants.{Last, Followed, NotQuoted}
 
@@ -65,15 +65,15 @@ quote-followed (b ∷ w) r e f h n =
 
 -- ---- an entry in the buffer
 
-pub length-entry : (p : List ℕ) → length (entryOf p) ≡ 4 + length p
+pub length-entry : (kind : ℕ) (p : List ℕ) → length (entryOf kind p) ≡ 4 + length p
 unfolding entryOf
-length-entry p = omega arith
+length-entry kind p = omega arith
 
-pub entry-put : (b b₁ b₂ p : List ℕ) (n : ℕ) → n + 4 + length p ≤ length b
-    → b₁ ≡ paste b n (length p % 256 ∷ length p / 256 ∷ 1 ∷ 0 ∷ []) 4 → b₂ ≡ paste b₁ (n + 4) p (length p)
-    → take (n + 4 + length p) b₂ ≡ take n b ++ entryOf p
+pub entry-put : (kind : ℕ) (b b₁ b₂ p : List ℕ) (n : ℕ) → n + 4 + length p ≤ length b
+    → b₁ ≡ paste b n (length p % 256 ∷ length p / 256 ∷ kind ∷ 0 ∷ []) 4 → b₂ ≡ paste b₁ (n + 4) p (length p)
+    → take (n + 4 + length p) b₂ ≡ take n b ++ entryOf kind p
 unfolding entryOf
-entry-put b b₁ b₂ p n h e f =
+entry-put kind b b₁ b₂ p n h e f =
     ap (take (n + 4 + length p)) f
     ∙ take-paste b₁ (n + 4) p (length p) fits (omega arith)
     ∙ ap (λ (l : List ℕ). l ++ take (length p) p) (ap (take (n + 4)) e ∙ take-paste b n head 4 (omega arith) (omega arith))
@@ -81,7 +81,7 @@ entry-put b b₁ b₂ p n h e f =
     ∙ append-assoc (take n b) head p
   where
     head : List ℕ
-    head = length p % 256 ∷ length p / 256 ∷ 1 ∷ 0 ∷ []
+    head = length p % 256 ∷ length p / 256 ∷ kind ∷ 0 ∷ []
 
     long : length b₁ ≡ length b
     long = ap length e ∙ length-paste b n head 4 (omega arith) (omega arith)
@@ -110,7 +110,7 @@ pub front-front : (l m : List ℕ) (x : BytesOf) → inFront l (inFront m x) ≡
 front-front l m (these n) = ap these (sym (append-assoc l m n))
 front-front l m noBytes = refl
 
-pub entries-step : (most : ℕ) (w : List ℕ) → 0 < most → entriesOf most w ≡ onQuoted (quotedAt w) w (entriesOf (most - 1))
+entries-step : (most : ℕ) (w : List ℕ) → 0 < most → entriesOf most w ≡ onQuoted (quotedAt (unmarked w)) (kindAt w) (unmarked w) (entriesOf (most - 1))
 unfolding entriesOf
 entries-step zero w h = absurd (omega arith)
 entries-step (suc most) w h = rw (let e : suc most - 1 ≡ most = omega arith in e)
@@ -121,20 +121,20 @@ entries-end zero w h = refl
 entries-end (suc most) w h = absurd (omega arith)
 
 -- an entry is put where the set stays short enough
-pub entry-long : (b p : List ℕ) (n : ℕ) → n ≤ length b → 4096 < n + 4 + length p → noBytes ≡ within 4096 (these (take n b ++ entryOf p))
-entry-long b p n h g = sym (within-long 4096 (take n b ++ entryOf p) long)
+pub entry-long : (kind : ℕ) (b p : List ℕ) (n : ℕ) → n ≤ length b → 4096 < n + 4 + length p → noBytes ≡ within 4096 (these (take n b ++ entryOf kind p))
+entry-long kind b p n h g = sym (within-long 4096 (take n b ++ entryOf kind p) long)
   where
-    long : 4096 < length (take n b ++ entryOf p)
+    long : 4096 < length (take n b ++ entryOf kind p)
     long = rw (length-append, length-entry, length-take-le n b h) (omega arith)
 
-pub entry-fits : (b b₁ b₂ p : List ℕ) (n : ℕ) → 4096 ≤ length b → n + 4 + length p ≤ 4096
-    → b₁ ≡ paste b n (length p % 256 ∷ length p / 256 ∷ 1 ∷ 0 ∷ []) 4 → b₂ ≡ paste b₁ (n + 4) p (length p)
-    → these (take (n + 4 + length p) b₂) ≡ within 4096 (these (take n b ++ entryOf p))
-entry-fits b b₁ b₂ p n h g e f =
+pub entry-fits : (kind : ℕ) (b b₁ b₂ p : List ℕ) (n : ℕ) → 4096 ≤ length b → n + 4 + length p ≤ 4096
+    → b₁ ≡ paste b n (length p % 256 ∷ length p / 256 ∷ kind ∷ 0 ∷ []) 4 → b₂ ≡ paste b₁ (n + 4) p (length p)
+    → these (take (n + 4 + length p) b₂) ≡ within 4096 (these (take n b ++ entryOf kind p))
+entry-fits kind b b₁ b₂ p n h g e f =
     let room : n + 4 + length p ≤ length b = omega arith in
     let first : n ≤ length b = omega arith in
-    let short : length (take n b ++ entryOf p) ≤ 4096 = rw (length-append, length-entry, length-take-le n b first) (omega arith) in
-    ap these (entry-put b b₁ b₂ p n room e f) ∙ sym (within-these 4096 (take n b ++ entryOf p) short)
+    let short : length (take n b ++ entryOf kind p) ≤ 4096 = rw (length-append, length-entry, length-take-le n b first) (omega arith) in
+    ap these (entry-put kind b b₁ b₂ p n room e f) ∙ sym (within-these 4096 (take n b ++ entryOf kind p) short)
 
 -- ---- a whole set
 
@@ -143,20 +143,20 @@ unfolding setOf bytesOf
 set-none [] e = refl
 set-none (b ∷ w) e = absurd (omega arith)
 
-pub set-quoted : (w : List ℕ) → getD w 0 0 ≡ 34 → setOf w ≡ within 4096 (entriesOf (length w) w)
+pub set-quoted : (w : List ℕ) (t : Bool) → t ≡ eqb (getD w 0 0) 34 || isMarked w → t ≡ true → setOf w ≡ within 4096 (entriesOf (length w) w)
 unfolding setOf
-set-quoted w e = rw (eq-eqb _ _ e)
+set-quoted w t e q = ap (λ (b : Bool). within 4096 (cond b (entriesOf (length w) w) (bytesOf w))) (sym e ∙ q)
 
-pub set-plain : (w : List ℕ) → (getD w 0 0 ≡ 34 → ⊥) → setOf w ≡ within 4096 (bytesOf w)
+pub set-plain : (w : List ℕ) (t : Bool) → t ≡ eqb (getD w 0 0) 34 || isMarked w → t ≡ false → setOf w ≡ within 4096 (bytesOf w)
 unfolding setOf
-set-plain w h = rw (ne-eqb _ _ h)
+set-plain w t e q = ap (λ (b : Bool). within 4096 (cond b (entriesOf (length w) w) (bytesOf w))) (sym e ∙ q)
 
 -- bytes as they are written: too many, or few enough
-pub set-many : (w b : List ℕ) (n : ℕ) → (getD w 0 0 ≡ 34 → ⊥) → bytesOf w ≡ these (take n b) → n ≤ length b → 4096 < n → setOf w ≡ noBytes
-set-many w b n q e m h = set-plain w q ∙ ap (within 4096) e ∙ within-long 4096 (take n b) (rw (length-take-le n b m) h)
+pub set-many : (w b : List ℕ) (n : ℕ) → setOf w ≡ within 4096 (bytesOf w) → bytesOf w ≡ these (take n b) → n ≤ length b → 4096 < n → setOf w ≡ noBytes
+set-many w b n q e m h = q ∙ ap (within 4096) e ∙ within-long 4096 (take n b) (rw (length-take-le n b m) h)
 
-pub set-few : (w b : List ℕ) (n : ℕ) → (getD w 0 0 ≡ 34 → ⊥) → bytesOf w ≡ these (take n b) → n ≤ length b → n ≤ 4096 → setOf w ≡ these (take n b)
-set-few w b n q e m h = set-plain w q ∙ ap (within 4096) e ∙ within-these 4096 (take n b) (rw (length-take-le n b m) h)
+pub set-few : (w b : List ℕ) (n : ℕ) → setOf w ≡ within 4096 (bytesOf w) → bytesOf w ≡ these (take n b) → n ≤ length b → n ≤ 4096 → setOf w ≡ these (take n b)
+set-few w b n q e m h = q ∙ ap (within 4096) e ∙ within-these 4096 (take n b) (rw (length-take-le n b m) h)
 
 -- ---- the words are read quotation by quotation
 
@@ -170,10 +170,51 @@ pub record Entered (w b rest : List ℕ) (left n : ℕ) : Type 0 where
 pub entered-none : (w b : List ℕ) → 4096 ≤ length b → Entered w b w (length w) 0
 entered-none w b h = record { short = omega arith; long = h; inside = omega arith; means = sym (front-none (entriesOf (length w) w)) }
 
-pub entered-fails : {w b rest : List ℕ} {left n : ℕ} → Entered w b rest left n → 0 < left → quotedAt rest ≡ NotQuoted
+-- the next word: a quotation behind its mark, of the kind that the mark asks for
+pub record Next (rest bare : List ℕ) (kind : ℕ) (q : Quoted) : Type 0 where
+  pub words : bare ≡ unmarked rest
+  pub kinds : kind ≡ kindAt rest
+  pub quoted : quotedAt bare ≡ q
+
+next-is : (left : ℕ) {rest bare : List ℕ} {kind : ℕ} {q : Quoted} → Next rest bare kind q → 0 < left
+    → entriesOf left rest ≡ onQuoted q kind bare (entriesOf (left - 1))
+next-is left {rest} {bare} {kind} x h =
+    entries-step left rest h
+    ∙ ap₂ (λ (k : ℕ) (l : List ℕ). onQuoted (quotedAt l) k l (entriesOf (left - 1))) (sym (x .kinds)) (sym (x .words))
+    ∙ ap (λ (y : Quoted). onQuoted y kind bare (entriesOf (left - 1))) (x .quoted)
+
+pub marked-none : (w : List ℕ) → length w ≡ 0 → isMarked w ≡ false
+marked-none [] e = refl
+marked-none (b ∷ w) e = absurd (omega arith)
+
+pub quotation-none : (w : List ℕ) → length w ≡ 0 → (eqb (getD w 0 0) 34 || isMarked w) ≡ false
+quotation-none [] e = refl
+quotation-none (b ∷ w) e = absurd (omega arith)
+
+pub unmarked-length : (w : List ℕ) → length (unmarked w) ≤ length w
+unfolding unmarked
+unmarked-length w = go (isMarked w)
+  where
+    go : (t : Bool) → length (cond t (drop 1 w) w) ≤ length w
+    go true = omega (arith, length-drop 1 w)
+    go false = omega arith
+
+-- by whether there is a mark, as it was found
+pub unmarked-by : (w : List ℕ) (t : Bool) → t ≡ isMarked w → unmarked w ≡ cond t (drop 1 w) w
+unfolding unmarked
+unmarked-by w t e = ap (λ (b : Bool). cond b (drop 1 w) w) (sym e)
+
+pub kind-by : (w : List ℕ) (t : Bool) → t ≡ isMarked w → kindAt w ≡ cond t 2 1
+unfolding kindAt
+kind-by w t e = ap (λ (b : Bool). cond b 2 1) (sym e)
+
+pub marked-some : (w : List ℕ) → isMarked w ≡ true → 0 < length w
+marked-some [] e = absurd (let z : _≡_ {A = Bool} false true = e in true≢false (sym z))
+marked-some (b ∷ w) e = omega arith
+
+pub entered-fails : {w b rest bare : List ℕ} {left n kind : ℕ} → Entered w b rest left n → 0 < left → Next rest bare kind NotQuoted
     → noBytes ≡ within 4096 (entriesOf (length w) w)
-entered-fails {w} {b} {rest} {left} {n} v h e =
-    sym (ap (within 4096) (v .means ∙ ap (inFront (take n b)) (entries-step left rest h ∙ ap (λ (q : Quoted). onQuoted q rest (entriesOf (left - 1))) e)))
+entered-fails {w} {b} {rest} {bare} {left} {n} v h x = sym (ap (within 4096) (v .means ∙ ap (inFront (take n b)) (next-is left x h)))
 
 pub entered-out : {w b rest : List ℕ} {left n : ℕ} → Entered w b rest left n → left ≤ 0 → noBytes ≡ within 4096 (entriesOf (length w) w)
 entered-out {w} {b} {rest} {left} {n} v h =
@@ -184,23 +225,17 @@ pub payload-lent : (rest : List ℕ) (k : ℕ) → take (k + 1 - 1) (drop 1 rest
 payload-lent rest k = ap (λ (n : ℕ). take n (drop 1 rest)) (let e : k + 1 - 1 ≡ k = omega arith in e)
 
 -- the last entry is put
-pub entered-last : {w b rest : List ℕ} {left n : ℕ} (k : ℕ) (x : BytesOf) → Entered w b rest left n → 0 < left → quotedAt rest ≡ Last k
-    → x ≡ within 4096 (these (take n b ++ entryOf (payloadAt k rest))) → x ≡ within 4096 (entriesOf (length w) w)
-entered-last {w} {b} {rest} {left} {n} k x v h e f =
-    f
-    ∙ sym (ap (within 4096)
-    (v .means ∙ ap (inFront (take n b))
-    (entries-step left rest h ∙ ap (λ (q : Quoted). onQuoted q rest (entriesOf (left - 1))) e)))
+pub entered-last : {w b rest bare : List ℕ} {left n kind : ℕ} (k : ℕ) (x : BytesOf) → Entered w b rest left n → 0 < left → Next rest bare kind (Last k)
+    → x ≡ within 4096 (these (take n b ++ entryOf kind (payloadAt k bare))) → x ≡ within 4096 (entriesOf (length w) w)
+entered-last {w} {b} {rest} {bare} {left} {n} k x v h y f = f ∙ sym (ap (within 4096) (v .means ∙ ap (inFront (take n b)) (next-is left y h)))
 
 -- all but what is behind an entry that is followed
-entered-next : {w b rest : List ℕ} {left n : ℕ} (k : ℕ) → Entered w b rest left n → 0 < left → quotedAt rest ≡ Followed k
-    → entriesOf (length w) w ≡ inFront (take n b ++ entryOf (payloadAt k rest)) (entriesOf (left - 1) (drop (k + 3) rest))
-entered-next {w} {b} {rest} {left} {n} k v h e =
+entered-next : {w b rest bare : List ℕ} {left n kind : ℕ} (k : ℕ) → Entered w b rest left n → 0 < left → Next rest bare kind (Followed k)
+    → entriesOf (length w) w ≡ inFront (take n b ++ entryOf kind (payloadAt k bare)) (entriesOf (left - 1) (drop (k + 3) bare))
+entered-next {w} {b} {rest} {bare} {left} {n} {kind} k v h x =
     v .means
-    ∙ ap (inFront (take n b))
-    (entries-step left rest h
-    ∙ ap (λ (q : Quoted). onQuoted q rest (entriesOf (left - 1))) e)
-    ∙ front-front (take n b) (entryOf (payloadAt k rest)) (entriesOf (left - 1) (drop (k + 3) rest))
+    ∙ ap (inFront (take n b)) (next-is left x h)
+    ∙ front-front (take n b) (entryOf kind (payloadAt k bare)) (entriesOf (left - 1) (drop (k + 3) bare))
 
 -- ---- a quotation fits in its words
 
@@ -270,23 +305,23 @@ within-some most l m e = go (leb (length l) most) e
     go true g = cc
     go false g = let z : _≡_ {A = ℕ} 0 1 = cc in absurd (omega arith)
 
-pub entered-full : {w b rest : List ℕ} {left n : ℕ} (k : ℕ) → Entered w b rest left n → 0 < left → quotedAt rest ≡ Followed k
-    → noBytes ≡ within 4096 (these (take n b ++ entryOf (payloadAt k rest))) → noBytes ≡ within 4096 (entriesOf (length w) w)
-entered-full {w} {b} {rest} {left} {n} k v h e f =
-    let put : List ℕ = take n b ++ entryOf (payloadAt k rest) in
-    sym (ap (within 4096) (entered-next k v h e) ∙ within-front 4096 put (entriesOf (left - 1) (drop (k + 3) rest)) (within-none 4096 put f))
+pub entered-full : {w b rest bare : List ℕ} {left n kind : ℕ} (k : ℕ) → Entered w b rest left n → 0 < left → Next rest bare kind (Followed k)
+    → noBytes ≡ within 4096 (these (take n b ++ entryOf kind (payloadAt k bare))) → noBytes ≡ within 4096 (entriesOf (length w) w)
+entered-full {w} {b} {rest} {bare} {left} {n} {kind} k v h e f =
+    let put : List ℕ = take n b ++ entryOf kind (payloadAt k bare) in
+    sym (ap (within 4096) (entered-next k v h e) ∙ within-front 4096 put (entriesOf (left - 1) (drop (k + 3) bare)) (within-none 4096 put f))
 
-pub entered-more : {w b rest : List ℕ} {left n : ℕ} (k m : ℕ) (d next : List ℕ) → Entered w b rest left n → 0 < left → quotedAt rest ≡ Followed k
-    → these (take m d) ≡ within 4096 (these (take n b ++ entryOf (payloadAt k rest))) → m ≤ 4096 → length d ≡ length b → next ≡ drop (k + 3) rest
+pub entered-more : {w b rest bare : List ℕ} {left n kind : ℕ} (k m : ℕ) (d next : List ℕ) → Entered w b rest left n → 0 < left → Next rest bare kind (Followed k)
+    → these (take m d) ≡ within 4096 (these (take n b ++ entryOf kind (payloadAt k bare))) → m ≤ 4096 → length d ≡ length b → next ≡ drop (k + 3) bare
     → Entered w d next (left - 1) m
-entered-more {w} {b} {rest} {left} {n} k m d next v h e f s l g =
-    let put : List ℕ = take n b ++ entryOf (payloadAt k rest) in
+entered-more {w} {b} {rest} {bare} {left} {n} {kind} k m d next v h e f s l g =
+    let put : List ℕ = take n b ++ entryOf kind (payloadAt k bare) in
     record {
       short = s;
       long = omega (arith, v .long, l);
-      inside = omega (arith, v .inside, ap length g, length-drop (k + 3) rest);
+      inside = omega (arith, v .inside, ap length g, length-drop (k + 3) bare, ap length (e .words), unmarked-length rest);
       means =
           entered-next k v h e
-          ∙ ap (λ (p : List ℕ). inFront p (entriesOf (left - 1) (drop (k + 3) rest))) (sym (within-some 4096 put (take m d) f))
+          ∙ ap (λ (p : List ℕ). inFront p (entriesOf (left - 1) (drop (k + 3) bare))) (sym (within-some 4096 put (take m d) f))
           ∙ ap (λ (r : List ℕ). inFront (take m d) (entriesOf (left - 1) r)) (sym g);
     }

@@ -1,3 +1,4 @@
+use Rattle.desk.specs.Layout.{lent}
 use borrow.Author.Needs.{needs}
 use native.Mathlib.Omega.{arith}
 use Prim.Native.Nat.{_-_, _<_}
@@ -8,11 +9,11 @@ use Rattle.serving.proofs.feed_piece.Statement.{statement}
 use Rattle.serving.proofs.feed_piece.Tie as tie
 
 abbrev Inv-loop : tie.InvT-loop
-Inv-loop serial table piece out₀ used now₀ put₀ from₀ out now put from =
-    SoFar serial table now₀ piece (buffer out₀ used) now from (buffer out put) × (length piece < 18446744073709551616)
+Inv-loop serial first second piece out₀ used now₀ put₀ from₀ out now put from =
+    SoFar serial (lent first second) now₀ piece (buffer out₀ used) now from (buffer out put) × (length piece < 18446744073709551616)
 
 abbrev μ-loop : tie.MeasureT-loop
-μ-loop serial table piece out₀ used now₀ put₀ from₀ out now put from = length piece - from
+μ-loop serial first second piece out₀ used now₀ put₀ from₀ out now put from = length piece - from
 
 loop-holds : tie.Need-loop-holds Inv-loop μ-loop
 loop-holds c = (so-far-none _ _ _ _ _, search needs)

@@ -1,3 +1,4 @@
+use Rattle.desk.specs.Layout.{lent}
 use Rattle.desk.specs.Laws.Pieces.{at-most-held}
 use Rattle.serving.specs.Laws.Serving.{rest-fed}
 use borrow.Author.Needs.{needs}
@@ -36,12 +37,12 @@ returns c =
     let new-list = c8 .new-list in
     let c10 = c8 .before .before in
     let feed = c10 .feed in
-    let args = c10 .before .before .before .args in
+    let args = c10 .before .before .before .before .args in
     let a = args in
     let f = feed in
     let l = new-list in
     let t = take-many in
-    rest-fed (a .serial) (a .table .now) (a .desk) (a .rest .now) _ _ (f .result) (t .result) (l .result) _ _ _ (f .ensures) (l .ensures)
+    rest-fed (a .serial) (lent (a .first .now) (a .second .now)) (a .desk) (a .rest .now) _ _ (f .result) (t .result) (l .result) _ _ _ (f .ensures) (l .ensures)
     (t .ensures .0) (t .ensures .1) (c .taken-by .ensures) (c .before .put-records .ensures)
 
 pub feed-rest-spec : {M : Type 1} → statement M

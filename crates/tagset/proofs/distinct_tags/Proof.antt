@@ -1,86 +1,50 @@
--- `tagset::distinct_tags` meets its contract. No tag before `t` repeats: the test goes on with the tags that are left.
+-- `tagset::distinct_tags` meets its contract. The set is folded into a run of its own, which is as long.
+use Prim.Native.Nat.{ℕ}
+use mathlib.Core.List.{List, _++_, map}
+use mathlib.Core.Path.{_∙_, _≡_, ap, sym}
+use native.Mathlib.Omega.{arith}
+use borrow.Author.Needs.{needs}
+use lib.ListN.{drop, length, length-map, take}
+use lib.Seq.{take-at}
+use Rattle.matching.specs.Kinds.{foldedKind, lower}
+use Rattle.matching.specs.Laws.Kinds.{wordAs-folded, wordAs-length}
+use Rattle.matching.specs.Tags.{wordAs}
 use Rattle.tagset.proofs.distinct_tags.Statement.{statement}
 use Rattle.tagset.proofs.distinct_tags.Tie as tie
-use Prim.Native.Nat.{_-_, _≤_}
-use mathlib.Core.List.{[]}
-use mathlib.Core.Path.{_∙_, _≡_, ap, refl, sym}
-use native.Mathlib.Numerals.{add-one}
-use native.Mathlib.Omega.{arith}
-use lib.ListN.{drop, length, set, take}
-use Rattle.tagset.specs.Answer.{cutAt, verdictOf}
-use Rattle.tagset.specs.Grammar.{distinct}
-use Rattle.tagset.specs.Laws.Distinct.{distinct-end, distinct-hit, distinct-miss}
-use Rattle.tagset.specs.Laws.Places.{cutAt-length}
 
-abbrev Inv-loop : tie.InvT-loop
-Inv-loop set from to t₀ t = (t ≤ length from) × (distinct [] 0 (cutAt set from to) ≡ distinct (take t (cutAt set from to)) t (drop t (cutAt set from to)))
+-- the front of a run into which bytes were folded
+folded-front : (set out rest : List ℕ) → out ≡ map lower set ++ rest → take (length set) out ≡ wordAs foldedKind set
+folded-front set out rest e = ap (take (length set)) e ∙ take-at (map lower set) rest (length set) (length-map set lower) ∙ sym (wordAs-folded set)
 
-abbrev μ-loop : tie.MeasureT-loop
-μ-loop set from to t₀ t = length from - t
+slice-aggregate-fold-all : tie.Need-slice-aggregate-fold-all
+slice-aggregate-fold-all c = search needs
 
-loop-holds : tie.Need-loop-holds Inv-loop μ-loop
-loop-holds c = (omega arith, refl)
+fold-all-requires : tie.Need-fold-all-requires
+fold-all-requires c κs = search needs
 
-repeats-requires : tie.Need-repeats-requires Inv-loop μ-loop
-repeats-requires c κs =
-    let c5 = c .before .before .before .before .before in
-    let args = c5 .args in
-    let asked = c5 .pre in
-    omega (arith, cutAt-length (args .set .now) (args .from .now) (args .to .now) asked)
+array-share-prefix-folded : tie.Need-array-share-prefix-folded
+array-share-prefix-folded c = search needs
 
-returns : tie.Need-returns Inv-loop μ-loop
-returns c =
-    let c3 = c .before .before .before in
-    let loop = c3 .loop in
-    let c7 = c3 .before .before .before .before in
-    let args = c7 .args in
-    let asked = c7 .pre in
-    let ts = cutAt (args .set .now) (args .from .now) (args .to .now) in
-    sym (ap verdictOf (loop .inv .1 ∙ distinct-hit ts (loop .t)
-    (omega (arith, cutAt-length (args .set .now) (args .from .now) (args .to .now) asked))
-    (sym (c .before .repeats .ensures) ∙ c .if1 .taken)))
+slice-aggregate-distinct-in : tie.Need-slice-aggregate-distinct-in
+slice-aggregate-distinct-in c =
+    let set = c .before .before .before .before .before .before .before .before .args .set .now in
+    sym (ap length (folded-front set (c .before .before .fold-all .last .1 .0) _ (c .before .before .fold-all .ensures)) ∙ wordAs-length foldedKind set)
 
-add-t : tie.Need-add-t Inv-loop μ-loop
-add-t c = omega arith
+distinct-in-requires : tie.Need-distinct-in-requires
+distinct-in-requires c κs =
+    let s = c .before .before .before .before .before .before .before .before in
+    record { cut = s .pre; folds = folded-front (s .args .set .now) (c .before .before .fold-all .last .1 .0) _ (c .before .before .fold-all .ensures) }
 
-loop-less : tie.Need-loop-less Inv-loop μ-loop
-loop-less c = omega arith
-
-loop-again : tie.Need-loop-again Inv-loop μ-loop
-loop-again c =
-    let c3 = c .before .before .before in
-    let loop = c3 .loop in
-    let c7 = c3 .before .before .before .before in
-    let args = c7 .args in
-    let asked = c7 .pre in
-    let ts = cutAt (args .set .now) (args .from .now) (args .to .now) in (
-      omega arith,
-      loop .inv .1 ∙ rw (add-one (loop .t)) (distinct-miss ts (loop .t)
-          (omega (arith, cutAt-length (args .set .now) (args .from .now) (args .to .now) asked))
-          (sym (c .before .repeats .ensures) ∙ c .if1 .left)),
-    )
-
-returns-2 : tie.Need-returns-2 Inv-loop μ-loop
-returns-2 c =
-    let c1 = c .before in
-    let loop = c1 .loop in
-    let c5 = c1 .before .before .before .before in
-    let args = c5 .args in
-    let asked = c5 .pre in
-    let ts = cutAt (args .set .now) (args .from .now) (args .to .now) in
-    sym (ap verdictOf (loop .inv .1 ∙ distinct-end ts (loop .t)
-    (omega (arith, cutAt-length (args .set .now) (args .from .now) (args .to .now) asked))))
+returns : tie.Need-returns
+returns c = search needs
 
 pub distinct-tags-spec : {M : Type 1} → statement M
 distinct-tags-spec =
     tie.close
     (tie.spec
-    Inv-loop
-    μ-loop
-    loop-holds
-    repeats-requires
-    returns
-    add-t
-    loop-less
-    loop-again
-    returns-2)
+    slice-aggregate-fold-all
+    fold-all-requires
+    array-share-prefix-folded
+    slice-aggregate-distinct-in
+    distinct-in-requires
+    returns)

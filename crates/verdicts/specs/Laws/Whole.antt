@@ -155,7 +155,7 @@ fed-all (suc most) kind calls b seen j s d table piece from at lent below h few 
         let q : 0 < takenBy (feedOf (run (start kind) calls .desk) s (run (start kind) calls .table) (drop from piece) .answer) =
         some-taken kind calls b s (drop from piece) (j .empty) (below-rest from piece below)
         (subst (λ (n : ℕ). OpenFor (run (start kind) calls) s n) (sym (length-drop from piece)) f) (omega (arith, p, length-drop from piece)) in
-        subst (λ (l : List ℕ). 0 < takenBy (feedOf d s l (drop from piece) .answer)) lent
+        subst (λ (l : Lent). 0 < takenBy (feedOf d s l (drop from piece) .answer)) lent
         (subst (λ (x : Desk). 0 < takenBy (feedOf x s (run (start kind) calls .table) (drop from piece) .answer)) at q)
 
     go : (x y : Bool) → ltb from (length piece) ≡ x → eqb t 0 ≡ y → (0 < t → fedOn most next s table piece (from + t) .taken ≡ length piece)

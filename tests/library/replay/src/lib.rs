@@ -1,8 +1,8 @@
 //! Replay scripts over the Rust crate: the calls are the crate's, the reading of lines is that of
 //! the second program.
 
-use second::script::{parse, Call, TABLE_BUFFER};
-use second::table::Layout;
+use second::layout::Layout;
+use second::script::{parse, Call, TABLE_BUFFERS};
 use sleetbarley::lent::{self, LentDesk, Reading, SPLIT_TABLE};
 use sleetbarley::{Fed, Refusal, Serial, Ticket, TicketState};
 use std::fmt::Display;
@@ -14,8 +14,9 @@ const FILLING: u32 = 7;
 pub struct Replay {
     desk: LentDesk,
     set: Vec<u8>,
-    table: Vec<u16>,
-    lent: usize,
+    tables: [Vec<u16>; 2],
+    /// Of each table the first so many numbers are lent.
+    lent: [usize; 2],
     lines: u64,
 }
 
@@ -24,8 +25,8 @@ impl Default for Replay {
         Replay {
             desk: LentDesk::new(),
             set: Vec::new(),
-            table: vec![0; TABLE_BUFFER],
-            lent: SPLIT_TABLE,
+            tables: TABLE_BUFFERS.map(|length| vec![0; length]),
+            lent: [SPLIT_TABLE; 2],
             lines: 0,
         }
     }
@@ -46,22 +47,12 @@ impl Replay {
     }
 
     fn answer(&mut self, call: Call) -> Result<Vec<String>, Refusal> {
-        let lent = &mut self.table[..self.lent];
         let said = match call {
             Call::Set(set) => {
                 self.set = set;
                 format!("set {}", self.set.len())
             }
-            Call::Lend(lent) => {
-                self.lent = lent;
-                format!("lent {lent}")
-            }
-            Call::Replace => {
-                let now = self.desk.replace(&self.set, lent)?;
-                format!("edition {} tags {}", now.edition, now.tags)
-            }
             Call::Open => format!("serial {}", self.desk.open()?),
-            Call::Feed(serial, piece) => fed(self.desk.feed(Serial(serial), lent, &piece)?),
             Call::Close(serial) => {
                 self.desk.close(Serial(serial))?;
                 format!("closed {serial}")
@@ -69,9 +60,6 @@ impl Replay {
             Call::State(serial) => stated(serial, self.desk.state(Serial(serial))),
             Call::Take => record(self.desk.take()?),
             Call::Show => return Ok(self.show()),
-            Call::Build(Layout::Split) => format!("tags {}", lent::build_split(&self.set, lent)?),
-            Call::Build(Layout::Whole) => format!("tags {}", lent::build_whole(&self.set, lent)?),
-            Call::Build(Layout::Bitmap) => format!("tags {}", lent::build_bitmap(&self.set, lent)?),
             Call::Read {
                 layout,
                 count,
@@ -79,13 +67,36 @@ impl Replay {
                 place,
                 piece,
             } => return self.read(layout, count, room, &place, &piece),
-            Call::Poke { at, value } => {
-                self.table[at] = value;
+            Call::Lend { lent, table } => {
+                self.lent[table] = lent;
+                format!("lent {lent}")
+            }
+            Call::Poke { at, value, table } => {
+                self.tables[table][at] = value;
                 format!("poked {at}")
             }
-            Call::Peek { at, count } => numbers("numbers", &self.table[at..at + count]),
+            Call::Peek { at, count, table } => {
+                numbers("numbers", &self.tables[table][at..at + count])
+            }
+            Call::Replace | Call::Feed(..) | Call::Build(_) => self.lent_both(call)?,
         };
         Ok(vec![said])
+    }
+
+    /// The calls that are lent both tables.
+    fn lent_both(&mut self, call: Call) -> Result<String, Refusal> {
+        let [first, second] = &mut self.tables;
+        let (first, second) = (&mut first[..self.lent[0]], &mut second[..self.lent[1]]);
+        Ok(match call {
+            Call::Feed(serial, piece) => {
+                fed(self.desk.feed(Serial(serial), first, second, &piece)?)
+            }
+            Call::Build(layout) => format!("tags {}", build(layout, &self.set, first, second)?),
+            _ => {
+                let now = self.desk.replace(&self.set, first, second)?;
+                format!("edition {} tags {}", now.edition, now.tags)
+            }
+        })
     }
 
     fn show(&self) -> Vec<String> {
@@ -101,25 +112,40 @@ impl Replay {
         place: &[u16],
         piece: &[u8],
     ) -> Result<Vec<String>, Refusal> {
-        let table = &self.table[..self.lent];
+        let [first, second] = &self.tables;
+        let (first, second) = (&first[..self.lent[0]], &second[..self.lent[1]]);
         let mut list = vec![FILLING; room];
         let said = match layout {
             Layout::Split => {
-                let start = place.try_into().expect("8 numbers");
-                let reading = lent::read_split(table, start, count, piece, &mut list)?;
+                let start = place.try_into().expect("16 numbers");
+                let reading = lent::read_split(first, second, start, count, piece, &mut list)?;
                 told(&reading, "", &reading.place)
             }
             Layout::Whole => {
-                let reading = lent::read_whole(table, place[0], count, piece, &mut list)?;
+                let reading = lent::read_whole(first, place[0], count, piece, &mut list)?;
                 told(&reading, "", &[reading.place])
             }
             Layout::Bitmap => {
-                let said = lent::read_bitmap(table, place[0], count, piece, &mut list)?;
+                let said = lent::read_bitmap(first, place[0], count, piece, &mut list)?;
                 let moves = format!("moves {} ", said.moves);
                 told(&said.reading, &moves, &[said.reading.place])
             }
         };
         Ok(vec![said, numbers("list", &list)])
+    }
+}
+
+/// The split layout is lent both tables, the others the first alone.
+fn build(
+    layout: Layout,
+    set: &[u8],
+    first: &mut [u16],
+    second: &mut [u16],
+) -> Result<usize, Refusal> {
+    match layout {
+        Layout::Split => lent::build_split(set, first, second),
+        Layout::Whole => lent::build_whole(set, first),
+        Layout::Bitmap => lent::build_bitmap(set, first),
     }
 }
 

@@ -1,4 +1,4 @@
-//! The desk that owns its table, against the second program: generated scripts without the calls
+//! The desk that owns its tables, against the second program: generated scripts without the calls
 //! that change or lend a table, each with the answers of both.
 
 use library_replay::{fed, record, refused, shown, stated};
@@ -19,7 +19,11 @@ fn desk_calls(script: &[u8]) -> Vec<(Vec<u8>, Call)> {
 fn is_of_a_desk(call: &Call) -> bool {
     !matches!(
         call,
-        Call::Lend(_) | Call::Build(_) | Call::Read { .. } | Call::Poke { .. } | Call::Peek { .. }
+        Call::Lend { .. }
+            | Call::Build(_)
+            | Call::Read { .. }
+            | Call::Poke { .. }
+            | Call::Peek { .. }
     )
 }
 

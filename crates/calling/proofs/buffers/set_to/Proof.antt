@@ -25,7 +25,7 @@ returns c =
     let asked = c10 .pre in
     let a = args in (
       (λ table. did-set (a .s) (a .bytes .now) (a .set .now) (put .last .0) table _ (put .ensures) (c .word-line .ensures)),
-      (asked .1, asked .0 .1),
+      (asked .1, asked .0 .1, asked .0 .2),
     )
 
 pub set-to-spec : {M : Type 1} → statement M

@@ -5,14 +5,23 @@ use borrow.Author.Needs.{needs}
 use mathlib.Core.Path.{refl}
 use Rattle.calling.specs.Laws.{lent-length, off}
 
-sub-lent-table : tie.Need-sub-lent-table
-sub-lent-table c = search needs
+sub-exact : tie.Need-sub-exact
+sub-exact c = search needs
 
-part-lent-table-start : tie.Need-part-lent-table-start
-part-lent-table-start c = search needs
+part-exact-start : tie.Need-part-exact-start
+part-exact-start c = search needs
 
-part-lent-table-end : tie.Need-part-lent-table-end
-part-lent-table-end c = search needs
+part-exact-end : tie.Need-part-exact-end
+part-exact-end c = search needs
+
+sub-folded : tie.Need-sub-folded
+sub-folded c = search needs
+
+part-folded-start : tie.Need-part-folded-start
+part-folded-start c = search needs
+
+part-folded-end : tie.Need-part-folded-end
+part-folded-end c = search needs
 
 sub-piece : tie.Need-sub-piece
 sub-piece c = search needs
@@ -40,30 +49,30 @@ same-length c = search needs
 
 returns : tie.Need-returns
 returns c =
-    let c2 = c .before .before in
-    let read-by = c2 .read-by in
-    let c11 = c2 .before .before .before .before .before .before .before .before .before in
-    let args = c11 .args in
-    let asked = c11 .pre in (
+    let start = c .before .before .before .before .before .before .before .before .before .before .before .before .before in
+    let a = start .args in (
       (λ set. record {
         same = refl;
         puts = rw (
-          off (args .s .lent),
-          off (args .reading .piece),
-          lent-length (args .reading .room)
-              (args .list .now) (asked .2),
-        ) at (read-by .ensures);
+          off (a .s .first),
+          off (a .s .second),
+          off (a .reading .piece),
+          lent-length (a .reading .room) (a .list .now) (start .pre .3),
+        ) at (c .before .before .read-by .ensures);
       }),
-      asked .0,
+      start .pre .0,
     )
 
 pub read-spec : {M : Type 1} → statement M
 read-spec =
     tie.close
     (tie.spec
-    sub-lent-table
-    part-lent-table-start
-    part-lent-table-end
+    sub-exact
+    part-exact-start
+    part-exact-end
+    sub-folded
+    part-folded-start
+    part-folded-end
     sub-piece
     part-piece-start
     part-piece-end

@@ -41,11 +41,11 @@ returns c =
     let read-split = c2 .read-split in
     let c5 = c2 .before .before .before in
     let enum-told = c5 .enum-told in
-    let c10 = c5 .before .before .before .before .before in
+    let c10 = c5 .before .before .before .before .before .before in
     let args = c10 .args in
     let good = c10 .good in
-    let p = args .t4 in let g : length p ≡ 8 = good .1 .1 .1 .0 .1 .0 .1 in let h : length p ≤ 8 = omega arith in rw (enum-told .given .1)
-    (rw (take-all 8 p h) (read-split .ensures))
+    let p = args .t4 in let g : length p ≡ 16 = good .1 .1 .1 .0 .1 .0 .1 in let h : length p ≤ 16 = omega arith in rw (enum-told .given .1)
+    (rw (take-all 16 p h) (read-split .ensures))
 
 same-length-2 : tie.Need-same-length-2
 same-length-2 c = search needs
@@ -56,7 +56,7 @@ returns-2 c =
     let read-whole = c2 .read-whole in
     let c5 = c2 .before .before .before in
     let enum-told2 = c5 .enum-told2 in
-    let args = c5 .before .before .before .before .before .args in
+    let args = c5 .before .before .before .before .before .before .args in
     let p = args .t4 in let h : 0 < 1 = omega arith in rw (enum-told2 .given .1) (rw (getD-take 1 p 0 0 h) (read-whole .ensures))
 
 same-length-3 : tie.Need-same-length-3
@@ -68,7 +68,7 @@ returns-3 c =
     let read-bitmap = c2 .read-bitmap in
     let c5 = c2 .before .before .before in
     let enum-told3 = c5 .enum-told3 in
-    let args = c5 .before .before .before .before .before .args in
+    let args = c5 .before .before .before .before .before .before .args in
     let p = args .t4 in let h : 0 < 1 = omega arith in rw (enum-told3 .given .1) (rw (getD-take 1 p 0 0 h) (read-bitmap .ensures))
 
 pub read-by-spec : {M : Type 1} → statement M

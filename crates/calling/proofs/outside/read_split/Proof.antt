@@ -2,7 +2,9 @@
 use Rattle.calling.proofs.outside.read_split.Statement.{statement}
 use Rattle.calling.proofs.outside.read_split.Tie as tie
 use borrow.Author.Needs.{needs}
+use mathlib.Core.List.{[], _∷_}
 use mathlib.Core.Path.{_∙_}
+use Rattle.matching.specs.Parts.{splitLayout}
 use Rattle.calling.specs.Calls.{splitText}
 use Rattle.calling.specs.Laws.{read-said}
 use Rattle.reading.specs.Outside.{readOf, splitBy}
@@ -24,7 +26,7 @@ same-length c =
     let c7 = c .before .before .before .before .before .before .before in
     let read-split = c7 .read-split in
     let fill = c7 .before .before .before .before .fill in
-    read-split .kept .1 .1 .1 .1 .0 ∙ fill .kept .0
+    read-split .kept .1 .1 .1 .1 .1 .0 ∙ fill .kept .0
 
 returns : tie.Need-returns
 returns c =
@@ -32,10 +34,10 @@ returns c =
     let read-split = c7 .read-split in
     let c11 = c7 .before .before .before .before in
     let fill = c11 .fill in
-    let args = c11 .before .before .before .before .before .args in
+    let args = c11 .before .before .before .before .before .before .args in
     let a = args in
-    read-said (readOf 1 8 (a .table .now) (a .place) (a .count) (a .piece .now)) (splitBy (a .place)) splitText (a .list .now) (fill .last .0)
-    (read-split .last .1 .1 .1 .1 .0) (read-split .result) (fill .ensures) (read-split .ensures .0) (read-split .ensures .1) (c .read-lines .ensures)
+    read-said (readOf splitLayout (a .first .now ∷ a .second .now ∷ []) (a .place) (a .count) (a .piece .now)) (splitBy (a .place)) splitText (a .list .now) (fill .last .0)
+    (read-split .last .1 .1 .1 .1 .1 .0) (read-split .result) (fill .ensures) (read-split .ensures .0) (read-split .ensures .1) (c .read-lines .ensures)
 
 pub read-split-spec : {M : Type 1} → statement M
 read-split-spec =

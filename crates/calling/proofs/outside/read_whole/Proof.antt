@@ -2,6 +2,7 @@
 use Rattle.calling.proofs.outside.read_whole.Statement.{statement}
 use Rattle.calling.proofs.outside.read_whole.Tie as tie
 use borrow.Author.Needs.{needs}
+use Rattle.matching.specs.Parts.{wholeLayout}
 use mathlib.Core.List.{[], _∷_}
 use mathlib.Core.Path.{_∙_}
 use Rattle.calling.specs.Calls.{wholeText}
@@ -35,7 +36,7 @@ returns c =
     let fill = c10 .fill in
     let args = c10 .before .before .before .before .before .args in
     let a = args in
-    read-said (readOf 8 1 (a .table .now) (a .place ∷ []) (a .count) (a .piece .now)) (wholeBy (a .place)) wholeText (a .list .now) (fill .last .0)
+    read-said (readOf wholeLayout (a .table .now ∷ []) (a .place ∷ []) (a .count) (a .piece .now)) (wholeBy (a .place)) wholeText (a .list .now) (fill .last .0)
     (read-whole .last .1 .1 .1 .1 .0) (read-whole .result) (fill .ensures) (read-whole .ensures .0) (read-whole .ensures .1) (c .read-lines .ensures)
 
 pub read-whole-spec : {M : Type 1} → statement M

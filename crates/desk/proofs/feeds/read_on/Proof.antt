@@ -1,4 +1,5 @@
 use native.Mathlib.Omega.{arith}
+use Rattle.desk.specs.Layout.{lent}
 use Rattle.desk.proofs.Scanning.{on-refused, on-stopped, read-on-is}
 use borrow.Author.Needs.{needs}
 use Rattle.desk.proofs.feeds.read_on.Statement.{statement}
@@ -27,8 +28,8 @@ returns : tie.Need-returns
 returns c =
     let before = c .before .before .before .before .before in
     let r = before in
-    let a = r .before .before .before .before .before .before .args in
-    on-refused (a .desk) (a .i) (a .t) (a .table .now) (a .piece .now) (r .before .before .before .before .before .before .pre .1) _
+    let a = r .before .before .before .before .before .before .before .args in
+    on-refused (a .desk) (a .i) (a .t) (lent (a .first .now) (a .second .now)) (a .piece .now) (r .before .before .before .before .before .before .before .pre .1) _
     (r .before .room-left .ensures) (r .read-for .result) (r .read-for .ensures) _ (c .before .enum-told .given .1) _
     (c .damaged .ensures)
 
@@ -41,35 +42,35 @@ append-requires c κs =
     let ending = c5 .ending in
     let before = c5 .before .before .before .before in
     let r = before in
-    let a = r .before .before .before .before .before .before .args in
-    let w = on-stopped (a .desk) (a .i) (a .t) (a .table .now) (a .piece .now) (r .before .before .before .before .before .before .pre .1) _
+    let a = r .before .before .before .before .before .before .before .args in
+    let w = on-stopped (a .desk) (a .i) (a .t) (lent (a .first .now) (a .second .now)) (a .piece .now) (r .before .before .before .before .before .before .before .pre .1) _
     (r .before .room-left .ensures) (r .read-for .result) (r .read-for .ensures) _ (ending .given .1) in
     (w .fits, omega (arith, w .fits, r .read-for .ensures .long))
 
-cast-t22 : tie.Need-cast-t22
-cast-t22 c =
+cast-t23 : tie.Need-cast-t23
+cast-t23 c =
     let c7 = c .before .before .before .before .before .before .before in
     let ending = c7 .ending in
     let before = c7 .before .before .before .before in
     let r = before in
-    let a = r .before .before .before .before .before .before .args in
-    let w = on-stopped (a .desk) (a .i) (a .t) (a .table .now) (a .piece .now) (r .before .before .before .before .before .before .pre .1) _
+    let a = r .before .before .before .before .before .before .before .args in
+    let w = on-stopped (a .desk) (a .i) (a .t) (lent (a .first .now) (a .second .now)) (a .piece .now) (r .before .before .before .before .before .before .before .pre .1) _
     (r .before .room-left .ensures) (r .read-for .result) (r .read-for .ensures) _ (ending .given .1) in
-    omega (arith, w .part, r .before .before .before .before .before .before .pre .1)
+    omega (arith, w .part, r .before .before .before .before .before .before .before .pre .1)
 
-add-t23 : tie.Need-add-t23
-add-t23 c =
+add-t24 : tie.Need-add-t24
+add-t24 c =
     let c8 = c .before .before .before .before .before .before .before .before in
     let ending = c8 .ending in
     let before = c8 .before .before .before .before in
     let r = before in
-    let a = r .before .before .before .before .before .before .args in
-    let w = on-stopped (a .desk) (a .i) (a .t) (a .table .now) (a .piece .now) (r .before .before .before .before .before .before .pre .1) _
+    let a = r .before .before .before .before .before .before .before .args in
+    let w = on-stopped (a .desk) (a .i) (a .t) (lent (a .first .now) (a .second .now)) (a .piece .now) (r .before .before .before .before .before .before .before .pre .1) _
     (r .before .room-left .ensures) (r .read-for .result) (r .read-for .ensures) _ (ending .given .1) in
-    omega (arith, w .part, r .before .before .before .before .before .before .pre .1)
+    omega (arith, w .part, r .before .before .before .before .before .before .before .pre .1)
 
-mul-t25 : tie.Need-mul-t25
-mul-t25 c = search needs
+mul-t26 : tie.Need-mul-t26
+mul-t26 c = search needs
 
 element-set-from-fed : tie.Need-element-set-from-fed
 element-set-from-fed c = search needs
@@ -82,10 +83,10 @@ returns-2 c =
     let ending = c8 .ending in
     let before = c8 .before .before .before .before in
     let r = before in
-    let a = r .before .before .before .before .before .before .args in
-    let w = on-stopped (a .desk) (a .i) (a .t) (a .table .now) (a .piece .now) (r .before .before .before .before .before .before .pre .1) _
+    let a = r .before .before .before .before .before .before .before .args in
+    let w = on-stopped (a .desk) (a .i) (a .t) (lent (a .first .now) (a .second .now)) (a .piece .now) (r .before .before .before .before .before .before .before .pre .1) _
     (r .before .room-left .ensures) (r .read-for .result) (r .read-for .ensures) _ (ending .given .1) in
-    read-on-is (a .desk) (a .i) (a .t) (a .table .now) (a .piece .now) (r .before .before .before .before .before .before .pre .1) _
+    read-on-is (a .desk) (a .i) (a .t) (lent (a .first .now) (a .second .now)) (a .piece .now) (r .before .before .before .before .before .before .before .pre .1) _
     (r .before .room-left .ensures) (r .read-for .result) (r .read-for .ensures) _ w _ (append .ensures)
 
 pub read-on-spec : {M : Type 1} → statement M
@@ -100,8 +101,8 @@ read-on-spec =
     returns
     slice-aggregate-append
     append-requires
-    cast-t22
-    add-t23
-    mul-t25
+    cast-t23
+    add-t24
+    mul-t26
     element-set-from-fed
     returns-2)

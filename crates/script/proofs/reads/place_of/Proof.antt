@@ -13,7 +13,7 @@ use Rattle.script.specs.Laws.Numbers.{number-most, number-said}
 use Rattle.script.specs.Laws.Calls.{before, place-start, place-more, place-fails, place-whole}
 
 abbrev Inv-loop : tie.InvT-loop
-Inv-loop words k numbers₀ rest₀ i₀ numbers rest i = (length numbers ≡ 8) × ((i ≤ k) × (placeOf k words ≡ before (take i numbers) (placeOf (k - i) rest)))
+Inv-loop words k numbers₀ rest₀ i₀ numbers rest i = (length numbers ≡ 16) × ((i ≤ k) × (placeOf k words ≡ before (take i numbers) (placeOf (k - i) rest)))
 
 abbrev μ-loop : tie.MeasureT-loop
 μ-loop words k numbers₀ rest₀ i₀ numbers rest i = k - i

@@ -12,7 +12,7 @@ returns : tie.Need-returns
 returns c =
     let args = c .before .before .before .args in
     let a = args in let g : 4096 < a .n + 4 + length (a .payload .now) = omega arith in let h : a .n ≤ length (a .buffer .now) = omega
-    arith in (entry-long (a .buffer .now) (a .payload .now) (a .n) h g, omega arith)
+    arith in (entry-long (a .kind) (a .buffer .now) (a .payload .now) (a .n) h g, omega arith)
 
 add-if2 : tie.Need-add-if2
 add-if2 c = search needs
@@ -24,13 +24,13 @@ returns-2 : tie.Need-returns-2
 returns-2 c =
     let args = c .before .before .before .before .args in
     let a = args in let h : a .n ≤ length (a .buffer .now) = omega arith in
-    (entry-long (a .buffer .now) (a .payload .now) (a .n) h (c .if2 .taken), omega arith)
-
-cast-t10 : tie.Need-cast-t10
-cast-t10 c = search needs
+    (entry-long (a .kind) (a .buffer .now) (a .payload .now) (a .n) h (c .if2 .taken), omega arith)
 
 cast-t11 : tie.Need-cast-t11
 cast-t11 c = search needs
+
+cast-t12 : tie.Need-cast-t12
+cast-t12 c = search needs
 
 slice-aggregate-put : tie.Need-slice-aggregate-put
 slice-aggregate-put c = search needs
@@ -50,11 +50,11 @@ put-requires-2 c κs =
     let asked = c6 .before .before .before .before .pre in
     omega (arith, asked, if2 .left, put .kept .0)
 
-add-t6 : tie.Need-add-t6
-add-t6 c = search needs
+add-t7 : tie.Need-add-t7
+add-t7 c = search needs
 
-add-t9 : tie.Need-add-t9
-add-t9 c = search needs
+add-t10 : tie.Need-add-t10
+add-t10 c = search needs
 
 same-length : tie.Need-same-length
 same-length c = c .before .before .put2 .kept .0 ∙ c .before .before .before .before .before .before .put .kept .0
@@ -71,7 +71,7 @@ returns-3 c =
     let args = c13 .args in
     let asked = c13 .pre in
     let a = args in (
-      entry-fits (a .buffer .now) (put .last .0) (put2 .last .0) (a .payload .now) (a .n) (asked .1) (if2 .left)
+      entry-fits (a .kind) (a .buffer .now) (put .last .0) (put2 .last .0) (a .payload .now) (a .n) (asked .1) (if2 .left)
           (put .ensures) (put2 .ensures),
       if2 .left,
     )
@@ -84,13 +84,13 @@ put-entry-spec =
     add-if2
     add-if2-2
     returns-2
-    cast-t10
     cast-t11
+    cast-t12
     slice-aggregate-put
     put-requires
     add-put
     put-requires-2
-    add-t6
-    add-t9
+    add-t7
+    add-t10
     same-length
     returns-3)

@@ -14,7 +14,7 @@ returns : tie.Need-returns
 returns c =
     let put = c .before .before .put-entry in
     let a = c .before .before .before .before .before .before .before .args in (
-      put .ensures .0 ∙ ap (λ (p : List ℕ). within 4096 (these (take (a .n) (a .buffer .now) ++ entryOf p))) (payload-lent (a .words .now) (a .k)),
+      put .ensures .0 ∙ ap (λ (p : List ℕ). within 4096 (these (take (a .n) (a .buffer .now) ++ entryOf (a .kind) p))) (payload-lent (a .words .now) (a .k)),
       put .ensures .1,
     )
 

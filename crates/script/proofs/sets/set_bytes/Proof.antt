@@ -26,7 +26,7 @@ returns-2 c =
     let c4 = c2 .before .before in
     let if2 = c4 .if2 in
     let args = c4 .before .before .before .before .before .args in
-    (entries .ensures .0 ∙ sym (set-quoted (args .words .now) (if2 .taken)), entries .ensures .1)
+    (entries .ensures .0 ∙ sym (set-quoted (args .words .now) _ (c4 .before .has-quotation .ensures) (if2 .taken)), entries .ensures .1)
 
 returns-3 : tie.Need-returns-3
 returns-3 c =
@@ -36,7 +36,7 @@ returns-3 c =
     let if2 = c6 .if2 in
     let args = c6 .before .before .before .before .before .args in
     let w = args .words .now in (
-      sym (set-plain w (if2 .left) ∙ ap (within 4096)
+      sym (set-plain w _ (c6 .before .has-quotation .ensures) (if2 .left) ∙ ap (within 4096)
           (bytes-said w (bytes-of .last .1 .0) NoBytes (bytes-of .ensures .0) refl (c .enum-told .given .1))),
       omega arith,
     )
@@ -49,8 +49,11 @@ returns-4 c =
     let c13 = c8 .before .before .before .before .before in
     let put = c6 .bytes-of in
     let said = bytes-said (c13 .args .words .now) (put .last .1 .0) (Are (n .given .0 .0)) (put .ensures .0) refl (n .given .1) in
-    let m = short (n .given .1) (put .ensures .1) (c13 .pre .0) (put .kept .1 .0) in
-    (sym (set-many (c13 .args .words .now) (put .last .1 .0) (n .given .0 .0) (c8 .if2 .left) said m (c .if3 .taken)), omega arith)
+    let m = short (n .given .1) (put .ensures .1) (c13 .pre .0) (put .kept .1 .0) in (
+      sym (set-many (c13 .args .words .now) (put .last .1 .0) (n .given .0 .0)
+          (set-plain (c13 .args .words .now) _ (c8 .before .has-quotation .ensures) (c8 .if2 .left)) said m (c .if3 .taken)),
+      omega arith,
+    )
 
 returns-5 : tie.Need-returns-5
 returns-5 c =
@@ -60,8 +63,11 @@ returns-5 c =
     let c13 = c8 .before .before .before .before .before in
     let put = c6 .bytes-of in
     let said = bytes-said (c13 .args .words .now) (put .last .1 .0) (Are (n .given .0 .0)) (put .ensures .0) refl (n .given .1) in
-    let m = short (n .given .1) (put .ensures .1) (c13 .pre .0) (put .kept .1 .0) in
-    (sym (set-few (c13 .args .words .now) (put .last .1 .0) (n .given .0 .0) (c8 .if2 .left) said m (c .if3 .left)), c .if3 .left)
+    let m = short (n .given .1) (put .ensures .1) (c13 .pre .0) (put .kept .1 .0) in (
+      sym (set-few (c13 .args .words .now) (put .last .1 .0) (n .given .0 .0)
+          (set-plain (c13 .args .words .now) _ (c8 .before .has-quotation .ensures) (c8 .if2 .left)) said m (c .if3 .left)),
+      c .if3 .left,
+    )
 
 pub set-bytes-spec : {M : Type 1} → statement M
 set-bytes-spec =

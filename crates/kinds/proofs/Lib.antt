@@ -1,0 +1,3 @@
+-- Laws for the proofs alone.
+pub mod Rows
+pub mod Table
