@@ -1,7 +1,8 @@
 /* approvals.c: a small gateway. Approvals arrive in pieces, several at once; one that names a
    withdrawn case is held, the others pass. In the middle the list of withdrawn cases is replaced:
    what began under the old list can't pass any more, not even where its last piece was read before,
-   and is read again from its first byte.
+   and is read again from its first byte. A list that is refused stops the office: nothing passes until
+   it is in force, put right.
 
    People type the names of cases, and phones rewrite them in capitals, so these are folded: matched in
    either letter case. In the code of a scan a capital is another letter, so that is exact.
@@ -14,7 +15,7 @@
 
 typedef struct withdrawn {
     const char *name;
-    int folded; /* else it is exact */
+    int exact; /* else it is folded: matched in either letter case */
 } withdrawn;
 
 /* The gate, and the cases of the list in force, to say which one holds an approval. */
@@ -22,6 +23,7 @@ typedef struct office {
     sleet_gateway gateway;
     const withdrawn *cases;
     size_t count;
+    int newest; /* whether that is the newest list; else nothing passes */
 } office;
 
 /* An approval keeps what it has sent, to be read again under a new list. */
@@ -43,23 +45,30 @@ static void need(int fact, const char *what)
 static int add(sleet_tags *tags, const withdrawn *one)
 {
     size_t length = strlen(one->name);
-    return one->folded ? sleet_tags_add_folded(tags, one->name, length) : sleet_tags_add(tags, one->name, length);
+    return one->exact ? sleet_tags_add(tags, one->name, length) : sleet_tags_add_folded(tags, one->name, length);
 }
 
-/* Puts a new list of withdrawn cases in force, if it is lawful. */
+/* Puts a new list of withdrawn cases in force. Where it is refused the gate keeps the old one, which
+   lets through what only the new one has: so the office is stopped until the new one is accepted, put
+   right. No older list is handed in meanwhile. */
 static void install(office *o, const withdrawn *cases, size_t count)
 {
+    o->newest = 0;
     sleet_tags tags = sleet_tags_none();
     for (size_t i = 0; i < count; i++)
         need(add(&tags, &cases[i]), "the list of cases is too long");
     sleet_replaced said = sleet_change(&o->gateway, tags.bytes, tags.length);
     if (said.refusal != SLEET_ACCEPTED) {
-        printf("list refused with %" PRIu64 " at entry %zu; the old one stays\n", said.refusal, said.entry);
+        printf("list refused with %" PRIu64, said.refusal);
+        if (said.refusal <= SLEET_REFUSED_REPEAT) /* a fault of the set, which has an entry */
+            printf(" at entry %zu", said.entry);
+        printf("; nothing passes until it is put right\n");
         return;
     }
     need(said.tags == count, "another number of cases is in force");
     o->cases = cases;
     o->count = count;
+    o->newest = 1;
     printf("edition %" PRIu32 ": %zu withdrawn cases\n", said.edition, said.tags);
 }
 
@@ -95,9 +104,20 @@ static void receive(office *o, approval *one, const char *piece)
     need(said.whole, "the piece wasn't read");
 }
 
-/* Decides about an approval; where the list was replaced meanwhile, it is read again first. */
+/* A case as the text of a set has it: a folded one behind \~. (These names need no escapes.) */
+static void print_case(const withdrawn *one)
+{
+    printf(" %s%s", one->exact ? "" : "\\~", one->name);
+}
+
+/* Decides about an approval; where the list was replaced meanwhile, it is read again first. Where the
+   newest list isn't in force it waits, and is decided later. */
 static void decide(office *o, approval *one)
 {
+    if (!o->newest) {
+        printf("%s: waits, for the newest list isn't in force\n", one->name);
+        return;
+    }
     sleet_decided said = sleet_decide(&o->gateway, one->serial);
     while (said.verdict == SLEET_TOO_OLD) {
         begin_again(o, one, "its decision", said.edition);
@@ -112,15 +132,18 @@ static void decide(office *o, approval *one)
     printf("%s: held for", one->name);
     for (size_t i = 0; i < o->count; i++)
         if (sleet_mask_has(said.mask, i))
-            printf(" %s", o->cases[i].name);
+            print_case(&o->cases[i]);
     printf("\n");
 }
 
 int main(void)
 {
-    static const withdrawn first[] = {{"k-1041", 1}, {"k-2200", 1}, {"scan-aZ9", 0}};
-    static const withdrawn faulty[] = {{"k-1041", 1}, {"k-2200", 1}, {"K-1041", 1}}; /* a folded name again */
-    static const withdrawn second[] = {{"k-1041", 1}, {"k-2200", 1}, {"k-3007", 1}, {"k-300", 1}, {"scan-aZ9", 0}};
+    static const withdrawn first[] = {{.name = "k-1041"}, {.name = "k-2200"}, {.name = "scan-aZ9", .exact = 1}};
+    /* the newest list, with a folded name twice, and put right */
+    static const withdrawn faulty[] = {{.name = "k-1041"}, {.name = "k-2200"}, {.name = "k-3007"},
+                                       {.name = "k-300"},  {.name = "K-1041"}, {.name = "scan-aZ9", .exact = 1}};
+    static const withdrawn second[] = {{.name = "k-1041"}, {.name = "k-2200"}, {.name = "k-3007"},
+                                       {.name = "k-300"},  {.name = "scan-aZ9", .exact = 1}};
     static office o;
     static approval all[] = {{.name = "north"}, {.name = "south"}, {.name = "east"}, {.name = "west"}};
     approval *north = &all[0], *south = &all[1], *east = &all[2], *west = &all[3];
@@ -139,7 +162,8 @@ int main(void)
     decide(&o, north);
     decide(&o, west);
     printf("west: decided again, it is refused with %" PRIu64 "\n", sleet_decide(&o.gateway, west->serial).refusal);
-    install(&o, faulty, 3);
+    install(&o, faulty, 6);
+    decide(&o, south); /* by the list in force it would pass */
     install(&o, second, 5);
     decide(&o, south);
     receive(&o, east, ", signed");
