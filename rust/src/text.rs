@@ -14,11 +14,11 @@
 //! may take for something else, is a fault and no tag: a control byte that isn't escaped, a byte of
 //! 128 or above (write `\xHH`; the bytes of a letter such as `ü`, and of blanks that have no width),
 //! a blank at a tag's front or end (write `\x20`), a `#` behind a blank or behind `\~`, which may be
-//! meant as a remark (write `\#`), and a `\~` within a line. (A tag that begins with a tilde has it as it
-//! is.) A byte order mark is a fault in every line: one in the middle tells that two texts were joined
-//! there. A remark may have any other bytes but those that an editor may show as a
-//! line's end, which would make a tag of what stands behind them: control bytes other than the tab,
-//! U+0085, U+2028 and U+2029.
+//! meant as a remark (write `\#`), a plain `~` at a tag's front, which may be meant for `\~` (write
+//! `\x7e`), and a `\~` within a line. Within a tag a tilde is written as it is. A byte order mark is a
+//! fault in every line: one in the middle tells that two texts were joined there. A remark may have any
+//! other bytes but those that an editor may show as a line's end, which would make a tag of what stands
+//! behind them: control bytes other than the tab, U+0085, U+2028 and U+2029.
 //!
 //! Whether the tags make a lawful set, the archive's proved reading says; a fault of its is told
 //! with the line of the tag.
@@ -37,6 +37,9 @@
 //!
 //! let unseen = text::read("preview-17\u{200b}\n".as_bytes()).unwrap_err();
 //! assert_eq!((unseen.line, unseen.what), (1, text::What::High { byte: 0xe2, place: 11 }));
+//!
+//! let plain = text::read(b"~preview-17\n").unwrap_err();
+//! assert_eq!(plain.what, text::What::Tilde);
 //! # Ok::<(), text::Fault>(())
 //! ```
 

@@ -13,21 +13,24 @@ usage: sleet-set make IN.txt OUT.bin    makes a set from a text
        sleet-set list SET.bin           lists a set, as a text that makes the same set
        sleet-set --help | --version
 
-A - stands for standard input or standard output. A set has 1 to 16 tags of 1 to
-32 bytes, no two of one kind equal. The text has one tag a line:
+A - stands for standard input or standard output. A set has up to 16 tags, and one at
+least; a tag has up to 32 bytes, and one at least. No two of one kind are equal. The
+text has one tag a line:
 
   nothing, or only blanks and tabs       the line is passed over
   # in front                             a remark, passed over
-  \~ in front                            a folded tag stands behind it: it is matched
-                                         with A to Z and a to z taken as equal; all
-                                         other tags are exact, byte for byte
+  \~ in front                            a folded tag stands behind it, and is found in
+                                         capitals and in small letters (of A to Z); a
+                                         tag without it is exact, byte for byte
   \\ \# \n \r \t \xHH                    a byte, by an escape
   any other printable byte of ASCII      itself
 
 A blank at the front or end of a tag is written \x20, and a # behind a blank or \~ as
-\#. A byte of 128 and above may stand in a remark; in a tag it is written \xHH. Faults
-in every line are a byte order mark, and what may be shown as a line's end and is none.
-Where the text is faulty nothing is written, and OUT.bin stays as it was.
+\#. A plain ~ at the front of a tag is a fault, for it may be meant for \~; where the
+tag has it there write \x7e. A \~ within a line is a fault too. A byte of 128 and above
+may stand in a remark; in a tag it is written \xHH. Faults in every line are a byte
+order mark, and what may be shown as a line's end and is none. Where the text is faulty
+nothing is written, and OUT.bin stays as it was.
 
 It ends with 0 where it is done, 1 where the input is at fault or a file can't be
 read or written, and 2 where it wasn't called as above.
