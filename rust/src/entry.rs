@@ -9,7 +9,8 @@ use std::hash::{Hash, Hasher};
 pub enum Kind {
     /// Byte for byte.
     Exact,
-    /// With A to Z and a to z taken as equal, and all other bytes exact.
+    /// In either letter case: each of A to Z finds its small letter and the other way round, and every
+    /// other byte itself alone.
     Folded,
 }
 
@@ -39,11 +40,15 @@ impl Kind {
 /// exact tag there.
 ///
 /// Two are equal where they are the same tag, which may stand in a set only once: of one kind, with the
-/// same bytes, and folded ones in any letter case. It displays itself as a line of a set's
-/// [`text`](crate::text).
+/// same bytes, and folded ones in any letter case.
+///
+/// It displays itself as a line of a set's [`text`](crate::text), with its kind: for people, and for such
+/// a text. That line is no tag. As a string it would be an exact tag of these very bytes, sign and
+/// escapes with them, and what was meant would not be withdrawn: hand on the entry itself, or have the
+/// line read by [`text::read`](crate::text::read).
 ///
 /// ```
-/// use sleetbarley::{Entry, Kind, Refusal, TagSet};
+/// use sleetbarley::{text, Entry, Kind, Refusal, Tag, TagSet};
 ///
 /// assert_eq!(Entry::folded("Preview-17"), Entry::folded("PREVIEW-17"));
 /// assert_ne!(Entry::exact("Preview-17"), Entry::exact("PREVIEW-17"));
@@ -53,6 +58,13 @@ impl Kind {
 /// // All tags of a list in either case.
 /// let set = TagSet::new(["preview-17", "preview-23"].map(Entry::folded))?;
 /// assert!(set.tags().all(|tag| tag.kind() == Kind::Folded));
+///
+/// // What is displayed: as a string another tag, an exact one; read as a text the same.
+/// let line = Entry::folded("preview-17").to_string();
+/// let other = TagSet::new([&line])?;
+/// assert_eq!(other.tag(Tag(0)), Some(Entry::exact(r"\~preview-17")));
+/// let same = text::read(line.as_bytes()).expect("a line of a set");
+/// assert_eq!(same.tag(Tag(0)), Some(Entry::folded("preview-17")));
 /// # Ok::<(), Refusal>(())
 /// ```
 #[derive(Clone, Copy, Debug)]
@@ -73,7 +85,7 @@ impl<'b> Entry<'b> {
         Entry::new(Kind::Exact, bytes)
     }
 
-    /// A tag that is matched with A to Z and a to z taken as equal.
+    /// A tag that is matched in either letter case, of A to Z alone.
     pub fn folded<B: AsRef<[u8]> + ?Sized>(bytes: &'b B) -> Entry<'b> {
         Entry::new(Kind::Folded, bytes)
     }
@@ -116,7 +128,8 @@ impl Hash for Entry<'_> {
     }
 }
 
-/// As a line of a set's [`text`](crate::text): a folded tag behind `\~`.
+/// As a line of a set's [`text`](crate::text): a folded tag behind `\~`. It is for people and for texts;
+/// handed to [`TagSet::new`](crate::TagSet::new) as a string it is an exact tag of these very bytes.
 impl Display for Entry<'_> {
     fn fmt(&self, f: &mut Formatter) -> fmt::Result {
         let sign = match self.kind {
@@ -128,7 +141,9 @@ impl Display for Entry<'_> {
 }
 
 /// What can be a tag of a set: an [`Entry`], which has its kind, and strings and bytes, which are exact
-/// tags. A [`TagSet`](crate::TagSet) is none.
+/// tags, byte for byte whatever stands in them: a `\~` in front of one folds nothing, and no escape is
+/// read. (What an [`Entry`] displays is for [`text::read`](crate::text::read).) A
+/// [`TagSet`](crate::TagSet) is none.
 pub trait AsEntry {
     /// The tag, and its kind.
     fn as_entry(&self) -> Entry<'_>;

@@ -5,11 +5,11 @@ use crate::numbers::Tag;
 use crate::raw;
 use crate::refusal::Refusal;
 
-/// A lawful set: 1 to 16 tags of 1 to 32 bytes, no two of one kind equal. It is the whole list: a tag
-/// that isn't in it is no longer withdrawn once it is in force.
+/// A lawful set: up to 16 tags of up to 32 bytes, none of them empty and no two of one kind equal. It is
+/// the whole list: a tag that isn't in it is no longer withdrawn once it is in force.
 ///
-/// A tag is exact, and matched byte for byte, or folded, and matched with A to Z and a to z taken as
-/// equal: fold what people type, and what phones rewrite in capitals. Strings are exact tags, and
+/// A tag is exact, and matched byte for byte, or folded, and matched in either letter case, of A to Z
+/// alone: fold what people type, and what phones rewrite in capitals. Strings are exact tags, and
 /// [`TagSetBuilder::folded`] and [`Entry::folded`] make folded ones. Both kinds may stand in one set. An
 /// exact tag and a folded one may have the same bytes; two folded ones may not, in whatever letter case.
 ///
@@ -62,8 +62,8 @@ pub struct TagSet {
 }
 
 impl TagSet {
-    /// The set of these tags, numbered from 0 in their order. Strings and bytes are exact tags; an
-    /// [`Entry`] has its kind.
+    /// The set of these tags, numbered from 0 in their order. Strings and bytes are exact tags, byte for
+    /// byte, also a string that an [`Entry`] has displayed; an [`Entry`] itself has its kind.
     pub fn new<I>(tags: I) -> Result<TagSet, Refusal>
     where
         I: IntoIterator,
@@ -173,7 +173,7 @@ impl TagSetBuilder {
         self
     }
 
-    /// Adds a folded tag, which is matched with A to Z and a to z taken as equal.
+    /// Adds a folded tag, which is matched in either letter case, of A to Z alone.
     pub fn folded(self, tag: impl AsRef<[u8]>) -> TagSetBuilder {
         self.tag(Entry::folded(&tag))
     }
