@@ -47,23 +47,28 @@ use std::fmt::{self, Debug, Display, Formatter};
 ///   that began before, and that the new gate hasn't read, is then stale.
 ///
 /// ```
-/// use sleetbarley::{Edition, Gate, Piece, Refusal, TagSet, Verdict};
+/// use sleetbarley::{Edition, Entry, Gate, Piece, Refusal, TagSet, Verdict};
 ///
+/// // People type names, so these are folded. In the code of a scan a capital is another letter, so that
+/// // is exact.
+/// let [first, second, third] = ["preview-17", "preview-23", "preview-31"].map(Entry::folded);
+/// let scan = Entry::exact("scan-aZ9");
 /// let mut gate = Gate::new();
-/// gate.replace(&TagSet::new(["preview-17", "preview-23"])?)?;
+/// gate.replace(&TagSet::new([first, second, scan])?)?;
 ///
-/// // A tag across two pieces.
+/// // A tag across two pieces. A phone has written all of it in capitals: the folded name is found, and the
+/// // exact code isn't.
 /// let north = gate.begin()?;
-/// let front = gate.piece(north, b"approved: crown 26, from prev")?;
-/// let rest = gate.piece(north, b"iew-17, for Monday")?;
+/// let front = gate.piece(north, b"APPROVED: CROWN 26, FROM PREV")?;
+/// let rest = gate.piece(north, b"IEW-17, BY SCAN-AZ9")?;
 /// assert_eq!((front, rest), (Piece::Read, Piece::Read));
 /// let words = gate.decide(north)?.to_string();
-/// assert_eq!(words, "hold: it carries preview-17 (tag 0 of edition 1)");
+/// assert_eq!(words, r"hold: it carries \~preview-17 (tag 0 of edition 1)");
 ///
 /// // Read whole and without a tag; but the set is replaced before the decision.
 /// let south = gate.begin()?;
 /// gate.piece(south, b"approved: bridge 4, from preview-31")?;
-/// gate.replace(&TagSet::new(["preview-17", "preview-23", "preview-31"])?)?;
+/// gate.replace(&TagSet::new([first, second, third, scan])?)?;
 /// let verdict = gate.decide(south)?;
 /// assert_eq!(verdict, Verdict::Stale { edition: Edition(1) });
 ///
@@ -77,12 +82,11 @@ use std::fmt::{self, Debug, Display, Formatter};
 /// let refused = gate.decide(again);
 /// assert_eq!(refused, Err(Refusal::NoTicket));
 ///
-/// // A phone has written a tag in capitals: a folded tag is found all the same.
-/// gate.replace(&TagSet::builder().folded("preview-17").tag("preview-23").build()?)?;
-/// let phone = gate.begin()?;
-/// gate.piece(phone, b"APPROVED: CROWN 26, FROM PREVIEW-17 AND PREVIEW-23")?;
-/// let words = gate.decide(phone)?.to_string();
-/// assert_eq!(words, r"hold: it carries \~preview-17 (tag 0 of edition 3)");
+/// // The exact code is found as the list has it.
+/// let west = gate.begin()?;
+/// gate.piece(west, b"approved: inlay 5, by scan-aZ9")?;
+/// let words = gate.decide(west)?.to_string();
+/// assert_eq!(words, "hold: it carries scan-aZ9 (tag 3 of edition 2)");
 /// # Ok::<(), Refusal>(())
 /// ```
 pub struct Gate {
