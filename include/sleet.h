@@ -21,8 +21,8 @@
      bitmap layout have the same calls over one table, for exact tags alone: the one is larger, the
      other is smaller and slower (docs/EMBEDDING.md, 'Memory, stack and threads').
    - To write a set down use sleet_tags, which can't lose a tag: sleet_tags_add for an exact tag, which
-     is matched byte for byte, and sleet_tags_add_folded for a folded one, which is matched with A to Z
-     and a to z taken as equal. Where people type a tag, or a phone rewrites it in capitals, fold it.
+     is matched byte for byte, and sleet_tags_add_folded for a folded one, which is matched in either
+     letter case, of A to Z alone. Where people type a tag, or a phone rewrites it in capitals, fold it.
    Each call gives a struct of its own with named members. `refusal` is SLEET_ACCEPTED or a number
    below; a member that the answer doesn't fill is 0. A refused call changes nothing at all.
 
@@ -34,8 +34,10 @@
    - The split layout has two tables, and so has a desk: the first for exact tags, machines 0 to 7, the
      second for folded ones, machines 8 to 15. Lend both to each call, in this order and with the same
      lengths. A table without tags of its kind needs a slot too, SLEET_SPLIT_SLOT numbers and never
-     none: where the second is null, or is the first once more, the replacement is refused, TABLE with
-     machine 8 (and needs 1 where no tag is folded). (A sleet_gateway has both inside.)
+     none. A second table that is null or shorter, or that has a number in common with the first, counts
+     as one without a slot: a replacement and sleet_make_split are refused, TABLE with machine 8 (and
+     needs 1 where no tag is folded), a feed stops DAMAGED with 0 taken, and a scan is refused, PLACE.
+     (A sleet_gateway has both inside.)
    - A gateway or a desk is in one call at a time: threads that share one need one lock around each
      call, which shuts out every other call. A piece writes too, and so does a decision.
    - Each call comes to its end. One that is left before (by a jump out of a signal handler, or with
@@ -100,7 +102,7 @@ enum {
     SLEET_LONGEST_SET = 576,    /* bytes of the longest set that is accepted */
     SLEET_TAG_HEAD = 4,         /* bytes of an entry before its tag: length and kind */
     SLEET_KIND_EXACT = 1,       /* the kind of an entry: a tag matched byte for byte */
-    SLEET_KIND_FOLDED = 2,      /* the same with A to Z and a to z taken as equal */
+    SLEET_KIND_FOLDED = 2,      /* one matched in either letter case, of A to Z alone */
     SLEET_MOST_TICKETS = 16,    /* approvals or tickets at once, open or stale */
     SLEET_MOST_RECORDS = 256,   /* records that a desk holds */
     SLEET_SPLIT_MACHINES = 16,  /* machines of the split layout: 8 of the first table, 8 of the second */
@@ -360,7 +362,8 @@ static const uint64_t sleet_no_elements = 0;
 
 /* How many numbers of a second table count: none where it is null, and none where it has a number in
    common with the first. One table lent twice would be built for exact tags and then, over them, for
-   folded ones, and the exact tags would be found no more; so it is refused. */
+   folded ones, and the exact tags would be found no more. So it is a table without a slot, which a
+   replacement refuses, a feed finds damaged and a scan has no place in. */
 static inline size_t sleet_second_count(const uint16_t *first, size_t first_length, const uint16_t *second,
                                         size_t second_length)
 {
@@ -425,8 +428,9 @@ SLEET_LOOK static inline int sleet_tags_add(sleet_tags *tags, const void *tag, s
     return sleet_tags_put(tags, SLEET_KIND_EXACT, tag, tag_length);
 }
 
-/* The same of a folded tag, which is matched with A to Z and a to z taken as equal, all other bytes
-   exact. Both kinds may stand in one set, numbered in the order in which they are added. */
+/* The same of a folded tag, which is matched in either letter case: each of A to Z finds its small letter
+   and the other way round, and every other byte itself alone. Both kinds may stand in one set, numbered
+   in the order in which they are added. */
 SLEET_LOOK static inline int sleet_tags_add_folded(sleet_tags *tags, const void *tag, size_t tag_length)
 {
     return sleet_tags_put(tags, SLEET_KIND_FOLDED, tag, tag_length);
@@ -687,8 +691,8 @@ SLEET_LOOK static inline sleet_opened sleet_open(sleet_desk *desk)
 }
 
 /* Reads a piece for a ticket, over both tables as the last accepted replacement left them, in the same
-   order. Where either has another slot count it stops DAMAGED with no byte taken. Refused: NO_TICKET,
-   STALE, LONG. */
+   order. Where either has another slot count it stops DAMAGED with no byte taken; a second table that is
+   null or overlaps the first has none. Refused: NO_TICKET, STALE, LONG. */
 SLEET_LOOK static inline sleet_fed sleet_feed(sleet_desk *desk, uint32_t serial, const uint16_t *first,
                                               size_t first_length, const uint16_t *second, size_t second_length,
                                               const uint8_t *piece, size_t piece_length)
@@ -893,7 +897,8 @@ static inline sleet_split_place sleet_split_start(void)
 }
 
 /* Reads a piece over the two split tables from a place, sleet_split_start() at first, with count bytes
-   taken before it; writes what it finds, and leaves the place after it in place. Refused: PLACE, LONG. */
+   taken before it; writes what it finds, and leaves the place after it in place. Refused: PLACE, LONG.
+   Where a table has no slot, as a second one that is null or overlaps the first, every place is PLACE. */
 SLEET_LOOK static inline sleet_was_read sleet_scan_split(const uint16_t *first, size_t first_length,
                                                          const uint16_t *second, size_t second_length,
                                                          sleet_split_place *place, uint32_t count,

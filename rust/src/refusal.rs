@@ -66,7 +66,8 @@ pub enum Refusal {
     },
     /// 14: bytes taken and the piece pass 4,294,967,295.
     Long,
-    /// 15: a read outside the desk begins at a state that isn't below its table's slot count.
+    /// 15: a read outside the desk begins at a state that isn't below its table's slot count. Over a
+    /// table without a slot every place does.
     Place,
     /// 16: no record is held.
     Nothing,
@@ -197,7 +198,7 @@ impl Refusal {
             Refusal::Repeat { .. } => write!(
                 f,
                 "the tag of entry {entry} equals an earlier one of its kind; folded tags are \
-                 compared with A to Z and a to z taken as equal"
+                 compared without regard to letter case, of A to Z alone"
             ),
             _ => write!(f, "the set has no bytes"),
         }
@@ -231,7 +232,11 @@ impl Refusal {
                  open another and read from the first byte"
             ),
             Refusal::Long => write!(f, "the bytes taken and the piece pass 4294967295"),
-            Refusal::Place => write!(f, "the place isn't one of this table"),
+            Refusal::Place => write!(
+                f,
+                "a state of the place isn't below the slots of its table: it is another table's \
+                 place, or the table has no slot"
+            ),
             _ => write!(f, "no record is held"),
         }
     }
