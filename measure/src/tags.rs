@@ -1,6 +1,6 @@
 // Tags with their kinds, as every engine is made for them.
 
-/// A tag that is matched byte for byte, or, folded, with A to Z and a to z taken as equal.
+/// A tag that is matched byte for byte, or, folded, in either letter case of A to Z.
 #[derive(Clone)]
 pub struct Tag {
     pub bytes: Vec<u8>,
