@@ -29,40 +29,35 @@ pub enum Refusal {
 }
 
 impl Refusal {
-    /// The number in the first column of the table.
-    pub fn number(self) -> u32 {
+    /// Its row in the table of docs/RULES.md, 7: the number in front, and what
+    /// stands in the column "with it".
+    fn row(self) -> (u32, Vec<usize>) {
         match self {
-            Refusal::Cut { .. } => 1,
-            Refusal::Many { .. } => 2,
-            Refusal::Kind { .. } => 3,
-            Refusal::Length { .. } => 4,
-            Refusal::Empty { .. } => 5,
-            Refusal::Repeat { .. } => 6,
-            Refusal::Table { .. } => 7,
-            Refusal::Edition => 8,
-            Refusal::NoSet => 9,
-            Refusal::Serial => 10,
-            Refusal::NoRoom => 11,
-            Refusal::NoTicket => 12,
-            Refusal::Stale { .. } => 13,
-            Refusal::Long => 14,
-            Refusal::Place => 15,
-            Refusal::Nothing => 16,
+            Refusal::Cut { entry } => (1, vec![entry]),
+            Refusal::Many { entry } => (2, vec![entry]),
+            Refusal::Kind { entry } => (3, vec![entry]),
+            Refusal::Length { entry } => (4, vec![entry]),
+            Refusal::Empty { entry } => (5, vec![entry]),
+            Refusal::Repeat { entry } => (6, vec![entry]),
+            Refusal::Table { machine, states } => (7, vec![machine, states]),
+            Refusal::Edition => (8, vec![]),
+            Refusal::NoSet => (9, vec![]),
+            Refusal::Serial => (10, vec![]),
+            Refusal::NoRoom => (11, vec![]),
+            Refusal::NoTicket => (12, vec![]),
+            Refusal::Stale { edition } => (13, vec![edition.0 as usize]),
+            Refusal::Long => (14, vec![]),
+            Refusal::Place => (15, vec![]),
+            Refusal::Nothing => (16, vec![]),
         }
     }
 
-    /// The values in the column "Returned with it", in the table's order.
+    pub fn number(self) -> u32 {
+        self.row().0
+    }
+
     pub fn values(self) -> Vec<u64> {
-        match self {
-            Refusal::Cut { entry }
-            | Refusal::Many { entry }
-            | Refusal::Kind { entry }
-            | Refusal::Length { entry }
-            | Refusal::Empty { entry }
-            | Refusal::Repeat { entry } => vec![entry as u64],
-            Refusal::Table { machine, states } => vec![machine as u64, states as u64],
-            Refusal::Stale { edition } => vec![u64::from(edition.0)],
-            _ => vec![],
-        }
+        let (_, with) = self.row();
+        with.into_iter().map(|value| value as u64).collect()
     }
 }
