@@ -12,7 +12,7 @@ pub enum Stop {
 }
 
 impl Stop {
-    /// The document's word for it.
+    /// Its name in docs/RULES.md, 4.4.
     pub fn name(self) -> &'static str {
         match self {
             Stop::All => "ALL",
