@@ -110,8 +110,8 @@ pub fn vector_of(p: &[u8], tags: &[OwnTag]) -> u16 {
 
 /// The distinct prefixes of the tags.
 struct Prefixes {
-    /// The empty one, then the others in order of first appearance, tag by
-    /// tag, each tag from its front.
+    /// The empty one, then each other where it is met first when the tags are
+    /// gone through in their order, letter by letter.
     prefixes: Vec<Vec<u8>>,
     /// For each prefix q and letter c, the number of the prefix "q followed by
     /// c", or 0 where that is none (the empty prefix follows no letter).
@@ -150,8 +150,8 @@ impl Prefixes {
         Some(q)
     }
 
-    /// For prefix p and each letter c, the state of the longest suffix of p
-    /// followed by c that is itself a prefix.
+    /// For prefix p, where each letter c leads: to the longest suffix of "p
+    /// followed by c" that is a prefix too.
     ///
     /// Such a suffix is empty (state 0), or it is q followed by c, where q is
     /// a suffix of p and, being the front of a prefix, a prefix too. So the
