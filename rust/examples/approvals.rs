@@ -9,7 +9,7 @@
 //!
 //! It writes what `examples/c/approvals.c` writes.
 
-use sleetbarley::{Entry, Gate, Piece, Refusal, Serial, TagSet, Verdict};
+use sleetbarley::{Entry, Gate, Piece, Refusal, Serial, TagSet, TicketState, Verdict};
 
 /// An approval keeps what it has sent, to be read again under a new list.
 struct Approval {
@@ -80,6 +80,12 @@ fn read_again(office: &mut Office, one: &mut Approval) -> Result<(), Refusal> {
     office.gate.piece(one.serial, &one.sent).map(|_| ())
 }
 
+/// Whether the gate has read as many bytes as were sent, which are what a pass lets through.
+fn is_read(office: &Office, one: &Approval) -> bool {
+    let state = office.gate.state(one.serial);
+    matches!(state, TicketState::Open { taken, .. } if taken as usize == one.sent.len())
+}
+
 /// Decides: only a pass lets an approval through. Where the newest list isn't in force it waits, and is
 /// decided later.
 fn decide(office: &mut Office, one: &mut Approval) -> Result<(), Refusal> {
@@ -89,8 +95,12 @@ fn decide(office: &mut Office, one: &mut Approval) -> Result<(), Refusal> {
         return Ok(());
     }
     loop {
+        let is_read = is_read(office, one);
         match office.gate.decide(one.serial)? {
-            Verdict::Pass => println!("{name}: passed"),
+            Verdict::Pass => {
+                assert!(is_read, "another number of bytes was read");
+                println!("{name}: passed");
+            }
             Verdict::Hold(held) => {
                 let cases = held.tags().map(|(_, case)| format!(" {case}"));
                 println!("{name}: held for{}", cases.collect::<String>());
