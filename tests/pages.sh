@@ -1,6 +1,6 @@
 #!/usr/bin/env bash
-# What the pages say is there, is there: each `name` before a (`file`) is declared in that file, each must-fail edit has its row
-# in docs/WRONG.md and each row its edit, and each link of a page leads to a file.
+# What the pages say is there, is there: each `name` before a (`file`) is declared in that file, each wrong program of
+# crates/*/must-fail has its row in docs/WRONG.md and each row its wrong program, and each link of a page leads to a file.
 set -euo pipefail
 cd "$(dirname "$0")/.."
 
@@ -38,10 +38,13 @@ while IFS=$'\t' read -r file name; do
   fi
 done < <(cited docs/PROMISES.md docs/WRONG.md)
 
-for edit in crates/*/must-fail/*.edit; do
-  name=$(basename "$edit" .edit)
-  grep -qF "\`$name\`" docs/WRONG.md || say "no row for $edit in docs/WRONG.md"
-done
+# the wrong programs that are tried, and those of the tables' columns of edits; a crate's name stands there in brackets. A name of two crates has two rows
+tried=$(sed -nE 's/^# ([a-z0-9_]+), refused by .*/\1/p' crates/*/must-fail/*.edit | sort)
+rows=$(awk -F' *[|] *' '!/^[|]/ { column = 0; next }
+  !column { for (i = 2; i < NF; i++) if ($i == "edit") column = i; if (!column) column = NF + 1; next }
+  { print $column }' docs/WRONG.md | sed -E 's/\([^)]*\)//g' | grep -oE '`[a-z0-9_]+`' | tr -d '`' | sort)
+while read -r name; do say "no row for the wrong program $name in docs/WRONG.md"; done < <(comm -23 <(echo "$tried") <(echo "$rows"))
+while read -r name; do say "docs/WRONG.md has a row for $name, which is not tried"; done < <(comm -13 <(uniq <<<"$tried") <(uniq <<<"$rows"))
 
 for page in README.md docs/*.md; do
   while read -r link; do
