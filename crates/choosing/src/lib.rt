@@ -7,7 +7,7 @@ ghost use Rattle.choosing.specs.Choosing.{Choosing, ChosenOf, PlacesFit,
 ghost use Rattle.choosing.specs.Dealing.{DealtOut, Small, dealtNext, isOf};
 use tagset::Places;
 
-// Where the tags of one kind lie in the bytes of their set, in the order of the set. Past the count both are 0.
+// Where the tags of one kind lie in the bytes of their set, in the order of the set. What stands past the count is nobody's.
 pub struct Chosen {
     pub count: usize,
     pub from: [usize; 16],

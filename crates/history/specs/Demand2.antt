@@ -1,6 +1,5 @@
--- DEMAND 2. Over tables as building left them, read from the start place, a tag is reported at a byte exactly when its bytes end there, counted from the
--- opening of that approval, however the bytes were cut. Shown for any layout of machines that read a byte's eight bits; the split and the whole-byte
--- layout are two. What the desk's own feeds answer stands in Answers.antt.
+-- DEMAND 2: what readings over built tables report, of an approval read from its opening in any pieces. Shown for any layout of machines that read a
+-- byte's eight bits; the split and the whole-byte layout are two. What the desk's own feeds answer stands in Answers.antt.
 use Prim.Native.Nat.{_+_, _-_, _/_, _<_, _≤_, suc, ℕ}
 use mathlib.Core.Bool.{Bool, false, true}
 use mathlib.Core.List.{List, List·Memᴰ, [], _++_, _∷_}
@@ -29,7 +28,7 @@ use Rattle.reading.specs.Outside.{readBy, readOf, readTo}
 use Rattle.tables.specs.Building.{tablesOf}
 use Rattle.tables.specs.Laws.Exact.{tags-iff}
 use Rattle.tagset.specs.Grammar.{goodSet, setOf}
-use Rattle.tagset.specs.Laws.Exact.{accepted-iff}
+use Rattle.tagset.specs.Laws.Exact.{accepted-iff, same-good}
 
 -- what `Demanded` says is found: of the occurrences that end in the first m bytes of a piece after v, the record (e, i) is one exactly if byte e,
 -- counted from the opening, is one of those, and tag i ends the first e bytes, both read by its kind
@@ -120,8 +119,8 @@ module _ (layout : Layout) (set : List ℕ) (runs : Runs) (tags : Tags) (b : AsB
     expectedIn-advances layout tags c piece v (length v) (list / 2) (le-trans (lawful-few tags (lawful layout set runs tags b)) some),
   )
 
-  -- HOWEVER THE BYTES WERE CUT: of any row of readings from the start place, with lists of any length, the records are the occurrences of the
-  -- tags in the bytes taken; by `tag-found-iff`, a tag is reported at a byte exactly when its bytes end there
+  -- IN ANY PIECES: of any row of readings from the start place, with lists of any length, the records are the occurrences of the tags in the
+  -- bytes taken; and `tag-found-iff` says of those that each is a tag which ends at that byte, and that none is left out
   pub however-cut : (turns : List Turn) → TurnsOfBytes turns
       → inTurn layout tables (startIn layout) 0 turns .found ≡ foundIn tags (inTurn layout tables (startIn layout) 0 turns .taken)
   however-cut turns h =
@@ -166,7 +165,7 @@ pub for-space : (layout : Layout) → Sliced layout → (set : List ℕ) (runs :
 unfolding tagCount
 for-space layout cut set runs bytes tags e = (
   λ b. (let t = tags-iff layout set (lengths runs) (length tags) .0 (b .answered) in
-      subst (λ (x : Tags). EnoughIn layout x (lengths runs)) (same-set (sym (accepted-iff (kindsFor layout) set (t .tags) .1 (t .set)) ∙ e)) (t .enough)),
+      subst (λ (x : Tags). EnoughIn layout x (lengths runs)) (same-good (sym (accepted-iff (kindsFor layout) set (t .tags) .1 (t .set)) ∙ e)) (t .enough)),
   λ f. record {
     sliced = cut;
     bytes = bytes;
@@ -175,6 +174,3 @@ for-space layout cut set runs bytes tags e = (
         (record { tags = tags; set = accepted-iff (kindsFor layout) set tags .0 e; counted = refl; enough = f });
   },
 )
-  where
-    same-set : {x y : Tags} → goodSet x ≡ goodSet y → x ≡ y
-    same-set q = cc

@@ -1,4 +1,4 @@
--- Once the list is empty, a nonempty piece on an open ticket, not LONG and over the table as replacement left it, advances.
+-- A feed of an open ticket takes at least a byte, where the list holds no record and the tables are as the replacement left them.
 use Rattle.desk.specs.declared.FeedAnswer.the-variants as F
 use Rattle.desk.specs.declared.StateAnswer.the-variants as A
 use Prim.Native.Nat.{_-_, _<_, suc, ℕ}
@@ -82,8 +82,8 @@ takes-a-byte kind calls b s room current empty c piece not-long = go _ (feeds d 
         (p .below e)
         (t .taken) (mostRecords - d .records .count) c piece (omega (arith, empty))
 
--- PROGRESS: once the list is empty, a nonempty piece on an open ticket, not LONG and over the table as left, advances, whatever tables earlier feeds
--- were lent
+-- PROGRESS: with no record held, a feed of an open ticket takes at least one byte of a piece that has one and isn't LONG, over the tables as the
+-- replacement left them, whatever tables earlier feeds were lent
 pub progress : (kind : Kind) (calls : List Call) → AllBytes calls → (s : Serial) (e : Edition) (n : ℕ) → stateOf (run (start kind) calls .desk) s ≡ A.Open e n
     → NoneHeld (run (start kind) calls .desk) → (c : ℕ) (piece : Word)
     → (feedOf (run (start kind) calls .desk) s (run (start kind) calls .table) (c ∷ piece) .answer ≡ F.Long → ⊥)

@@ -16,7 +16,7 @@ use Rattle.history.specs.RecordsHeld.{Adds, occurrencesIn}
 pub stream-grows : (kind : Kind) (calls : List Call) → AllBytes calls → (c : Call) → Adds (run (start kind) calls) (step (run (start kind) calls) c) c
 stream-grows kind calls b = adds (run (start kind) calls) (sound kind calls b .inv .reached)
 
--- THE TOTAL: records handed out and records held together number as many as the occurrences in all bytes ever taken
+-- THE TOTAL: the records handed out and those still held are, together, as many as the occurrences in what was ever taken for any ticket
 pub totals : (kind : Kind) (calls : List Call) → AllBytes calls → AsLeft (start kind) calls
     → length (run (start kind) calls .out) + length (held (run (start kind) calls .desk .records)) ≡ occurrencesIn (run (start kind) calls .accounts)
 unfolding occurrencesIn round

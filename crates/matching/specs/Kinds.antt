@@ -18,7 +18,7 @@ tagKind number shortest longest = record { number = number; shortest = shortest;
 abbrev pub exactKind : ℕ
 exactKind = 1
 
--- folded: matched with A to Z and a to z taken as equal
+-- folded: matched in either letter case
 abbrev pub foldedKind : ℕ
 foldedKind = 2
 

@@ -2,6 +2,7 @@
 use Rattle.matching.specs.declared.Stop.the-variants as S
 use Rattle.desk.specs.declared.CloseAnswer.the-variants as C
 use Rattle.desk.specs.declared.FeedAnswer.the-variants as F
+use Rattle.gate.specs.declared.Verdict.the-variants as Q
 use Rattle.tables.specs.declared.Built.the-variants as B
 use Rattle.tables.specs.declared.Needed.the-variants as N
 use Rattle.tagset.specs.declared.SetFault.the-variants as D
@@ -10,12 +11,16 @@ use mathlib.Core.Bool.{true}
 use mathlib.Core.List.{List, [], _++_, _∷_, map}
 use mathlib.Core.Path.{_≡_, refl}
 use native.Mathlib.Omega.{arith}
-use lib.ListN.{getD, replicate, take}
+use lib.ListN.{drop, getD, replicate, take}
 use Rattle.desk.specs.Calls.{closeOf, openOf, takeOf}
 use Rattle.desk.specs.Feed.{advance, feedOf}
 use Rattle.desk.specs.Replace.{replaceOf, replacedRun}
 use Rattle.desk.specs.Rooms.{editionOf, firstRoom, roomOf, serialOf}
 use Rattle.desk.specs.Shared.{pushAll, round}
+use Rattle.desk.specs.TakeMany.{oldest, takeManyOf, without}
+use Rattle.gate.specs.Feeding.{fedOn}
+use Rattle.gate.specs.Gate.{beginOf, changeOf, decideOf, pieceOf}
+use Rattle.gate.specs.Noting.{noted}
 use Rattle.history.specs.History.{AsLeft, Proper, onSerial, run, start, stream}
 use Rattle.matching.specs.Kinds.{asRead, exactKind, foldedKind, isAmong, kindOf, kinds, lower, tagKind}
 use Rattle.matching.specs.Limits.{largest, longestTag, mostSlots, mostTags}
@@ -30,8 +35,9 @@ use Rattle.matching.specs.Table.{built, laid, roomFrom, slot, slots, slotsIn, s
 use Rattle.matching.specs.Tags.{chosen, endsBy, exact, exactTag, foundIn, ofKind, tagsAt}
 use Rattle.matching.specs.Words.{Below, Word, among, ends, indexOf, same}
 use Rattle.samples.specs.BuiltSample.{below-by}
-use Rattle.samples.specs.Sets.{a-record, calls-254, calls-255, calls-closed, calls-half, calls-open, asSet, at, both, calls-both, ers, foldedTag, he-set, hehEHe, hishers}
-use Rattle.samples.specs.Sets.{hx, later, long, one-two, singles, split, splitOf, tags, two, ush, ushers, words}
+use Rattle.verdicts.specs.GateHistory.{GateProper, gateRun, gateStart, onApproval}
+use Rattle.samples.specs.Sets.{He, a-record, calls-254, calls-255, calls-closed, calls-half, calls-open, asSet, at, both, calls-both, ers, foldedTag, he-set, hehEHe, hishers}
+use Rattle.samples.specs.Sets.{calls-again, calls-held, calls-replaced, hx, later, long, one-two, singles, split, splitOf, tags, two, ush, ushers, words}
 use Rattle.tables.specs.Building.{builtOf, mostStates, neededOf, tablesOf}
 use Rattle.tagset.specs.Answer.{along, cutAt, setRead, tagsLie}
 use Rattle.tagset.specs.Grammar.{amongTags, badSet, distinct, entriesFrom, entryOf, goodSet, setOf}
@@ -116,6 +122,34 @@ pub record OfFolded : Type 0 where
   -- the whole-byte layout takes no tag of kind 2
   pub whole-refuses : builtOf wholeLayout (asSet both) (2570 ∷ []) ≡ B.Fault (D.Kind 0)
 
+-- at the edges of the rules
+pub record OfEdges : Type 0 where
+  -- 19: kinds 0 and 3, and 257, whose low byte is 1; a length of 257, whose low byte is 1 too
+  pub sample-19-kind-0 : setOf kinds (1 ∷ 0 ∷ 0 ∷ 0 ∷ 104 ∷ []) ≡ badSet (D.Kind 0)
+  pub sample-19-kind-3 : setOf kinds (1 ∷ 0 ∷ 3 ∷ 0 ∷ 104 ∷ []) ≡ badSet (D.Kind 0)
+  pub sample-19-kind-257 : setOf kinds (1 ∷ 0 ∷ 1 ∷ 1 ∷ 104 ∷ []) ≡ badSet (D.Kind 0)
+  pub sample-19-length : setOf kinds (1 ∷ 1 ∷ 1 ∷ 0 ∷ 104 ∷ 101 ∷ []) ≡ badSet (D.Length 0)
+  -- "He" and "he" of kind 1 are two tags
+  pub sample-19-exact : setOf kinds (asSet (exact (He ∷ (104 ∷ 101 ∷ []) ∷ []))) ≡ goodSet (exact (He ∷ (104 ∷ 101 ∷ []) ∷ []))
+  -- "a" and "{" of kind 2 have the same bit 5: folding is downward, and a capital has another
+  pub sample-19-bit-5 : states (tagsFor 1 (ofKind foldedKind (foldedTag (97 ∷ []) ∷ foldedTag (123 ∷ []) ∷ [])) 5) ≡ 2
+  -- a whole-byte table that is short by one slot, and two split tables that are both short
+  pub sample-19-whole : builtOf wholeLayout (asSet tags) (9 * 257 ∷ []) ≡ B.Table 254 10
+  pub sample-19-both : builtOf splitLayout (asSet both) (2 * 24 ∷ 2 * 24 ∷ []) ≡ B.Table 0 3
+
+-- of the gate: its histories are as the theorems of the verdict ask, and what it decides
+pub record OfGate : Type 0 where
+  -- "hehEHe" in two pieces is held for both tags of 16, and "hx" beside it passes
+  pub in-two-pieces : GateProper (gateStart oneBit) calls-held
+  pub held : decideOf (gateRun (gateStart oneBit) calls-held .gate) (serialOf 1) .answer ≡ Q.Hold 3
+  pub passed : decideOf (gateRun (gateStart oneBit) calls-held .gate) (serialOf 2) .answer ≡ Q.Pass
+  -- an approval half read when another set came is stale
+  pub set-replaced : GateProper (gateStart oneBit) calls-replaced
+  pub stale : decideOf (gateRun (gateStart oneBit) calls-replaced .gate) (serialOf 1) .answer ≡ Q.Stale (editionOf 1)
+  -- read again from its front, after refused calls and in the room of the one that was decided, it is held for both tags of the new set
+  pub read-again : GateProper (gateStart oneBit) calls-again
+  pub held-again : decideOf (gateRun (gateStart oneBit) calls-again .gate) (serialOf 2) .answer ≡ Q.Hold 3
+
 -- of the desk
 pub record OfDesk : Type 0 where
   -- 16: the same over a desk's two tables
@@ -180,7 +214,9 @@ pub record Limits : Type 0 where
 pub record Samples : Type 0 where
   pub of-reading : OfReading
   pub of-folded : OfFolded
+  pub of-edges : OfEdges
   pub of-desk : OfDesk
+  pub of-gate : OfGate
   pub incident : Incident
   pub lent : LentTables
   pub limits : Limits
@@ -200,6 +236,7 @@ unfolding asSet singles same among ends indexOf withWord withPrefixes withTags p
     readBy tableStep lower asRead isAmong kindOf chosen ofKind endsBy tagsAt hasPart kindsFor slotsOver partRoom roomIn partBuilt partTable tablesFor partStep insert union beside
     stepIn readIn placeBelow width amongTags entryOf entriesFrom distinct setOf along tagsLie setRead cutAt builtOf tablesOf mostStates neededOf firstRoom pushAll
     openOf closeOf takeOf replaceOf replacedRun feedOf onSerial run AsLeft round
+    oldest without takeManyOf fedOn noted beginOf changeOf decideOf pieceOf gateRun onApproval
     Rattle.desk.specs.Layout.startPlace deskSlots lentFits placeFits deskRead deskBuilt deskTable
 samples = record {
   of-reading = record {
@@ -243,6 +280,31 @@ samples = record {
     long-folded = refl;
     short-folded = refl;
     whole-refuses = refl;
+  };
+  of-edges = record {
+    sample-19-kind-0 = refl;
+    sample-19-kind-3 = refl;
+    sample-19-kind-257 = refl;
+    sample-19-length = refl;
+    sample-19-exact = refl;
+    sample-19-bit-5 = refl;
+    sample-19-whole = refl;
+    sample-19-both = refl;
+  };
+  of-gate = record {
+    in-two-pieces = (
+      by (asSet both) refl,
+      (tt, (tt, ((refl, by (take 4 hehEHe) refl), ((refl, by hx refl), ((refl, by (drop 4 hehEHe) refl), tt))))),
+    );
+    held = refl;
+    passed = refl;
+    set-replaced = (by (asSet tags) refl, (tt, ((refl, by ush refl), (by (asSet later) refl, tt))));
+    stale = refl;
+    read-again = (
+      by (asSet tags) refl,
+      (tt, ((refl, by ush refl), (by (asSet later) refl, ((refl, by ers refl), (tt, (tt, (tt, ((refl, by ushers refl), tt)))))))),
+    );
+    held-again = refl;
   };
   of-desk = record {
     sample-16-desk = refl;

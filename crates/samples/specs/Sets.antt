@@ -1,7 +1,7 @@
 -- The tags, sets and calls that the samples speak of.
 use Prim.Native.Nat.{_*_, suc, zero, ℕ}
 use mathlib.Core.List.{List, [], _++_, _∷_}
-use lib.ListN.{length, replicate}
+use lib.ListN.{drop, length, replicate, take}
 use Rattle.desk.specs.Rooms.{editionOf, serialOf}
 use Rattle.desk.specs.Shared.{recordOf}
 use Rattle.desk.specs.declared.Record.{Record}
@@ -12,6 +12,7 @@ use Rattle.matching.specs.Tags.{Tag, Tags, exact, exactTag}
 use Rattle.matching.specs.Words.{Word}
 use Rattle.desk.specs.Reached.{Call, callClose, callFeed, callOpen, callReplace}
 use Rattle.desk.specs.Layout.{Lent, bySet, lent}
+use Rattle.verdicts.specs.GateHistory.{GateAct, gateBegin, gateDecide, gatePiece, gateReplace}
 
 -- the set of these tags: an entry for each, none of 256 bytes or more
 unfoldable pub asSet : Tags → List ℕ
@@ -127,3 +128,34 @@ calls-closed = calls-open ++ callClose (serialOf 1) ∷ callOpen ∷ []
 -- "He" of both kinds, and "hehEHe" fed in one piece
 abbrev pub calls-both : List Call
 calls-both = callReplace (bySet (asSet both)) (zeros 3 3) ∷ callOpen ∷ callFeed (serialOf 1) (splitOf 3 3 both) hehEHe ∷ []
+
+-- two approvals at a gate: the first, "hehEHe", comes in two pieces, and between them the second, "hx"
+abbrev pub calls-held : List GateAct
+calls-held =
+    gateReplace (bySet (asSet both)) (zeros 3 3)
+    ∷ gateBegin
+    ∷ gateBegin
+    ∷ gatePiece (serialOf 1) (splitOf 3 3 both) (take 4 hehEHe)
+    ∷ gatePiece (serialOf 2) (splitOf 3 3 both) hx
+    ∷ gatePiece (serialOf 1) (splitOf 3 3 both) (drop 4 hehEHe)
+    ∷ []
+
+-- an approval at a gate is half read when another set comes
+abbrev pub calls-replaced : List GateAct
+calls-replaced =
+    gateReplace (bySet (asSet tags)) (zeros 10 1)
+    ∷ gateBegin
+    ∷ gatePiece (serialOf 1) (split 10 tags) ush
+    ∷ gateReplace (bySet (asSet later)) (zeros 10 1)
+    ∷ []
+
+-- the rest of it is refused, it is decided, a set of no bytes is refused, and it comes again, in the same room
+abbrev pub calls-again : List GateAct
+calls-again =
+    calls-replaced
+    ++ gatePiece (serialOf 1) (split 10 later) ers
+    ∷ gateDecide (serialOf 1)
+    ∷ gateReplace (bySet []) (zeros 10 1)
+    ∷ gateBegin
+    ∷ gatePiece (serialOf 2) (split 10 later) ushers
+    ∷ []

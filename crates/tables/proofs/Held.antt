@@ -1,12 +1,12 @@
 -- A good set in hand.
 use Prim.Native.Nat.{_≤_, ℕ}
 use mathlib.Core.List.{List, _++_, map}
-use mathlib.Core.Path.{_∙_, _≡_, ap, subst, sym}
+use mathlib.Core.Path.{_∙_, _≡_, subst, sym}
 use native.Mathlib.Omega.{arith}
-use lib.ListN.{length, length-map, length-replicate, replicate, take}
-use lib.Seq.{length-take-le, take-at}
+use lib.ListN.{length, length-replicate, replicate, take}
+use lib.Seq.{length-take-le}
 use Rattle.matching.specs.Kinds.{lower}
-use Rattle.matching.specs.Laws.Kinds.{wordAs-folded}
+use Rattle.kinds.specs.Laws.Folding.{folded-front}
 use Rattle.matching.specs.Laws.Layouts.{takes-short}
 use Rattle.matching.specs.Parts.{Layout, kindsFor}
 use Rattle.matching.specs.Tags.{LawfulTags}
@@ -21,7 +21,7 @@ use Rattle.tables.specs.Shape.{Folded, Held}
 pub set-folded : (set out rest : List ℕ) → length out ≡ length {A = ℕ} (replicate 576 0) → out ≡ map lower set ++ rest → Folded set out
 set-folded set out rest long e = record {
   long = long ∙ length-replicate {A = ℕ} 576 0;
-  front = ap (take (length set)) e ∙ take-at (map lower set) rest (length set) (length-map set lower) ∙ sym (wordAs-folded set);
+  front = folded-front set out rest e;
 }
 
 -- it is lent as far as the set goes

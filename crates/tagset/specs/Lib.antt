@@ -2,5 +2,6 @@
 pub mod Grammar
 pub mod Answer
 pub mod Refusals
+pub mod AsRules
 pub mod Lying
 pub mod Laws

@@ -16,7 +16,6 @@ use Rattle.matching.specs.Occurrence.{Occurrence, occurrencesBy, occurrencesFro
 use Rattle.matching.specs.Stepping.{OutcomeOf}
 use Rattle.matching.specs.Words.{Below, Lawful, Word, among, indexOf}
 use Rattle.reading.specs.Outside.{ReadAt, readBy, readTo}
-use Rattle.tagset.specs.Grammar.{goodSet}
 use Rattle.history.specs.Readings.{Turn, TurnsOfBytes}
 use Rattle.bitmap.specs.Laws.Built.{Holds, level-first, level-tree}
 use Rattle.bitmap.specs.Laws.Moves.{movesIn-append, movesIn-few, movesIn-paid}
@@ -30,9 +29,9 @@ use Rattle.bitmap_tables.specs.Building.{mapKinds, mapTableOf, wordsOf}
 use Rattle.bitmap_alike.specs.Readings.{AsTags, MapAsBuilt, MapReads, MapRow, MapRowDone, isLong, isRead, mapInTurn, mapRowThen, onMapTurn}
 use Rattle.bitmap_tables.specs.Refusals.{MapBuilds}
 use Rattle.bitmap_tables.specs.Laws.Exact.{map-lawful, map-tags-iff, words-exact}
-use Rattle.matching.specs.Tags.{Tags, exact}
+use Rattle.matching.specs.Tags.{exact}
 use Rattle.bitmap_tables.specs.Laws.Left.{map-left-holds, map-left-length}
-use Rattle.tagset.specs.Laws.Exact.{accepted-iff}
+use Rattle.tagset.specs.Laws.Exact.{accepted-iff, same-good}
 use Rattle.matching.specs.Laws.Inputs.{done-by}
 use Rattle.matching.specs.Laws.Occurrences.{occurrencesBy-append}
 use Rattle.matching.specs.Laws.Machine.{longest-hit, longest-nil}
@@ -61,16 +60,13 @@ module _ (set run : List ℕ) (ts : List Word) (b : MapAsBuilt set run ts) where
   pub lawful : Lawful ts
   lawful = map-lawful set (b .bytes) ts (accepted-iff mapKinds set (exact ts) .0 (b .tags))
 
-  same-set : {x y : Tags} → goodSet x ≡ goodSet y → x ≡ y
-  same-set e = cc
-
   builds : MapBuilds set (length run) (length ts)
   builds = map-tags-iff set (b .bytes) (length run) (length ts) .0 (b .answered)
 
   tags-are : builds .tags ≡ ts
   tags-are =
       sym (words-exact (builds .tags))
-      ∙ ap wordsOf (same-set (sym (accepted-iff mapKinds set (exact (builds .tags)) .1 (builds .set)) ∙ b .tags))
+      ∙ ap wordsOf (same-good (sym (accepted-iff mapKinds set (exact (builds .tags)) .1 (builds .set)) ∙ b .tags))
       ∙ words-exact ts
 
   size : slots ≡ slotsOf (length run)

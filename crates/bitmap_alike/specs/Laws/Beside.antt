@@ -26,12 +26,11 @@ use Rattle.matching.specs.Words.{AllBelow, Below, Lawful, Word}
 use Rattle.matching.specs.declared.Stop.{Stop}
 use Rattle.reading.specs.Outside.{readBy, readOf}
 use Rattle.tables.specs.Building.{tablesOf}
-use Rattle.history.specs.Laws.Fed.{below-append, below-take}
+use Rattle.matching.specs.Laws.Words.{below-append, below-take}
 use Rattle.history.specs.Laws.Rows.{RowBy, read-is, row-by, row-done, row-long, row-read, rowAfter, turnOf}
 use Rattle.history.specs.Readings.{AsBuilt, Row, Turn, TurnsOfBytes, inTurn, rowThen}
 use Rattle.bitmap.specs.Laws.Built.{level-first, level-tree, same-word}
 use Rattle.bitmap.specs.Levels.{byLevel}
-use Rattle.bitmap.specs.Slots.{built}
 use Rattle.bitmap_reading.specs.Outside.{readMapOf}
 use Rattle.bitmap_reading.specs.Reading.{Standing}
 use Rattle.bitmap_tables.specs.Building.{mapTableOf}

@@ -5,10 +5,12 @@ use mathlib.Core.List.{List, [], _++_, _∷_, map}
 use mathlib.Core.Path.{_∙_, _≡_, ap, ap₂, refl, subst, sym}
 use native.Mathlib.Nat.{sub-zero}
 use native.Mathlib.Omega.{arith}
-use lib.ListN.{drop, getD, length, length-drop, length-map, length-take, replicate, take}
-use lib.Seq.{drop-drop, length-take-le, take-at}
+use lib.ListN.{drop, getD, length, length-drop, length-take, replicate, take}
+use lib.Seq.{drop-drop, length-take-le}
 use Rattle.matching.specs.Kinds.{asRead, foldedKind, lower}
+use Rattle.kinds.specs.Laws.Folding.{folded-front}
 use Rattle.matching.specs.Laws.Kinds.{wordAs-exact}
+use Rattle.matching.specs.Laws.Slices.{map-take}
 use Rattle.matching.specs.Parts.{Layout, Part, Runs, partStep, splitLayout}
 use Rattle.matching.specs.Reading.{tableStep}
 use Rattle.matching.specs.Stepping.{Step}
@@ -17,7 +19,7 @@ use Rattle.matching.specs.Words.{Word}
 use Rattle.passing.specs.Laws.Starts.{one-even}
 use Rattle.passing.specs.Steps as steps
 use Rattle.blocks.specs.Laws.Noting.{ored-none, rows-none}
-use Rattle.blocks.specs.Laws.Running.{came-read, map-take, ran-still}
+use Rattle.blocks.specs.Laws.Running.{came-read, ran-still}
 use Rattle.blocks.specs.Noting.{tagRows}
 use Rattle.blocks.specs.Parts.{EachFits, Fits, Lettered, PartFits, noPart}
 use Rattle.blocks.specs.Running.{Came, Ran}
@@ -131,21 +133,15 @@ module _ (layout : Layout) (runs : Runs) (slots : List ℕ) (awake : List Bool) 
 
 -- ---- the bytes that the two parts of the split layout read: those of the block, and folded ones
 
-folded-word : (w : Word) → map lower w ≡ wordAs foldedKind w
-unfolding asRead
-folded-word [] = refl
-folded-word (c ∷ w) = ap {B = List ℕ} (λ (l : List ℕ). lower c ∷ l) (folded-word w)
-
-pub letters-split : (awake : List Bool) (block near : Word) → (getD awake 1 false ≡ true → near ≡ map lower block)
+pub letters-split : (awake : List Bool) (block near : Word) → (getD awake 1 false ≡ true → near ≡ wordAs foldedKind block)
     → Lettered splitLayout awake (block ∷ near ∷ []) block
 letters-split awake block near e = record { of-part = each }
   where
     each : (g : ℕ) → g < 2 → getD awake g false ≡ true → getD (block ∷ near ∷ []) g [] ≡ wordAs (getD splitLayout g noPart .kind) block
     each zero h a = sym (wordAs-exact block)
-    each (suc zero) h a = e a ∙ folded-word block
+    each (suc zero) h a = e a
     each (suc (suc g)) h a = absurd (omega arith)
 
 -- a folded copy at the front of an array
-pub near-front : (block zeros near : Word) → near ≡ map lower block ++ drop (length block) zeros → take (length block - 0) (drop 0 near) ≡ map lower block
-near-front block zeros near e =
-    rw (e, sub-zero) (take-at (map lower block) (drop (length block) zeros) (length block) (length-map block lower))
+pub near-front : (block zeros near : Word) → near ≡ map lower block ++ drop (length block) zeros → take (length block - 0) (drop 0 near) ≡ wordAs foldedKind block
+near-front block zeros near e = rw sub-zero (folded-front block near (drop (length block) zeros) e)

@@ -8,6 +8,7 @@ use native.Mathlib.Omega.{arith}
 use lib.ListN.{drop, getD, length, length-append, length-map, replicate, take}
 use lib.Seq.{take-all}
 use Rattle.matching.specs.Laws.Matches.{occurAt-length}
+use Rattle.matching.specs.Laws.Slices.{map-take}
 use Rattle.matching.specs.Laws.Stepping.{le-is, readBy-took}
 use Rattle.matching.specs.Occurrence.{Occurrence, occurAt}
 use Rattle.matching.specs.Stepping.{Step, goesTo, isDamaged, readBy, tookByte}
@@ -103,11 +104,6 @@ module _ {P : Type 0} (step : Step P) where
       ∙ rw (one, on, left)
 
 -- ---- bytes that are read as others
-
-pub map-take : (f : ℕ → ℕ) (k : ℕ) (w : Word) → take k (map f w) ≡ map f (take k w)
-map-take f zero w = refl
-map-take f (suc k) [] = refl
-map-take f (suc k) (c ∷ w) = ap {B = List ℕ} (λ (l : List ℕ). f c ∷ l) (map-take f k w)
 
 map-at : (f : ℕ → ℕ) (w : Word) (i : ℕ) → i < length w → getD (map f w) i 0 ≡ f (getD w i 0)
 map-at f [] i h = absurd (omega arith)

@@ -142,9 +142,6 @@ held-for s t h e = and-both (isHeld t) (eqb (t .serial .0) (s .0)) h (is-true (e
 pub free-held : (t : Ticket) → isFree t ≡ true → isHeld t ≡ false
 free-held t e = ap not e
 
-pub held-free : (t : Ticket) → isFree t ≡ false → isHeld t ≡ true
-held-free t e = ap not e
-
 -- a ticket just opened holds its room
 pub new-held : (n : ℕ) (e : Edition) → isHeld (newTicket (serialOf (n + 1)) e) ≡ true
 new-held n e = ap not (is-false (eqb (n + 1) 0) (λ q. omega (arith, eqb-eq (n + 1) 0 q)))

@@ -1,7 +1,7 @@
 -- What a feed that reads leaves.
-use Prim.Native.Nat.{_+_, _-_, _<_, _≤_, suc, zero, ℕ}
+use Prim.Native.Nat.{_+_, _-_, _<_, _≤_, suc, ℕ}
 use mathlib.Core.Bool.{true}
-use mathlib.Core.List.{List, [], _++_, _∷_, append-assoc, append-nil}
+use mathlib.Core.List.{List, [], _++_, append-assoc, append-nil}
 use mathlib.Core.Logic.{inl, inr}
 use mathlib.Core.Path.{_∙_, _≡_, ap, ap₂, refl, subst, sym}
 use native.Mathlib.Nat.{zero-add}
@@ -25,6 +25,7 @@ use Rattle.history.specs.Laws.Feeding.{agrees, live, mine, read-done}
 use Rattle.history.specs.Laws.Invariant.{Inv, Kept, Stranger, changed-each, wide}
 use Rattle.history.specs.Laws.Seats.{Agrees, Seat, for-other, seat-kept, seat-same, seated}
 use Rattle.matching.specs.Laws.Occurrences.{occurrencesBy-append}
+use Rattle.matching.specs.Laws.Words.{below-append, below-take}
 use Rattle.matching.specs.Occurrence.{Occurrence}
 use Rattle.matching.specs.Reading.{Outcome}
 use Rattle.matching.specs.Words.{Below, Word}
@@ -33,15 +34,6 @@ use Rattle.matching.specs.Tags.{foundFrom, foundIn, tagsAt}
 use Rattle.desk.specs.Layout.{Lent}
 use Rattle.desk.specs.Limits.{mostRecords, mostTickets}
 use Rattle.matching.specs.Limits.{largest}
-
-pub below-append : (m : ℕ) (x y : Word) → Below m x → Below m y → Below m (x ++ y)
-below-append m [] y hx hy = hy
-below-append m (c ∷ x) y hx hy = (hx .0, below-append m x y (hx .1) hy)
-
-pub below-take : (m n : ℕ) (x : Word) → Below m x → Below m (take n x)
-below-take m zero x h = tt
-below-take m (suc n) [] h = tt
-below-take m (suc n) (c ∷ x) h = (h .0, below-take m n x (h .1))
 
 -- more records behind a stream
 stream-grown : (d : Desk) (out rs : List Record) → GoodDesk d → d .records .count + length rs ≤ mostRecords

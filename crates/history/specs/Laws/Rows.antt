@@ -12,7 +12,7 @@ use lib.Dec.{ltb}
 use lib.ListN.{length, length-append, take}
 use lib.Seq.{length-take-le, take-all}
 use borrow.Author.Tests.{ltb-false, ltb-true}
-use Rattle.history.specs.Laws.Fed.{below-append, below-take}
+use Rattle.matching.specs.Laws.Words.{below-append, below-take}
 use Rattle.history.specs.Laws.Numbers.{differ}
 use Rattle.history.specs.Readings.{AsBuilt, Demanded, Row, Turn, TurnsOfBytes, inTurn, onTurn, rowThen, stoppedFull, tookAll}
 use Rattle.matching.specs.Laws.Expected.{Alike, Done, expected-advances, expected-alike, expected-done}
@@ -30,7 +30,7 @@ use Rattle.matching.specs.declared.Stop.{Stop}
 use Rattle.reading.specs.Outside.{ReadOf, readBy, readOf, readTo}
 use Rattle.tables.specs.Building.{tablesOf}
 use Rattle.tables.specs.Laws.Left.{done}
-use Rattle.tagset.specs.Grammar.{goodSet}
+use Rattle.tagset.specs.Laws.Exact.{same-good}
 
 -- a reading that stopped so, and found these, is as demanded
 pub demanded : (tags : Tags) (v piece : Word) (room : ℕ) (r : Outcome) → r .found ≡ foundFrom tags v (length v) (take (r .taken) piece)
@@ -85,14 +85,11 @@ module _ (layout : Layout) (set : List ℕ) (runs : Runs) (tags : Tags) (b : AsB
   abbrev tables : Runs
   tables = tablesOf layout set runs
 
-  same-set : {x y : Tags} → goodSet x ≡ goodSet y → x ≡ y
-  same-set e = cc
-
   built-of : L.Done layout set runs (tagCount tags)
   built-of = done layout set runs (tagCount tags) (b .answered)
 
   its-tags : built-of .tags ≡ tags
-  its-tags = same-set (sym (built-of .set) ∙ b .good)
+  its-tags = same-good (sym (built-of .set) ∙ b .good)
 
   pub lawful : LawfulTags tags
   lawful = subst LawfulTags its-tags (built-of .lawful (b .bytes))

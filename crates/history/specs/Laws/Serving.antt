@@ -18,21 +18,13 @@ use Rattle.history.specs.Laws.Becomes.{Becomes, becomes-append, becomes-
 use Rattle.history.specs.Laws.LedgerSteps.{SoundLeft}
 use Rattle.history.specs.Laws.Stages.{Emptied, FedSome, closed-one, emptied-all, fed-one}
 use Rattle.history.specs.Served.{Script, afterFull, emptied, fedPieces, fedWhole, joined, shutIf, then}
+use Rattle.matching.specs.Laws.Words.{below-drop, below-front}
 use Rattle.matching.specs.Words.{Below, Word}
 use Rattle.matching.specs.declared.Stop.{Stop}
 use Rattle.desk.specs.Reached.{callFeed}
 use Rattle.history.specs.Laws.Accounts.{grown-more, grown-nothing}
 use Rattle.matching.specs.Limits.{largest}
 use Rattle.desk.specs.Feed.{advance}
-
-below-drop : (m n : ℕ) (x : Word) → Below m x → Below m (drop n x)
-below-drop m zero x h = h
-below-drop m (suc n) [] h = h
-below-drop m (suc n) (c ∷ x) h = below-drop m n x (h .1)
-
-below-left : (m : ℕ) (x y : Word) → Below m (x ++ y) → Below m x
-below-left m [] y h = tt
-below-left m (c ∷ x) y h = (h .0, below-left m x y (h .1))
 
 below-right : (m : ℕ) (x y : Word) → Below m (x ++ y) → Below m y
 below-right m [] y h = h
@@ -136,7 +128,7 @@ at-fedPieces [] w pre x t small short =
 at-fedPieces (p ∷ ps) w pre x t small short =
     let n = serialOf (x .serial) in
     let sizes = length-append p (joined ps) in
-    let one = at-fedWhole (length p + 2) w pre x t p (below-left 256 p (joined ps) small) (omega (arith, short, sizes)) (inl (omega arith)) in
+    let one = at-fedWhole (length p + 2) w pre x t p (below-front 256 p (joined ps) small) (omega (arith, short, sizes)) (inl (omega arith)) in
     let w1 = run w (fedWhole (length p + 2) n p w) in
     let s1 = becomes-sound w (fedWhole (length p + 2) n p w) _ _ (t .sound) one in
     let t1 : Served w1 pre (grown p x) =

@@ -1,12 +1,15 @@
--- Folding one byte more into a run.
-use Prim.Native.Nat.{_+_, _<_, _≤_, suc, zero, ℕ}
+-- Folding bytes into a run: one more, all of them, and what stands at its front then.
+use Prim.Native.Nat.{_+_, _<_, _≤_, suc, ℕ}
 use mathlib.Core.List.{List, [], _++_, _∷_, append-assoc, map}
 use mathlib.Core.Path.{_∙_, _≡_, ap, refl, subst, sym}
 use native.Mathlib.Numerals.{add-one}
 use native.Mathlib.Omega.{arith}
 use lib.ListN.{drop, getD, length, length-append, length-drop, length-map, set, take}
-use lib.Seq.{drop-cons, length-take-le, set-append-seam, take-length, take-suc}
+use lib.Seq.{drop-cons, length-take-le, set-append-seam, take-at, take-length, take-suc}
+use Rattle.matching.specs.Kinds.{foldedKind, lower}
+use Rattle.matching.specs.Laws.Kinds.{wordAs-folded}
 use Rattle.matching.specs.Laws.Slices.{map-append}
+use Rattle.matching.specs.Tags.{wordAs}
 
 -- the first i of some bytes, each made another, in a run that was l₀
 abbrev pub Folding : (ℕ → ℕ) → List ℕ → List ℕ → List ℕ → ℕ → Type 0
@@ -43,3 +46,8 @@ module _ (f : ℕ → ℕ) (bytes l₀ l : List ℕ) (i : ℕ) (room : length by
   fold-end h =
       let e : i ≡ length bytes = omega (arith, g .0) in
       g .1 ∙ rw (e, take-length bytes) refl
+
+-- the front of a run into which bytes were folded
+pub folded-front : (bytes out rest : List ℕ) → out ≡ map lower bytes ++ rest → take (length bytes) out ≡ wordAs foldedKind bytes
+folded-front bytes out rest e =
+    ap (take (length bytes)) e ∙ take-at (map lower bytes) rest (length bytes) (length-map bytes lower) ∙ sym (wordAs-folded bytes)

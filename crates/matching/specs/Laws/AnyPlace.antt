@@ -1,38 +1,23 @@
 -- Over a table as building left it, ANY place leads on: unused slots hold zeros, so that no next number is out of range.
-use Prim.Native.Nat.{_%_, _+_, _/_, _<_, _≤_, suc, zero, ℕ}
+use Prim.Native.Nat.{_+_, _<_, _≤_, suc, ℕ}
 use mathlib.Core.Bool.{true}
 use mathlib.Core.List.{List, [], _++_, _∷_}
-use mathlib.Core.Logic.{_⊎_, inl, inr}
 use mathlib.Core.Path.{_∙_, _≡_, ap, refl}
 use native.Mathlib.Decide.{decLe}
 use native.Mathlib.Omega.{arith}
 use lib.Dec.{ltb, lt→ltb}
 use lib.ListN.{getD, getD-replicate, length}
 use borrow.Author.Tests.{ltb-true}
-use Rattle.matching.specs.Laws.Bits.{bit-cases, onesOf-none, onesOf-one}
 use Rattle.matching.specs.Laws.Bools.{and-both, and-l, and-r, is-true}
 use Rattle.matching.specs.Laws.Machine.{next-lt}
 use Rattle.matching.specs.Laws.Prefixes.{tree}
 use Rattle.matching.specs.Laws.Readings.{slice-lt}
 use Rattle.matching.specs.Laws.Tables.{built-at, slot-next, slot-unused}
 use Rattle.matching.specs.Machine.{prefixes, states}
-use Rattle.matching.specs.Reading.{allBelow, flagged, nexts, onesOf, vectorsAt}
-use Rattle.matching.specs.Slicing.{anded, slice}
+use Rattle.matching.specs.Reading.{allBelow, nexts}
+use Rattle.matching.specs.Slicing.{slice}
 use Rattle.matching.specs.Table.{built, slot, slotSize, spot, tagsFor}
 use Rattle.matching.specs.Words.{Word}
-
-ones-few : (width i v : ℕ) → length (onesOf i width v) ≤ width
-unfolding onesOf
-ones-few zero i v = omega arith
-ones-few (suc width) i v = go (bit-cases v) (ones-few width (suc i) (v / 2))
-  where
-    go : (v % 2 ≡ 1) ⊎ (v % 2 ≡ 0) → length (onesOf (suc i) width (v / 2)) ≤ width → length (onesOf i (suc width) v) ≤ suc width
-    go (inl e) h = rw (onesOf-one i width v e) (omega (arith, h))
-    go (inr e) h = rw (onesOf-none i width v e) (omega (arith, h))
-
-pub flagged-few : (n s : ℕ) (table qs : List ℕ) → length (flagged n s table qs) ≤ 16
-unfolding flagged
-flagged-few n s table qs = ones-few 16 0 (anded 65535 (vectorsAt n s table 0 qs))
 
 -- over a built table each next number is below the slots, from ANY state below them: unused slots hold zeros
 module _ (n k s : ℕ) (ts : List Word) (mark : ℕ → Word → ℕ) (rest : List ℕ) (some : 0 < s) (fits : (m : ℕ) → m < k → states (tagsFor n ts m) ≤ s) where

@@ -1,22 +1,23 @@
 -- Folding, and a byte over any two runs of the split layout, in the rules' words (docs/RULES.md, 1, 2 and 4).
 use Prim.Native.Nat.{_+_, _<_, _≤_, ℕ}
-use mathlib.Core.Bool.{false, true}
+use mathlib.Core.Bool.{_||_, false, false≢true, true}
 use mathlib.Core.List.{List, [], _++_, _∷_, append-nil, map}
 use mathlib.Core.Logic.{_↔_, _⊎_, inl, inr}
-use mathlib.Core.Path.{_∙_, _≡_, ap, ap₂, refl, sym}
+use mathlib.Core.Path.{_∙_, _≡_, ap, ap₂, refl, subst, sym}
 use native.Mathlib.Omega.{arith}
 use lib.Bits.{bitOr}
-use lib.Dec.{leb}
+use lib.Dec.{eqb, leb}
 use lib.ListN.{drop, getD, length, take}
 use borrow.Author.Tests.{leb-false}
-use Rattle.matching.specs.Kinds.{asRead, foldedKind, lower}
-use Rattle.matching.specs.Laws.Bools.{decided}
+use Rattle.matching.specs.Kinds.{TagKind, asRead, foldedKind, isAmong, kindOf, kinds, lower, tagKind}
+use Rattle.matching.specs.Laws.Bools.{decided, or-cases}
 use Rattle.matching.specs.Laws.Kinds.{wordAs-append, wordAs-folded}
+use Rattle.matching.specs.Laws.Layouts.{split-kinds, whole-kinds}
 use Rattle.matching.specs.Laws.Unions.{union-ones}
 use Rattle.matching.specs.Laws.Readings.{tableStep-goes, tableStep-wrong}
 use Rattle.matching.specs.Laws.Stepping.{leb-le}
-use Rattle.matching.specs.Laws.Words.{ends-iff}
-use Rattle.matching.specs.Parts.{beside, partStep, splitLayout, stepIn, union}
+use Rattle.matching.specs.Laws.Words.{ends-iff, eqb-eq}
+use Rattle.matching.specs.Parts.{beside, kindsFor, partStep, splitLayout, stepIn, union, wholeLayout}
 use Rattle.matching.specs.Reading.{allBelow, flagged, nexts, onesOf, tableStep, vectorsAt}
 use Rattle.matching.specs.Slicing.{anded}
 use Rattle.matching.specs.Stepping.{Stepped, goesTo, isDamaged}
@@ -30,11 +31,12 @@ use Rattle.matching.specs.Words.{Word, ends}
 abbrev pub SameLetter : ℕ → ℕ → Type 0
 SameLetter a b = (a ≡ b) ⊎ (((65 ≤ a) × (a ≤ 90) × (b ≡ a + 32)) ⊎ ((65 ≤ b) × (b ≤ 90) × (a ≡ b + 32)))
 
--- a byte is a capital, or it is folded to itself
-abbrev Cased : ℕ → Type 0
+-- a byte is one of A to Z, and taken to that letter of a to z, or it is none, and taken to itself
+abbrev pub Cased : ℕ → Type 0
 Cased c = ((65 ≤ c) × (c ≤ 90) × (lower c ≡ c + 32)) ⊎ (((c < 65) ⊎ (90 < c)) × (lower c ≡ c))
 
-cased : (c : ℕ) → Cased c
+-- FOLDING TAKES A TO Z TO a TO z, and every other byte to itself
+pub cased : (c : ℕ) → Cased c
 unfolding lower
 cased c = go (decided (leb 65 c)) (decided (leb c 90))
   where
@@ -71,17 +73,21 @@ SameWord [] (b ∷ u) = ⊥
 SameWord (a ∷ t) [] = ⊥
 SameWord (a ∷ t) (b ∷ u) = SameLetter a b × SameWord t u
 
-alike : (t u : Word) → map lower u ≡ map lower t → SameWord t u
+alike : (t u : Word) → map lower t ≡ map lower u → SameWord t u
 alike [] [] e = tt
 alike [] (b ∷ u) e = absurd (omega (arith, ap length e))
 alike (a ∷ t) [] e = absurd (omega (arith, ap length e))
-alike (a ∷ t) (b ∷ u) e = (lower-same a b .0 (sym (ap (λ (l : List ℕ). getD l 0 0) e)), alike t u (ap (λ (l : List ℕ). drop 1 l) e))
+alike (a ∷ t) (b ∷ u) e = (lower-same a b .0 (ap (λ (l : List ℕ). getD l 0 0) e), alike t u (ap (λ (l : List ℕ). drop 1 l) e))
 
-folded-alike : (t u : Word) → SameWord t u → map lower u ≡ map lower t
+folded-alike : (t u : Word) → SameWord t u → map lower t ≡ map lower u
 folded-alike [] [] s = refl
 folded-alike [] (b ∷ u) s = absurd s
 folded-alike (a ∷ t) [] s = absurd s
-folded-alike (a ∷ t) (b ∷ u) s = ap₂ {C = List ℕ} (λ (x : ℕ) (l : List ℕ). x ∷ l) (sym (lower-same a b .1 (s .0))) (folded-alike t u (s .1))
+folded-alike (a ∷ t) (b ∷ u) s = ap₂ {C = List ℕ} (λ (x : ℕ) (l : List ℕ). x ∷ l) (lower-same a b .1 (s .0)) (folded-alike t u (s .1))
+
+-- FOLDING TAKES TWO WORDS TO ONE exactly if they are the same, letter by letter
+pub same-word-iff : (t u : Word) → (map lower t ≡ map lower u) ↔ SameWord t u
+same-word-iff t u = (alike t u, folded-alike t u)
 
 -- where a word, folded, is one behind another, it is so in two parts
 parted : (u y w : Word) → map lower w ≡ u ++ y → (v : Word) × (x : Word) × (w ≡ v ++ x) × (map lower x ≡ y)
@@ -99,14 +105,14 @@ folded-ends t w = (there, back)
     there e =
         let z = ends-iff (wordAs foldedKind t) (wordAs foldedKind w) .0 e in
         let r = parted (z .0) (map lower t) w (sym (wordAs-folded w) ∙ z .1 ∙ ap (λ (l : Word). z .0 ++ l) (wordAs-folded t)) in
-        (r .0, r .1, r .2, alike t (r .1) (r .3))
+        (r .0, r .1, r .2, alike t (r .1) (sym (r .3)))
 
     back : (v : Word) × (u : Word) × (w ≡ v ++ u) × SameWord t u → ends (wordAs foldedKind t) (wordAs foldedKind w) ≡ true
     back (v, u, e, s) =
         ends-iff (wordAs foldedKind t) (wordAs foldedKind w) .1 (
           wordAs foldedKind v,
           ap (wordAs foldedKind) e ∙ wordAs-append foldedKind v u
-              ∙ ap (λ (l : Word). wordAs foldedKind v ++ l) (wordAs-folded u ∙ folded-alike t u s ∙ sym (wordAs-folded t)),
+              ∙ ap (λ (l : Word). wordAs foldedKind v ++ l) (wordAs-folded u ∙ sym (folded-alike t u s) ∙ sym (wordAs-folded t)),
         )
 
 -- ---- a byte over any two runs: from a place of sixteen states the first eight are of the first run, and the others of the second, which reads it folded
@@ -164,3 +170,60 @@ module _ (a b place : List ℕ) (c : ℕ) where
       back (inl z) (inr e) =
           split-step
           ∙ ap₂ (λ (x y : Stepped (List ℕ)). beside x (beside y (goesTo [] []))) (tableStep-goes 1 s a (take 8 place) c z) (tableStep-wrong 1 s′ b (take 8 (drop 8 place)) (lower c) e)
+
+-- ---- the kinds that are taken, and the lengths of their tags
+
+-- kinds 1 and 2, or kind 1 alone
+abbrev pub BothKinds : ℕ → Type 0
+BothKinds number = (number ≡ 1) ⊎ (number ≡ 2)
+
+abbrev pub KindOne : ℕ → Type 0
+KindOne number = number ≡ 1
+
+-- of some kinds, just these numbers are taken, and a tag of each has 1 to 32 bytes
+pub record TakesAs (ks : List TagKind) (Taken : ℕ → Type 0) : Type 0 where
+  pub taken : (number : ℕ) → (isAmong number ks ≡ true) ↔ Taken number
+  pub shortest : (number : ℕ) → Taken number → kindOf number ks .shortest ≡ 1
+  pub longest : (number : ℕ) → Taken number → kindOf number ks .longest ≡ 32
+
+both-taken : TakesAs kinds BothKinds
+unfolding isAmong kindOf
+both-taken =
+    record { taken = λ number. (there number, back number); shortest = λ number t. each number t .0; longest = λ number t. each number t .1 }
+  where
+    there : (number : ℕ) → eqb 1 number || (eqb 2 number || false) ≡ true → BothKinds number
+    there number e = go (or-cases (eqb 1 number) _ e)
+      where
+        last : (eqb 2 number ≡ true) ⊎ (false ≡ true) → BothKinds number
+        last (inl f) = inr (sym (eqb-eq 2 number f))
+        last (inr f) = absurd (false≢true f)
+
+        go : (eqb 1 number ≡ true) ⊎ (eqb 2 number || false ≡ true) → BothKinds number
+        go (inl f) = inl (sym (eqb-eq 1 number f))
+        go (inr f) = last (or-cases (eqb 2 number) false f)
+
+    back : (number : ℕ) → BothKinds number → isAmong number kinds ≡ true
+    back number (inl q) = rw q refl
+    back number (inr q) = rw q refl
+
+    each : (number : ℕ) → BothKinds number → (kindOf number kinds .shortest ≡ 1) × (kindOf number kinds .longest ≡ 32)
+    each number (inl q) = rw q (refl, refl)
+    each number (inr q) = rw q (refl, refl)
+
+one-taken : TakesAs (tagKind 1 1 32 ∷ []) KindOne
+unfolding isAmong kindOf
+one-taken = record { taken = λ number. (there number, λ q. rw q refl); shortest = λ number q. rw q refl; longest = λ number q. rw q refl }
+  where
+    there : (number : ℕ) → eqb 1 number || false ≡ true → KindOne number
+    there number e = go (or-cases (eqb 1 number) false e)
+      where
+        go : (eqb 1 number ≡ true) ⊎ (false ≡ true) → KindOne number
+        go (inl f) = sym (eqb-eq 1 number f)
+        go (inr f) = absurd (false≢true f)
+
+-- THE SPLIT LAYOUT TAKES KINDS 1 AND 2, and the whole-byte layout kind 1 alone
+pub split-takes : TakesAs (kindsFor splitLayout) BothKinds
+split-takes = subst (λ (ks : List TagKind). TakesAs ks BothKinds) (sym split-kinds) both-taken
+
+pub whole-takes : TakesAs (kindsFor wholeLayout) KindOne
+whole-takes = subst (λ (ks : List TagKind). TakesAs ks KindOne) (sym whole-kinds) one-taken

@@ -1,5 +1,5 @@
 -- The laws of a machine, whatever the order of its states: the run theorem, and that a tag ends the input exactly if it ends the state.
-use Prim.Native.Nat.{_<_, _≤_, suc, suc-le-suc, ℕ}
+use Prim.Native.Nat.{_<_, _≤_, suc, ℕ}
 use mathlib.Core.Bool.{Bool, _||_, false, true}
 use mathlib.Core.List.{List, [], _++_, _∷_, append-assoc, append-nil}
 use mathlib.Core.Logic.{_⊎_, inl, inr}
@@ -77,9 +77,6 @@ longest-step ps k (x ∷ w) c = go (decided (among (x ∷ w) ps)) (longest-step 
 pub fail-step : (ps : List Word) → Closed ps → (x : ℕ) (p : Word) (c : ℕ) → among (x ∷ p ++ c ∷ []) ps ≡ false
     → longest ps (x ∷ p ++ c ∷ []) ≡ longest ps (longest ps p ++ c ∷ [])
 fail-step ps k x p c h = longest-miss ps x (p ++ c ∷ []) h ∙ longest-step ps k p c
-
-pub fail-shorter : (ps : List Word) (x : ℕ) (p : Word) → length (longest ps p) < length (x ∷ p)
-fail-shorter ps x p = suc-le-suc (longest-length ps p)
 
 -- ---- in numbers
 

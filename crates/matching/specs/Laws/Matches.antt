@@ -2,15 +2,14 @@
 use Prim.Native.Nat.{_+_, _<_, _≤_, suc, zero, ℕ}
 use mathlib.Core.Bool.{Bool, false, true}
 use mathlib.Core.List.{List, List·Memᴰ, List·Memᴰ·cases-cons, List·Memᴰ·head, List·Memᴰ·not-nil, List·Memᴰ·tail, [], _∷_}
-use mathlib.Core.Logic.{_↔_, _⊎_, inl, inr}
-use mathlib.Core.Path.{_≡_, ap, refl, subst}
-use native.Mathlib.Nat.{add-zero, le-of-suc-le-suc, not-suc-le-zero, zero-add}
+use mathlib.Core.Logic.{_⊎_, inl, inr}
+use mathlib.Core.Path.{_≡_, ap, refl}
+use native.Mathlib.Nat.{add-zero, le-of-suc-le-suc, not-suc-le-zero}
 use native.Mathlib.Omega.{arith}
 use lib.ListN.{getD, length, length-map}
 use Rattle.matching.specs.Laws.Bits.{numbersWhere-hit, numbersWhere-miss}
 use Rattle.matching.specs.Laws.Bools.{decided}
-use Rattle.matching.specs.Occurrence.{Occurrence, numbersWhere, occurAt, tagsEnding}
-use Rattle.matching.specs.Words.{Word, ends}
+use Rattle.matching.specs.Occurrence.{Occurrence, numbersWhere, occurAt}
 
 pub occurAt-length : (e : ℕ) (is : List ℕ) → length (occurAt e is) ≡ length is
 unfolding occurAt
@@ -61,20 +60,6 @@ numbersWhere-only {A} z g (t ∷ ts) i x m = go (decided (g t)) (numbersWhere-on
         → (j : ℕ) × (x ≡ i + j) × (j < suc (length ts)) × (g (getD (t ∷ ts) j z) ≡ true)
     go (inl q) ih = first q (List·Memᴰ·cases-cons (rw (numbersWhere-hit g i t ts q) at m)) ih
     go (inr q) ih = up (ih (rw (numbersWhere-miss g i t ts q) at m))
-
--- tag i is found at w exactly if it ends w
-pub tagsEnding-has : (ts : List Word) (w : Word) (i : ℕ) → List·Memᴰ i (tagsEnding ts w) ↔ ((i < length ts) × (ends (getD ts i []) w ≡ true))
-unfolding tagsEnding
-tagsEnding-has ts w i = (there, back)
-  where
-    there : List·Memᴰ i (numbersWhere (λ t. ends t w) 0 ts) → (i < length ts) × (ends (getD ts i []) w ≡ true)
-    there m =
-        let r = numbersWhere-only [] (λ t. ends t w) ts 0 i m in
-        let e : r .0 ≡ i = omega (arith, r .1) in
-        (omega (arith, e, r .2), subst (λ (j : ℕ). ends (getD ts j []) w ≡ true) e (r .3))
-
-    back : (i < length ts) × (ends (getD ts i []) w ≡ true) → List·Memᴰ i (numbersWhere (λ t. ends t w) 0 ts)
-    back h = subst (λ (j : ℕ). List·Memᴰ j (numbersWhere (λ t. ends t w) 0 ts)) (zero-add i) (numbersWhere-has [] (λ t. ends t w) ts 0 i (h .0) (h .1))
 
 -- ---- a byte's matches
 

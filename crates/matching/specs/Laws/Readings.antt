@@ -5,21 +5,19 @@ use mathlib.Core.List.{List, [], _++_, _∷_, map}
 use mathlib.Core.Path.{_∙_, _≡_, ap, ap₂, refl, sym}
 use native.Mathlib.Nat.{mod-lt}
 use native.Mathlib.Omega.{arith}
-use lib.Dec.{leb, ltb, lt→ltb}
-use lib.ListN.{getD, length}
+use lib.Dec.{ltb, lt→ltb}
+use lib.ListN.{getD}
 use lib.Pow.{pow-pos}
 use Rattle.matching.specs.Laws.Bools.{and-both, is-true}
 use Rattle.matching.specs.Laws.Machine.{walk-snoc}
 use Rattle.matching.specs.Laws.Prefixes.{walk-lt}
 use Rattle.matching.specs.Laws.Slices.{map-append}
-use Rattle.matching.specs.Laws.Stepping.{readBy-damaged, readBy-took}
 use Rattle.matching.specs.Machine.{next, prefixes, states, walk}
-use Rattle.matching.specs.Reading.{allBelow, flagged, halted, nexts, placeAfter, read, tableStep, tookByte}
+use Rattle.matching.specs.Reading.{allBelow, flagged, nexts, placeAfter, tableStep}
 use Rattle.matching.specs.Slicing.{slice}
 use Rattle.matching.specs.Stepping.{goesTo, isDamaged}
 use Rattle.matching.specs.Table.{spot, tagsFor}
 use Rattle.matching.specs.Words.{Word}
-use Rattle.matching.specs.declared.Stop.the-variants.{Damaged}
 
 -- ---- a table that holds the machines of words
 
@@ -71,15 +69,3 @@ module _ (n s : ℕ) (tab qs : List ℕ) (c : ℕ) where
       → tableStep n s tab qs c ≡ isDamaged
   unfolding tableStep
   tableStep-wrong e = rw (e, tableStep) refl
-
-module _ (n s : ℕ) (tab qs : List ℕ) (count room c : ℕ) (w : Word) where
-  pub read-tookByte : allBelow s (nexts n s tab 0 qs c) ≡ true → leb (length (flagged n s tab (nexts n s tab 0 qs c))) room ≡ true
-      → read n s tab qs count room (c ∷ w)
-      ≡ tookByte (suc count) (flagged n s tab (nexts n s tab 0 qs c))
-      (read n s tab (nexts n s tab 0 qs c) (suc count) (room - length (flagged n s tab (nexts n s tab 0 qs c))) w)
-  unfolding read
-  read-tookByte e f = readBy-took (tableStep n s tab) qs count room c w _ _ (tableStep-goes n s tab qs c e) f
-
-  pub read-damaged : allBelow s (nexts n s tab 0 qs c) ≡ false → read n s tab qs count room (c ∷ w) ≡ halted qs Damaged
-  unfolding read
-  read-damaged e = readBy-damaged (tableStep n s tab) qs count room c w (tableStep-wrong n s tab qs c e)

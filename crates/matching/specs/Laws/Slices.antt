@@ -5,10 +5,10 @@ use mathlib.Core.List.{List, [], _++_, _∷_, cons≢nil, head-eq-of-cons-eq, ma
 use mathlib.Core.Path.{_∙_, _≡_, ap, ap₂, refl, sym}
 use native.Mathlib.Nat.{div-one, mod-eq-of-lt, mod-one, mul-one, suc-mul, zero-mul}
 use lib.Bits.{and-mask, bitAnd}
-use lib.ListN.{drop, length, length-map}
+use lib.ListN.{drop, length, length-map, take}
 use lib.Pow.{mod-pow-add, shr-shr}
 use Rattle.matching.specs.Laws.Bools.{and-both, and-l, and-r, both-ways}
-use Rattle.matching.specs.Laws.Words.{drop-ends, ends-append, ends-drop, ends-split}
+use Rattle.matching.specs.Laws.Words.{below-drop, drop-ends, ends-append, ends-drop, ends-split}
 use Rattle.matching.specs.Slicing.{reduced, slice, slices}
 use Rattle.matching.specs.Words.{AllBelow, Below, Word, ends}
 
@@ -31,15 +31,15 @@ pub map-append : (f : ℕ → ℕ) (u v : Word) → map f (u ++ v) ≡ map f u +
 map-append f [] v = refl
 map-append f (x ∷ u) v = ap {B = Word} (λ (l : Word). f x ∷ l) (map-append f u v)
 
-map-drop : (f : ℕ → ℕ) (n : ℕ) (w : Word) → drop n (map f w) ≡ map f (drop n w)
+pub map-take : (f : ℕ → ℕ) (n : ℕ) (w : Word) → take n (map f w) ≡ map f (take n w)
+map-take f zero w = refl
+map-take f (suc n) [] = refl
+map-take f (suc n) (x ∷ w) = ap {B = Word} (λ (l : Word). f x ∷ l) (map-take f n w)
+
+pub map-drop : (f : ℕ → ℕ) (n : ℕ) (w : Word) → drop n (map f w) ≡ map f (drop n w)
 map-drop f zero w = refl
 map-drop f (suc n) [] = refl
 map-drop f (suc n) (x ∷ w) = map-drop f n w
-
-below-drop : (m n : ℕ) (w : Word) → Below m w → Below m (drop n w)
-below-drop m zero w h = h
-below-drop m (suc n) [] h = h
-below-drop m (suc n) (x ∷ w) h = below-drop m n w (h .1)
 
 pub ends-map : (f : ℕ → ℕ) (t w : Word) → ends t w ≡ true → ends (map f t) (map f w) ≡ true
 ends-map f t w h = let r = ends-split t w h in rw (r .1, map-append f (r .0) t) (ends-append (map f (r .0)) (map f t))

@@ -1,7 +1,7 @@
 -- How many states a machine can need.
 use Prim.Native.Nat.{_<_, _^_, _≤_, min, suc, zero, ℕ}
 use mathlib.Core.Bool.{false≢true, true}
-use mathlib.Core.List.{List, [], _++_, _∷_, map}
+use mathlib.Core.List.{List, [], _∷_, map}
 use mathlib.Core.Logic.{_⊎_, inl, inr}
 use mathlib.Core.Path.{_∙_, _≡_, ap, sym}
 use native.Mathlib.Nat.{le-min, le-of-eq, le-trans, pow-zero}
@@ -12,7 +12,7 @@ use Rattle.matching.specs.Laws.Counting.{by-depth, deep, every-of, sum-m
 use Rattle.matching.specs.Laws.Prefixes.{among-prefixes, tree}
 use Rattle.matching.specs.Laws.Readings.{slice-lt}
 use Rattle.matching.specs.Laws.Vectors.{reduced-length}
-use Rattle.matching.specs.Laws.Words.{begins-split, same-eq}
+use Rattle.matching.specs.Laws.Words.{begins-split, below-front, same-eq}
 use Rattle.matching.specs.Machine.{prefixes, states}
 use Rattle.matching.specs.Slicing.{reduced, slice}
 use Rattle.matching.specs.Table.{tagsFor}
@@ -28,10 +28,6 @@ begins-short l (t ∷ ts) v h e = go (or-cases (begins v t) (beginsOne v ts) e) 
     go : (begins v t ≡ true) ⊎ (beginsOne v ts ≡ true) → (beginsOne v ts ≡ true → length v ≤ l) → length v ≤ l
     go (inl i) ih = let r = begins-split v t i in omega (arith, h .0, ap {B = ℕ} length (r .1), length-append v (r .0))
     go (inr i) ih = ih i
-
-below-front : (m : ℕ) (v r : Word) → Below m (v ++ r) → Below m v
-below-front m [] r h = tt
-below-front m (x ∷ v) r h = (h .0, below-front m v r (h .1))
 
 begins-below : (m : ℕ) (ts : List Word) (v : Word) → AllBelow m ts → beginsOne v ts ≡ true → Below m v
 unfolding beginsOne
@@ -101,7 +97,7 @@ reduced-most n m ts hs hn =
     states-most (2 ^ n) 32 (tagsFor n ts m) (reduced-below (slice n m) (2 ^ n) ts (slice-lt n m)) (reduced-short (slice n m) 32 ts hs)
     (le-trans (le-of-eq (reduced-length (slice n m) ts)) hn)
 
--- a bit machine needs at most 479 states: 1 + 2 + 4 + 8, and 16 at each of the 29 depths left; a whole-byte machine at most 513
+-- a bit machine needs at most 479 states, 1 + 2 + 4 + 8 of the first four depths and 29 times 16 of the others; a whole-byte machine at most 513
 pub bit-states : (m : ℕ) (ts : List Word) → Lawful ts → states (tagsFor 1 ts m) ≤ 479
 unfolding most sumTo
 bit-states m ts h = reduced-most 1 m ts (h .short) (h .few)

@@ -12,7 +12,7 @@ use lib.ListN.{drop, getD, length, length-append, take, take-append-drop}
 use lib.Seq.{drop-at, take-at}
 use Rattle.matching.specs.Laws.Bools.{and-both, and-l, and-r, decided, is-false, is-true, not-both, or-cases, or-false, or-false-l, or-false-r, or-l}
 use Rattle.matching.specs.Laws.Bools.{or-r, to-T}
-use Rattle.matching.specs.Words.{Word, among, begins, ends, indexOf, same}
+use Rattle.matching.specs.Words.{Below, Word, among, begins, ends, indexOf, same}
 
 -- ---- same
 
@@ -244,3 +244,23 @@ unfolding among
 indexOf-new w [] qs h = indexOf-hit w w qs (same-self w)
 indexOf-new w (p ∷ ps) qs h = indexOf-miss w p (ps ++ w ∷ qs) (or-false-l (same w p) (among w ps) h)
     ∙ ap suc (indexOf-new w ps qs (or-false-r (same w p) (among w ps) h))
+
+-- ---- words of numbers below m
+
+pub below-append : (m : ℕ) (x y : Word) → Below m x → Below m y → Below m (x ++ y)
+below-append m [] y hx hy = hy
+below-append m (c ∷ x) y hx hy = (hx .0, below-append m x y (hx .1) hy)
+
+pub below-front : (m : ℕ) (x y : Word) → Below m (x ++ y) → Below m x
+below-front m [] y h = tt
+below-front m (c ∷ x) y h = (h .0, below-front m x y (h .1))
+
+pub below-take : (m n : ℕ) (x : Word) → Below m x → Below m (take n x)
+below-take m zero x h = tt
+below-take m (suc n) [] h = tt
+below-take m (suc n) (c ∷ x) h = (h .0, below-take m n x (h .1))
+
+pub below-drop : (m n : ℕ) (x : Word) → Below m x → Below m (drop n x)
+below-drop m zero x h = h
+below-drop m (suc n) [] h = h
+below-drop m (suc n) (c ∷ x) h = below-drop m n x (h .1)

@@ -1,20 +1,12 @@
 -- `tagset::distinct_tags` meets its contract. The set is folded into a run of its own, which is as long.
-use Prim.Native.Nat.{ℕ}
-use mathlib.Core.List.{List, _++_, map}
-use mathlib.Core.Path.{_∙_, _≡_, ap, sym}
-use native.Mathlib.Omega.{arith}
+use mathlib.Core.Path.{_∙_, ap, sym}
 use borrow.Author.Needs.{needs}
-use lib.ListN.{drop, length, length-map, take}
-use lib.Seq.{take-at}
-use Rattle.matching.specs.Kinds.{foldedKind, lower}
-use Rattle.matching.specs.Laws.Kinds.{wordAs-folded, wordAs-length}
-use Rattle.matching.specs.Tags.{wordAs}
+use lib.ListN.{length}
+use Rattle.kinds.specs.Laws.Folding.{folded-front}
+use Rattle.matching.specs.Kinds.{foldedKind}
+use Rattle.matching.specs.Laws.Kinds.{wordAs-length}
 use Rattle.tagset.proofs.distinct_tags.Statement.{statement}
 use Rattle.tagset.proofs.distinct_tags.Tie as tie
-
--- the front of a run into which bytes were folded
-folded-front : (set out rest : List ℕ) → out ≡ map lower set ++ rest → take (length set) out ≡ wordAs foldedKind set
-folded-front set out rest e = ap (take (length set)) e ∙ take-at (map lower set) rest (length set) (length-map set lower) ∙ sym (wordAs-folded set)
 
 slice-aggregate-fold-all : tie.Need-slice-aggregate-fold-all
 slice-aggregate-fold-all c = search needs

@@ -81,6 +81,10 @@ pub refused-iff : (ks : List TagKind) (bytes : List ℕ) (fault : SetFault) → 
 refused-iff ks bytes fault = (refused-only ks bytes fault (setOf ks bytes) (set-case ks bytes), refused-so ks bytes fault)
 
 -- a set is accepted with these tags exactly if none does
+-- a good set has one list of tags
+pub same-good : {x y : Tags} → goodSet x ≡ goodSet y → x ≡ y
+same-good e = cc
+
 pub accepted-iff : (ks : List TagKind) (bytes : List ℕ) (ts : Tags) → (setOf ks bytes ≡ goodSet ts) ↔ Accepted ks bytes ts
 accepted-iff ks bytes ts = (accepted-only ks bytes ts (setOf ks bytes) (set-case ks bytes), accepted-so ks bytes ts)
 

@@ -11,7 +11,8 @@ use lib.Seq.{drop-drop}
 use Rattle.matching.specs.Kinds.{TagKind, exactKind, isAmong, kindOf}
 use Rattle.matching.specs.Laws.Bools.{or-cases}
 use Rattle.matching.specs.Laws.Layouts.{takes-part}
-use Rattle.matching.specs.Laws.Words.{eqb-eq}
+use Rattle.matching.specs.Laws.Slices.{map-drop, map-take}
+use Rattle.matching.specs.Laws.Words.{below-drop, below-take, eqb-eq}
 use Rattle.matching.specs.Limits.{longestTag, mostTags}
 use Rattle.matching.specs.Parts.{hasPart, kindsFor, wholeLayout}
 use Rattle.matching.specs.Tags.{AllLawful, LawfulTags, Tag, Tags, exact, noTag}
@@ -80,16 +81,6 @@ cutAt-none bytes (a ∷ froms) (e ∷ tos) (suc t) (inl h) = cutAt-none bytes fr
 cutAt-none bytes (a ∷ froms) (e ∷ tos) (suc t) (inr h) = cutAt-none bytes froms tos t (inr (omega arith))
 
 -- bytes made others, and cut: cut, and made others
-map-take : (f : ℕ → ℕ) (n : ℕ) (w : List ℕ) → take n (map f w) ≡ map f (take n w)
-map-take f zero w = refl
-map-take f (suc n) [] = refl
-map-take f (suc n) (x ∷ w) = ap (λ (l : List ℕ). f x ∷ l) (map-take f n w)
-
-map-drop : (f : ℕ → ℕ) (n : ℕ) (w : List ℕ) → drop n (map f w) ≡ map f (drop n w)
-map-drop f zero w = refl
-map-drop f (suc n) [] = refl
-map-drop f (suc n) (x ∷ w) = map-drop f n w
-
 pub cut-map : (f : ℕ → ℕ) (bytes froms tos : List ℕ) → cutAt (map f bytes) froms tos ≡ map (map f) (cutAt bytes froms tos)
 unfolding cutAt
 cut-map f bytes [] tos = refl
@@ -161,16 +152,6 @@ pub sized-size : (ks : List TagKind) → ShortKinds ks → (tags : Tags) → All
 unfolding sizeOf
 sized-size ks h [] a = omega arith
 sized-size ks h (t ∷ tags) a = omega (arith, sized-size ks h tags (a .1), a .0 .short, h (t .kind))
-
-below-take : (m n : ℕ) (w : Word) → Below m w → Below m (take n w)
-below-take m zero w b = tt
-below-take m (suc n) [] b = tt
-below-take m (suc n) (x ∷ w) b = (b .0, below-take m n w (b .1))
-
-below-drop : (m n : ℕ) (w : Word) → Below m w → Below m (drop n w)
-below-drop m zero w b = b
-below-drop m (suc n) [] b = tt
-below-drop m (suc n) (x ∷ w) b = below-drop m n w (b .1)
 
 -- each tag's bytes are bytes
 abbrev AllBytes : Tags → Type 0
