@@ -35,9 +35,9 @@
      second for folded ones, machines 8 to 15. Lend both to each call, in this order and with the same
      lengths. A table without tags of its kind needs a slot too, SLEET_SPLIT_SLOT numbers and never
      none. A second table that is null or shorter, or that has a number in common with the first, counts
-     as one without a slot: a replacement and sleet_make_split are refused, TABLE with machine 8 (and
-     needs 1 where no tag is folded), a feed stops DAMAGED with 0 taken, and a scan is refused, PLACE.
-     (A sleet_gateway has both inside.)
+     as one without a slot: a replacement and sleet_make_split are refused, TABLE, where the first is
+     enough with machine 8 (and needs 1 where no tag is folded); a feed stops DAMAGED with 0 taken, and
+     a scan is refused, PLACE. (A sleet_gateway has both inside.)
    - A gateway or a desk is in one call at a time: threads that share one need one lock around each
      call, which shuts out every other call. A piece writes too, and so does a decision.
    - Each call comes to its end. One that is left before (by a jump out of a signal handler, or with
@@ -666,7 +666,8 @@ typedef struct sleet_stated {
 /* Reads a set and builds its split tables, the first for its exact tags and the second for its folded
    ones. Every ticket opened before becomes stale. SLEET_SPLIT_TABLE numbers are enough in each, and a set
    without folded tags needs SLEET_SPLIT_SLOT in the second: where that is null or shorter, or is the first
-   once more, it is refused, TABLE with machine 8 and needs 1. Refused: CUT to REPEAT, TABLE, EDITION. */
+   once more, it is refused, TABLE, with machine 8 and needs 1 where the first table is enough. Refused: CUT
+   to REPEAT, TABLE, EDITION. */
 SLEET_LOOK static inline sleet_replaced sleet_replace(sleet_desk *desk, const uint8_t *set, size_t set_length,
                                                       uint16_t *first, size_t first_length, uint16_t *second,
                                                       size_t second_length)

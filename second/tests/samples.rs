@@ -297,6 +297,32 @@ fn sample_18_repeats_and_the_bytes_beside_the_letters() {
 }
 
 #[test]
+fn sample_19_kinds_lengths_and_the_machines_named() {
+    check(&[
+        ("set x0100000068", "set 5"),
+        ("replace", "refused 3 0"),
+        ("set x0100030068", "set 5"),
+        ("replace", "refused 3 0"),
+        ("set x0100010168", "set 5"),
+        ("replace", "refused 3 0"),
+        ("set x010101006865", "set 6"),
+        ("replace", "refused 4 0"),
+        ("set \"He\" \"he\"", "set 12"),
+        ("replace", "edition 1 tags 2"),
+        ("set \"he\" \"she\" \"his\" \"hers\"", "set 28"),
+        ("lend 2313", "lent 2313"),
+        ("build whole", "refused 7 254 10"),
+        ("set ~\"He\" \"He\"", "set 12"),
+        ("lend 48", "lent 48"),
+        ("lend 48 1", "lent 48"),
+        ("build split", "refused 7 0 3"),
+    ]);
+    let tags = [Tag::folded("a"), Tag::folded("{")];
+    let set = read_set(&write_tags(&tags), Layout::Split.kinds()).expect("a good set");
+    assert_eq!(Machine::bit(&set, 13).states(), 2);
+}
+
+#[test]
 fn the_bench_example() {
     assert_eq!(records_of(&HERS, "ushers"), [(4, 0), (4, 1), (6, 3)]);
 }
