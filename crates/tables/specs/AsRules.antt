@@ -7,15 +7,14 @@ use mathlib.Core.Logic.{_↔_}
 use mathlib.Core.Path.{_∙_, _≡_, ap, refl, subst, sym}
 use native.Mathlib.Nat.{zero-add}
 use native.Mathlib.Omega.{arith}
-use lib.ListN.{drop, getD, length}
+use lib.ListN.{drop, length}
 use Rattle.matching.specs.Enough.{EnoughFor, EnoughIn, LowestIn, ShortIn, inFirst, inOthers}
 use Rattle.matching.specs.Machine.{states}
 use Rattle.matching.specs.Parts.{Layout, Part, firstLength, kindsFor, part, partSlots, splitLayout, wholeLayout}
 use Rattle.matching.specs.Table.{slotsIn, tagsFor}
 use Rattle.matching.specs.Tags.{Tags, ofKind}
-use Rattle.tables.specs.Building.{builtOf, neededOf, partNeeds, slotsNeeded}
+use Rattle.tables.specs.Building.{builtOf, neededOf, partNeeds}
 use Rattle.tables.specs.Laws.Exact.{most-iff, needed-slots-iff, table-iff, tags-iff}
-use Rattle.tables.specs.Refusals.{Builds, TooFewSlots}
 use Rattle.tagset.specs.Laws.Exact.{accepted-iff, same-good}
 use Rattle.tagset.specs.Refusals.{Accepted}
 

@@ -17,7 +17,7 @@ use Rattle.tagset.specs.Refusals.{Equal, Fails, fewerThanFour, kindHere,
 use Rattle.tagset.specs.declared.SetFault.{SetFault}
 use Rattle.tagset.specs.declared.SetFault.the-variants.{Cut, Kind, Length, Many}
 
--- the two numbers at the front of an entry, of two bytes each, the low byte first
+-- the two numbers at the front of an entry, of two bytes each, the low byte first: written out, so that the grammar's are held against them
 abbrev pub lengthOf : List ℕ → ℕ
 lengthOf left = getD left 0 0 + 256 * getD left 1 0
 
