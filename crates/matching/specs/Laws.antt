@@ -23,7 +23,6 @@ pub mod Unions
 pub mod OnePart
 pub mod Layouts
 pub mod Parts
-pub mod AnyPlace
 pub mod Built
 pub mod Counting
 pub mod States

@@ -1,6 +1,6 @@
 -- The tags of a set: how many there are, when one of them ends an input, and what is found of them. Whatever speaks of editions and tickets
 -- speaks of these names; of those that are `unfoldable` it knows what Laws/Tags.antt shows, and how a tag is matched is said here alone.
-use Rattle.std.specs.Prelude.{ℕ, ◌≤◌, Bool, ◌&&◌, cond, List, [], ◌++◌, ◌∷◌, map, eqb, ltb, get_or, length}
+use Rattle.std.specs.Prelude.{ℕ, ◌≤◌, Bool, ◌&&◌, cond, List, [], ◌∷◌, map, eqb, ltb, get_or, length}
 use Rattle.matching.specs.Kinds.{as_read, exact_kind}
 use Rattle.matching.specs.Limits.{longest_tag, most_tags}
 use Rattle.matching.specs.Occurrence.{Occurrence, numbers_where, occurrences_by}

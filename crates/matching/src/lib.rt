@@ -1,5 +1,7 @@
 // What matching means: its definitions and laws are in specs/. Here is the little that all code shares: why a reading stops,
 // and how a table's length tells its slots.
+#![tactic(auto)]
+
 ghost use Rattle.std.specs.Prelude.{◌≡◌, ◌^◌, ◌<◌, ◌≤◌};
 ghost use Rattle.matching.specs.Table.{slots_in};
 

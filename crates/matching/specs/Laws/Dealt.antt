@@ -1,13 +1,12 @@
 -- Bits dealt out: a vector over the tags of one kind made into one over the whole set, each bit given to its tag's number there.
-use Prim.Native.Nat.{◌%◌, ◌*◌, ◌+◌, ◌/◌, ◌<◌, ◌^◌, ◌≤◌, min, suc, ℕ}
+use Prim.Native.Nat.{◌%◌, ◌*◌, ◌+◌, ◌/◌, ◌<◌, ◌^◌, min, suc, ℕ}
 use Rattle.std.specs.Prelude.{Bool, ◌&&◌, false, true, ◌⊎◌, ◌≡◌}
 use Rattle.std.proofs.Math.Bool.{cond}
 use mathlib.Core.List.{List, [], ◌∷◌, map}
-use Rattle.std.proofs.Common.{inl, inr, ◌∙◌, sym, lt_of_lt_of_le, mod-eq_of_lt, mod-lt, arith, pow_mono}
+use Rattle.std.proofs.Common.{inl, inr, ◌∙◌, sym, mod-lt, arith}
 use Rattle.std.proofs.Math.Path.{ap, ap₂, refl}
 use Rattle.std.proofs.Math.Nat.{pow-suc}
 use Rattle.std.proofs.Math.Arith.{digits_div, digits_lt, digits_mod}
-use Rattle.std.proofs.lemmas.Nat.{and_comm, and_mask}
 use Rattle.std.specs.Int.Bits.{and_step, bit_and}
 use Rattle.std.proofs.Math.Dec.{lit<}
 use Rattle.std.proofs.Math.ListN.{length}
@@ -104,19 +103,7 @@ module _ {A : Type 0} (ok : A → Bool) where
           ∙ even (dealt xs a) (dealt xs b)
           ∙ ap₂ bit_and (sym (dealt_miss x xs a e)) (sym (dealt_miss x xs b e))
 
-  anded-dealt : (xs : List A) (x : ℕ) (vs : List ℕ) → anded (dealt xs x) (map (dealt xs) vs) ≡ dealt xs (anded x vs)
+  pub anded-dealt : (xs : List A) (x : ℕ) (vs : List ℕ) → anded (dealt xs x) (map (dealt xs) vs) ≡ dealt xs (anded x vs)
   unfolding anded
   anded-dealt xs x [] = refl
   anded-dealt xs x (v ∷ vs) = ap (λ (a : ℕ). anded a (map (dealt xs) vs)) (sym (dealt_and xs x v)) ∙ anded-dealt xs (bit_and x v) vs
-
-  within : (v : ℕ) → v < 2 ^ 16 → bit_and 65535 v ≡ v
-  within v h = and_comm 65535 v ∙ and_mask v 16 ∙ mod-eq_of_lt h
-
-  -- THE VECTORS OF SEVERAL MACHINES, dealt out and ANDed: the same as ANDed and dealt out
-  pub dealt-anded : (xs : List A) (v : ℕ) (vs : List ℕ) → length xs ≤ 16 → v < 2 ^ 16
-      → anded 65535 (map (dealt xs) (v ∷ vs)) ≡ dealt xs (anded 65535 (v ∷ vs))
-  unfolding anded
-  dealt-anded xs v vs few small =
-      ap (λ (a : ℕ). anded a (map (dealt xs) vs)) (within (dealt xs v) (lt_of_lt_of_le (dealt_lt xs v) (pow_mono few)))
-      ∙ anded-dealt xs v vs
-      ∙ ap (λ (a : ℕ). dealt xs (anded a vs)) (sym (within v small))

@@ -1,5 +1,5 @@
 -- What an expected reading amounts to, whatever is found and whatever its places are.
-use Rattle.std.specs.Prelude.{◌+◌, ◌-◌, ◌<◌, ◌≤◌, suc, ℕ, false, true, List, [], ◌++◌, ◌∷◌, ◌⊎◌, ◌≡◌, refl, leb, length, take}
+use Rattle.std.specs.Prelude.{◌+◌, ◌-◌, ◌<◌, ◌≤◌, suc, ℕ, true, List, [], ◌++◌, ◌∷◌, ◌⊎◌, ◌≡◌, refl, leb, length, take}
 use Rattle.std.proofs.Math.Path.{ap}
 use Rattle.std.proofs.Common.{arith}
 use Rattle.matching.specs.Laws.Inputs.{all-by, done-by, input_step_lem}

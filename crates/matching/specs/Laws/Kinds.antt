@@ -1,5 +1,5 @@
 -- How kinds read bytes, and what is chosen of a list.
-use Rattle.std.specs.Prelude.{◌+◌, ◌<◌, ◌≤◌, ℕ, Bool, ◌&&◌, false, true, ◌⊎◌, ◌≡◌, eqb, leb}
+use Rattle.std.specs.Prelude.{◌<◌, ◌≤◌, ℕ, Bool, ◌&&◌, false, true, ◌⊎◌, ◌≡◌, eqb, leb}
 use mathlib.Core.List.{List, [], ◌++◌, ◌∷◌, map}
 use Rattle.std.proofs.Common.{inl, inr, ap}
 use Rattle.std.proofs.Math.Path.{refl}

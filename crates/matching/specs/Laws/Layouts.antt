@@ -9,15 +9,14 @@ use Rattle.matching.specs.Kinds.{TagKind, exact_kind, is_among, kind_of, kinds, 
 use Rattle.matching.specs.Laws.Bools.{and_both, decided, is_true, not-both, or_cases}
 use Rattle.matching.specs.Laws.Built.{place_after-start}
 use Rattle.matching.specs.Laws.Kinds.{chosen_hit, chosen_miss, every-chosen, kind_of-short, kinds-short}
-use Rattle.matching.specs.Laws.Prefixes.{states-some}
-use Rattle.matching.specs.Laws.Readings.{Holds, below-place_after}
+use Rattle.matching.specs.Laws.Readings.{Holds}
 use Rattle.matching.specs.Laws.Slots.{slots-fit}
 use Rattle.matching.specs.Laws.Tables.{Judged, all_fit, built-holds, built-length, judged, one-short}
 use Rattle.matching.specs.Laws.Words.{eqb_eq}
 use Rattle.matching.specs.Limits.{longest_tag}
 use Rattle.matching.specs.Machine.{states}
 use Rattle.matching.specs.Parts.{Layout, Part, Runs, first_length, first_run, has_part, kinds_for, lengths, named, or_else, part_built, part_room, part_slots, part_table}
-use Rattle.matching.specs.Parts.{place_below, place_in, room_in, slots_over, split_layout, start_in, tables_for, whole_layout, width}
+use Rattle.matching.specs.Parts.{place_below, place_in, room_in, split_layout, start_in, tables_for, whole_layout, width}
 use Rattle.matching.specs.Reading.{all_below, place_after}
 use Rattle.matching.specs.Slicing.{Slicing}
 use Rattle.matching.specs.Table.{Room, built, enough_slots, room_from, short_of_slots, slot_size, tags_for, vector_in}
@@ -161,17 +160,6 @@ tables-lengths [] tags (run ∷ runs) e = absurd (omega (arith, e))
 tables-lengths (p ∷ ps) tags [] e = absurd (omega (arith, e))
 tables-lengths (p ∷ ps) tags (run ∷ runs) e = ap₂ ◌∷◌ (part_length p tags run) (tables-lengths ps tags runs (omega (arith, e)))
 
--- ---- slots
-
--- machines with slots enough have one for the start state
-pub enough-some : (layout : Layout) (tags : Tags) (lens : List ℕ) → Sliced layout → EnoughIn layout tags lens → SlotsFor layout (slots_over layout lens)
-unfolding slots_over
-enough-some [] tags lens z f = tt
-enough-some (p ∷ ps) tags lens z f = (
-  omega (arith, f.0 0 (omega (arith, z.0.machines)), states-some (tags_for p.bits (of_kind p.kind tags) 0)),
-  enough-some ps tags (drop 1 lens) z.1 f.1,
-)
-
 -- ---- places
 
 pub place_after-length : (n : ℕ) (ts : List Word) (m k : ℕ) (v : Word) → length (place_after n ts m k v) ≡ k
@@ -233,20 +221,6 @@ left-holds p tags run l =
     let mark = vector_in p.kind p.bits tags in
     subst (Holds p.bits p.machines s (of_kind p.kind tags) mark) (sym l.is)
     (built-holds p.bits p.machines s (of_kind p.kind tags) mark l.rest l.enough)
-
--- over runs as left, each state after any input is below the slots
-pub place_in-below : (layout : Layout) (tags : Tags) (runs : Runs) → LeftIn layout tags runs → (v : Word)
-    → place_below layout (slots_over layout (lengths runs)) (place_in layout tags v) ≡ true
-unfolding place_below slots_over
-place_in-below [] tags runs l v = refl
-place_in-below (p ∷ ps) tags runs l v =
-    let place = place_in (p ∷ ps) tags v in
-    let s = part_slots p (first_length (lengths runs)) in
-    and_both (all_below s (take p.machines place)) (place_below ps (slots_over ps (drop 1 (lengths runs))) (drop p.machines place))
-    (rw (place_in-own p ps tags v, first-length runs)
-    (below-place_after p.bits p.machines (part_slots p (length (first_run runs))) (of_kind p.kind tags) (vector_in p.kind p.bits tags)
-    (first_run runs) (left-holds p tags (first_run runs) l.0) p.machines 0 (word_as p.kind v) (omega arith)))
-    (rw (place_in-others p ps tags v, other-lengths runs) (place_in-below ps tags (drop 1 runs) l.1 v))
 
 -- ---- kinds
 

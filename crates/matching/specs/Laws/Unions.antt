@@ -1,7 +1,7 @@
 -- The numbers of either of two lists, and of lists that rise.
 use Rattle.std.specs.Prelude.{◌%◌, ◌/◌, ◌<◌, ◌≤◌, max, suc, zero, ℕ, Bool, ◌||◌, false, true, List, [], ◌∷◌, ◌⊎◌, ◌≡◌, refl, eqb, ltb}
 use Rattle.std.proofs.Common.{inl, inr, ◌∙◌, ap₂, sym, mod-lt, arith, lit<, ltb→lt, lt→ltb}
-use Rattle.std.proofs.Math.Path.{ap}
+use Rattle.std.proofs.Math.Path.{ap, subst}
 use Rattle.std.proofs.Math.Decide.{dec_lt, ℕ_discrete}
 use Rattle.std.proofs.Math.Arith.{digits_div, digits_mod}
 use Rattle.std.specs.Int.Bits.{bit_or, or_step}
@@ -62,7 +62,7 @@ every-insert P i (j ∷ js) p h = go (stands i j) (every-insert P i js p h.1)
   where
     go : Stands i j → Every P (insert i js) → Every P (insert i (j ∷ js))
     go (lower_than l) ih = rw (insert_lt i j js l) (p, h)
-    go (same_as e) ih = rw (e, insert_eq j js) h
+    go (same_as e) ih = subst (λ (x : ℕ). Every P (insert x (j ∷ js))) (sym e) (rw (insert_eq j js) h)
     go (higher_than l) ih = rw (insert_gt i j js l) (h.0, ih)
 
 insert_rising : (i : ℕ) (js : List ℕ) → Rising js → Rising (insert i js)
@@ -72,7 +72,7 @@ insert_rising i (j ∷ js) r = go (stands i j) (insert_rising i js r.1)
   where
     go : Stands i j → Rising (insert i js) → Rising (insert i (j ∷ js))
     go (lower_than l) ih = rw (insert_lt i j js l) ((l, every_map (λ x. j < x) _ js (λ x k. omega (arith, l, k)) r.0), r)
-    go (same_as e) ih = rw (e, insert_eq j js) r
+    go (same_as e) ih = subst (λ (x : ℕ). Rising (insert x (j ∷ js))) (sym e) (rw (insert_eq j js) r)
     go (higher_than l) ih = rw (insert_gt i j js l) (every-insert (λ x. j < x) i js l r.0, ih)
 
 -- ---- unions

@@ -8,7 +8,7 @@ use Rattle.std.proofs.Math.ListN.{get_or}
 use Rattle.std.proofs.lemmas.List.{get_or-replicate}
 use Rattle.matching.specs.Laws.Bools.{and_both, and_l, and_r, is_true}
 use Rattle.matching.specs.Laws.Machine.{next_lt}
-use Rattle.matching.specs.Laws.Prefixes.{tree}
+use Rattle.matching.proofs.Laws.Prefixes.{tree}
 use Rattle.matching.specs.Laws.Readings.{slice_lt}
 use Rattle.matching.specs.Laws.Tables.{built-at, slot_next, slot_unused}
 use Rattle.matching.specs.Machine.{prefixes, states}
