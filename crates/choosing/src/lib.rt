@@ -1,4 +1,6 @@
 // The tags of one kind among those of a set (docs/RULES.md, 2): where they lie, and a vector over them made into one over the whole set.
+#![tactic(auto)]
+
 ghost use Rattle.std.specs.Prelude.{◌≡◌, ◌+◌, ◌<◌, ◌≤◌, length};
 ghost use Rattle.matching.specs.Laws.Dealt.{dealt};
 ghost use Rattle.choosing.specs.Choosing.{Choosing, ChosenOf, PlacesFit, with_place};
@@ -7,7 +9,7 @@ ghost use Rattle.choosing.specs.Dealing.{DealtOut, Small, dealt_next, is_of};
 use tagset::Places;
 
 // Where the tags of one kind lie in the bytes of their set, in the order of the set. What stands past the count is nobody's.
-#[derive(Drop)]
+#[derive(Clone, Copy)]
 pub struct Chosen {
     pub count: usize,
     pub from: [usize; 16],

@@ -1,4 +1,6 @@
 // The kinds of tag (docs/RULES.md, 1) in code: the table of them, and the folding of bytes.
+#![tactic(auto)]
+
 pub mod folding;
 
 ghost use Rattle.std.specs.Prelude.{◌≡◌, ◌||◌, ◌<◌, ◌≤◌, ltb, get_or, take};

@@ -1,18 +1,21 @@
 -- Letters, and the test whether a tag ends a word.
-use Prim.Native.Nat.{◌*◌, ◌+◌, ◌-◌, ◌<◌, ◌≤◌, suc, ℕ}
-use mathlib.Core.Bool.{Bool, cond, false, true}
-use mathlib.Core.List.{List, [], ◌++◌, ◌∷◌, map}
-use mathlib.Core.Path.{◌∙◌, ◌≡◌, ap, ap₂, refl, sym}
+use Prim.Native.Nat.{suc, ℕ, ◌*◌, ◌+◌, ◌-◌, ◌<◌, ◌≤◌}
+use mathlib.Core.Bool.{Bool, cond, false, true, ◌&&◌}
+use mathlib.Core.List.{List, [], append-nil, append_assoc, map, ◌++◌, ◌∷◌}
+use mathlib.Core.Path.{ap, ap₂, refl, sym, ◌∙◌, ◌≡◌}
 use native.Mathlib.Numerals.{add-one}
 use native.Mathlib.Omega.{arith}
-use lib.ListN.{drop, drop_of_length-le, get_or, length, length-drop, set, take}
+use lib.ListN.{drop, drop_of_length-le, get_or, get_or-append, length, length-append, length-drop, set, take}
 use lib.Pow.{pow_mono}
-use lib.Seq.{drop-cons, get_or-drop, take_all, take-suc, take-suc-set}
-use Rattle.matching.specs.Laws.Bools.{is_false}
+use lib.Seq.{append_snoc, drop-cons, get_or-append_seam, get_or-drop, take-length, take-suc, take-suc-set, take_all}
+use Rattle.matching.specs.Laws.Bools.{and_both, and_l, and_r, both_ways, is_false}
 use Rattle.matching.specs.Laws.Vectors.{one_lt, vector_lt}
-use Rattle.matching.specs.Laws.Words.{drop-ends, ends-drop}
+use Rattle.matching.specs.Laws.Words.{drop-ends, ends-drop, ends-split, ends_append}
 use Rattle.matching.specs.Machine.{vector, vector_by}
 use Rattle.matching.specs.Words.{Word, ends}
+use lib.Dec.{eqb, ltb}
+use borrow.Author.Tests.{eq-eqb, eqb-true, lt-ltb, ltb-true}
+use Rattle.machines.specs.Letters.{agree_at}
 
 -- ---- spelling
 
@@ -89,3 +92,61 @@ module _ (ts : List Word) (w : Word) where
 
 pub bit_small : (b : Bool) (z : ℕ) → z ≡ cond b 1 0 → z ≤ 1
 bit_small b z e = omega (arith, one_lt b)
+
+-- a tag one letter longer ends a word: what ended it before, and the letter before that
+ends_longer : (x : ℕ) (u w : Word) → ends (x ∷ u) w ≡ (ends u w && (ltb (length u) (length w) && eqb (get_or w (length w - 1 - length u) 0) x))
+ends_longer x u w =
+    both_ways (ends (x ∷ u) w) (ends u w && (ltb (length u) (length w) && eqb (get_or w (length w - 1 - length u) 0) x)) to from
+  where
+    at : (v : Word) → w ≡ v ++ x ∷ u → length w - 1 - length u ≡ length v
+    at v e = omega (arith, ap {B = ℕ} length e, length-append v (x ∷ u))
+
+    to : ends (x ∷ u) w ≡ true → (ends u w && (ltb (length u) (length w) && eqb (get_or w (length w - 1 - length u) 0) x)) ≡ true
+    to h =
+        let s = ends-split (x ∷ u) w h in
+        let v = s.0 in
+        let e : w ≡ v ++ x ∷ u = s.1 in
+        and_both (ends u w) (ltb (length u) (length w) && eqb (get_or w (length w - 1 - length u) 0) x)
+        (rw (e, ← append_snoc v x u) (ends_append (v ++ x ∷ []) u))
+        (and_both (ltb (length u) (length w)) (eqb (get_or w (length w - 1 - length u) 0) x)
+        (lt-ltb (length u) (length w) (omega (arith, ap {B = ℕ} length e, length-append v (x ∷ u))))
+        (eq-eqb (get_or w (length w - 1 - length u) 0) x
+        (ap (λ (i : ℕ). get_or w i 0) (at v e) ∙ ap (λ (l : Word). get_or l (length v) 0) e ∙ get_or-append_seam v x u 0)))
+
+    from : (ends u w && (ltb (length u) (length w) && eqb (get_or w (length w - 1 - length u) 0) x)) ≡ true → ends (x ∷ u) w ≡ true
+    from h =
+        let b = and_r (ends u w) (ltb (length u) (length w) && eqb (get_or w (length w - 1 - length u) 0) x) h in
+        let s = ends-split u w (and_l (ends u w) (ltb (length u) (length w) && eqb (get_or w (length w - 1 - length u) 0) x) h) in
+        let v = s.0 in
+        let e : w ≡ v ++ u = s.1 in
+        let n : length w ≡ length v + length u = ap {B = ℕ} length e ∙ length-append v u in
+        let less : length u < length w = ltb-true _ _ (and_l (ltb (length u) (length w)) (eqb (get_or w (length w - 1 - length u) 0) x) b) in
+        let is : get_or w (length w - 1 - length u) 0 ≡ x = eqb-true _ _ (and_r (ltb (length u) (length w)) (eqb (get_or w (length w - 1 - length u) 0) x) b) in
+        let j = length v - 1 in
+        let k : suc j ≡ length v = omega arith in
+        let m : length w - 1 - length u ≡ j = omega arith in
+        let last : get_or v j 0 ≡ x =
+        sym (get_or-append v u 0 j (omega arith)) ∙ ap (λ (l : Word). get_or l j 0) (sym e) ∙ ap (λ (i : ℕ). get_or w i 0) (sym m) ∙ is in
+        let whole : v ≡ take j v ++ x ∷ [] =
+        sym (take-length v) ∙ ap (λ (i : ℕ). take i v) (sym k) ∙ take-suc v j 0 (omega arith) ∙ ap (λ (y : ℕ). take j v ++ y ∷ []) last in
+        let cut : w ≡ take j v ++ x ∷ u = e ∙ ap (λ (l : Word). l ++ u) whole ∙ append_assoc (take j v) (x ∷ []) u in
+        rw cut (ends_append (take j v) (x ∷ u))
+
+pub ends-back : (w t : Word) (i : ℕ) → i < length t → ends (drop (length t - (i + 1)) t) w ≡ (ends (drop (length t - i) t) w && agree_at w t i)
+ends-back w t i h =
+    let j : length t - (i + 1) ≡ length t - 1 - i = omega arith in
+    let k : suc (length t - 1 - i) ≡ length t - i = omega arith in
+    let n : length (drop (length t - i) t) ≡ i = length-drop (length t - i) t ∙ omega arith in
+    let e : drop (length t - (i + 1)) t ≡ get_or t (length t - 1 - i) 0 ∷ drop (length t - i) t =
+    ap (λ (a : ℕ). drop a t) j ∙ drop-cons t (length t - 1 - i) 0 (omega arith) ∙ ap (λ (a : ℕ). get_or t (length t - 1 - i) 0 ∷ drop a t) k in
+    rw e
+    (ends_longer (get_or t (length t - 1 - i) 0) (drop (length t - i) t) w
+    ∙ ap (λ (a : ℕ). ends (drop (length t - i) t) w && (ltb a (length w) && eqb (get_or w (length w - 1 - a) 0) (get_or t (length t - 1 - i) 0))) n)
+
+pub ends-none : (w t : Word) → true ≡ ends (drop (length t - 0) t) w
+ends-none w t =
+    let e : drop (length t - 0) t ≡ [] = drop_of_length-le t {i = length t - 0} (omega arith) in
+    rw e (sym (rw (append-nil w) at (ends_append w [])))
+
+pub ends-whole : (w t : Word) (i : ℕ) → length t ≤ i → ends (drop (length t - i) t) w ≡ ends t w
+ends-whole w t i h = let e : length t - i ≡ 0 = omega arith in rw e

@@ -13,7 +13,8 @@ use lib.Seq.{append_snoc, length-take-le, take-length, take-suc}
 use borrow.Author.Tests.{le-leb, leb-true, lt-leb}
 use Rattle.machines.specs.Fronts.{known, shared}
 use Rattle.matching.specs.Laws.Bools.{both_ways, is_false, or_cases, or_l, or_r}
-use Rattle.matching.specs.Laws.Prefixes.{among-prefixes, states_le, total_length, with_word-new, with_word-old}
+use Rattle.matching.specs.Laws.Prefixes.{total_length, with_word-new, with_word-old}
+use Rattle.matching.proofs.Laws.Prefixes.{among-prefixes, states_le}
 use Rattle.matching.specs.Laws.Words.{begins-split, ne_same}
 use Rattle.matching.specs.Machine.{prefixes, states, with_prefixes, with_tags, with_word}
 use Rattle.matching.specs.Words.{AllShort, Word, among, begins, begins_one, same}

@@ -8,7 +8,7 @@ use native.Mathlib.Omega.{arith}
 use lib.ListN.{drop, get_or, length, length-append, take, take-append-drop}
 use lib.Seq.{take-append_seam}
 use Rattle.matching.specs.Laws.Bools.{or_cases, or_l, or_r}
-use Rattle.matching.specs.Laws.Prefixes.{among-prefixes}
+use Rattle.matching.proofs.Laws.Prefixes.{among-prefixes}
 use Rattle.matching.specs.Laws.Words.{begins_append, begins-split, same_eq}
 use Rattle.matching.specs.Machine.{prefixes}
 use Rattle.matching.specs.Words.{Word, among, begins, begins_one, same}

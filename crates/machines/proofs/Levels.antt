@@ -20,7 +20,7 @@ use Rattle.machines.specs.Fronts.{known}
 use Rattle.machines.specs.Rows.{Done, Filled, Level, Made, Place, Sown, cell}
 use Rattle.matching.specs.Laws.Links.{next-child}
 use Rattle.matching.specs.Laws.Machine.{longest-among, longest-length, longest_nil, next-longest}
-use Rattle.matching.specs.Laws.Prefixes.{index_of_nil, tree}
+use Rattle.matching.proofs.Laws.Prefixes.{index_of_nil, tree}
 use Rattle.matching.specs.Laws.Words.{among_get_d, get_d_index_of, index_of_get_d, index_of_lt}
 use Rattle.matching.specs.Machine.{longest, prefixes, states, vector}
 use Rattle.matching.specs.Words.{Word, among, index_of}

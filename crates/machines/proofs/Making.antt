@@ -16,10 +16,9 @@ use Rattle.machines.specs.Rows.{Done, Made, Sown, cell, pick_of}
 use Rattle.matching.specs.Laws.Bools.{decided}
 use Rattle.matching.specs.Laws.Links.{child, child-is, child-none, failure, next-child, next-failure}
 use Rattle.matching.specs.Laws.Machine.{longest_miss, longest_nil}
-use Rattle.matching.specs.Laws.Prefixes.{index_of_nil, tree}
+use Rattle.matching.proofs.Laws.Prefixes.{index_of_nil, tree}
 use Rattle.matching.specs.Laws.Words.{get_d_index_of, index_of_lt}
 use Rattle.matching.specs.Machine.{longest, next, prefixes, states, vector}
-use Rattle.matching.specs.Reading.{nexts}
 use Rattle.matching.specs.Words.{Word, among, index_of}
 
 pub states-is : (ts : List Word) → length (prefixes ts) ≡ states ts

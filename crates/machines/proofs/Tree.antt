@@ -8,7 +8,7 @@ use native.Mathlib.Decide.{dec_lt, ℕ_discrete}
 use native.Mathlib.Nat.{suc-mul}
 use native.Mathlib.Numerals.{add-one}
 use native.Mathlib.Omega.{arith}
-use lib.Dec.{T, eqb}
+use lib.Dec.{eqb}
 use lib.ListN.{get_or, length, length-append, set, take}
 use lib.Seq.{get_or-set_other, get_or-set_same, take_all, take-suc}
 use borrow.Author.Tests.{eq-eqb, ne_eqb}
@@ -19,7 +19,8 @@ use Rattle.machines.specs.Rows.{Fit, Planted, Planting, Roomy, Sown, cell, sown_
 use Rattle.matching.specs.Laws.Bools.{decided, is_false}
 use Rattle.matching.specs.Laws.Links.{child, child-is, child-kept, child_leaf, child-new, child-none}
 use Rattle.matching.specs.Laws.Machine.{AllAmong}
-use Rattle.matching.specs.Laws.Prefixes.{Tree, index_of_nil, tags-among, tree, with_word-new, with_word-old}
+use Rattle.matching.specs.Laws.Prefixes.{Tree, with_word-new, with_word-old}
+use Rattle.matching.proofs.Laws.Prefixes.{index_of_nil, tags-among, tree}
 use Rattle.matching.specs.Laws.Words.{among_one, get_d_index_of, index_of_lt, index_of-new}
 use Rattle.matching.specs.Machine.{prefixes, states, with_tags, with_word}
 use Rattle.matching.specs.Words.{Word, among, index_of}

@@ -35,10 +35,8 @@ fn shared_front(v: &[u8], w: &[u8]) -> usize
 
 // The letters that tag t shares with a tag before it: its prefixes of at most so many are theirs too.
 pub fn known_front(letters: &[u8], from: &[usize], to: &[usize], t: usize) -> usize
-    ghost ts: { List Word }
-    requires to_value { cut_at letters.now from.now to.now ≡ ts }
-    requires t_in_bounds { t < length ts }
-    ensures { result ≡ known (take t ts) (get_or ts t []) }
+    requires { let ts = cut_at letters.now from.now to.now in t < length ts }
+    ensures { let ts = cut_at letters.now from.now to.now in result ≡ known (take t ts) (get_or ts t []) }
 {
     let tag = tag_bytes(letters, from, to, t);
     let mut most = 0;
@@ -53,10 +51,8 @@ pub fn known_front(letters: &[u8], from: &[usize], to: &[usize], t: usize) -> us
 
 // The known front of each tag.
 pub fn known_fronts(letters: &[u8], from: &[usize], to: &[usize]) -> [usize; 16]
-    ghost ts: { List Word }
-    requires to_value { cut_at letters.now from.now to.now ≡ ts }
-    requires ts_len { (length ts ≡ length from.now) × (length ts ≤ 16) }
-    ensures { (t : ℕ) → t < length ts → get_or result t 0 ≡ known (take t ts) (get_or ts t []) }
+    requires { let ts = cut_at letters.now from.now to.now in (length ts ≡ length from.now) × (length ts ≤ 16) }
+    ensures { let ts = cut_at letters.now from.now to.now in (t : ℕ) → t < length ts → get_or result t 0 ≡ known (take t ts) (get_or ts t []) }
 {
     let mut fronts = [0usize; 16];
     let mut t = 0;

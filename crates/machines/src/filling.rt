@@ -69,10 +69,8 @@ fn deepen(
     fail: &mut [usize; 16],
     part: &mut [u16],
 )
-    ghost ts: { List Word }
-    requires to_value { cut_at letters.now from.now to.now ≡ ts }
-    requires t_in_bounds { (t < length ts) × Filling (length from.now) ts m d t fronts.now at.old fail.old part.old }
-    ensures { Level ts m d (t + 1) at.new fail.new part.new }
+    requires { let ts = cut_at letters.now from.now to.now in (t < length ts) × Filling (length from.now) ts m d t fronts.now at.old fail.old part.old }
+    ensures { let ts = cut_at letters.now from.now to.now in Level ts m d (t + 1) at.new fail.new part.new }
 {
     let tag = tag_bytes(letters, from, to, t);
     if tag.len() <= d {
@@ -103,10 +101,8 @@ fn level(
     fail: &mut [usize; 16],
     part: &mut [u16],
 )
-    ghost ts: { List Word }
-    requires to_value { cut_at letters.now from.now to.now ≡ ts }
-    requires filling { Filling (length from.now) ts m d 0 fronts.now at.old fail.old part.old }
-    ensures { Level ts m (d + 1) 0 at.new fail.new part.new }
+    requires { let ts = cut_at letters.now from.now to.now in Filling (length from.now) ts m d 0 fronts.now at.old fail.old part.old }
+    ensures { let ts = cut_at letters.now from.now to.now in Level ts m (d + 1) 0 at.new fail.new part.new }
 {
     let mut t = 0;
     while t < from.len() {
@@ -117,10 +113,8 @@ fn level(
 
 // All slots. The start state's nexts are its children as they stand.
 pub fn fill(letters: &[u8], from: &[usize], to: &[usize], m: usize, part: &mut [u16])
-    ghost ts: { List Word }
-    requires to_value { cut_at letters.now from.now to.now ≡ ts }
-    requires fit { (Fit (length from.now) ts) × (Roomy ts m (length part.old)) × (Planted ts m (states ts) part.old) }
-    ensures { Filled ts m part.new }
+    requires { let ts = cut_at letters.now from.now to.now in (Fit (length from.now) ts) × (Roomy ts m (length part.old)) × (Planted ts m (states ts) part.old) }
+    ensures { let ts = cut_at letters.now from.now to.now in Filled ts m part.new }
 {
     let fronts = known_fronts(letters, from, to);
     part[m] = vector_of(&letters[..0], letters, from, to);

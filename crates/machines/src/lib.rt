@@ -1,4 +1,6 @@
 // One machine: what it sees of a set, the states that it needs, and its slots (docs/RULES.md, 2 and 3).
+#![tactic(auto)]
+
 ghost use Rattle.std.specs.Prelude.{◌≡◌, List, map, ◌<◌, ◌≤◌, max, length, take};
 ghost use Rattle.matching.specs.Words.{Word};
 ghost use Rattle.matching.specs.Machine.{states};
@@ -45,10 +47,8 @@ pub fn larger(a: usize, b: usize) -> usize
 // The states of a machine: its distinct prefixes, the empty one included. They are counted from the tags alone: a tag adds those of its
 // prefixes that are longer than what it shares with one before it.
 pub fn count_states(letters: &[u8], from: &[usize], to: &[usize]) -> usize
-    ghost ts: { List Word }
-    requires to_value { cut_at letters.now from.now to.now ≡ ts }
-    requires fit { Fit (length from.now) ts }
-    ensures { result ≡ states ts }
+    requires { let ts = cut_at letters.now from.now to.now in Fit (length from.now) ts }
+    ensures { let ts = cut_at letters.now from.now to.now in result ≡ states ts }
 {
     let mut count = 1;
     let mut t = 0;
@@ -62,10 +62,8 @@ pub fn count_states(letters: &[u8], from: &[usize], to: &[usize]) -> usize
 
 // The slots of a machine of m letters, whatever stood there.
 pub fn make_slots(letters: &[u8], from: &[usize], to: &[usize], m: usize, part: &mut [u16])
-    ghost ts: { List Word }
-    requires to_value { cut_at letters.now from.now to.now ≡ ts }
-    requires fit { (Fit (length from.now) ts) × (Roomy ts m (length part.old)) }
-    ensures { Filled ts m part.new }
+    requires { let ts = cut_at letters.now from.now to.now in (Fit (length from.now) ts) × (Roomy ts m (length part.old)) }
+    ensures { let ts = cut_at letters.now from.now to.now in Filled ts m part.new }
 {
     clear(part);
     plant(letters, from, to, m, part);

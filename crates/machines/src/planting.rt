@@ -41,10 +41,8 @@ fn plant_tag(
     count: usize,
     part: &mut [u16],
 ) -> usize
-    ghost ts: { List Word }
-    requires to_value { cut_at letters.now from.now to.now ≡ ts }
-    requires t_in_bounds { (t < length ts) × Planting (length from.now) ts m t count part.old }
-    ensures { Planted (take (t + 1) ts) m result part.new }
+    requires { let ts = cut_at letters.now from.now to.now in (t < length ts) × Planting (length from.now) ts m t count part.old }
+    ensures { let ts = cut_at letters.now from.now to.now in Planted (take (t + 1) ts) m result part.new }
 {
     let tag = tag_bytes(letters, from, to, t);
     let width = m + 1;
@@ -62,10 +60,8 @@ fn plant_tag(
 
 // The whole tree, in slots that hold zeros.
 pub fn plant(letters: &[u8], from: &[usize], to: &[usize], m: usize, part: &mut [u16])
-    ghost ts: { List Word }
-    requires to_value { cut_at letters.now from.now to.now ≡ ts }
-    requires planting { Planting (length from.now) ts m 0 1 part.old }
-    ensures { Planted ts m (states ts) part.new }
+    requires { let ts = cut_at letters.now from.now to.now in Planting (length from.now) ts m 0 1 part.old }
+    ensures { let ts = cut_at letters.now from.now to.now in Planted ts m (states ts) part.new }
 {
     let mut count = 1;
     let mut t = 0;

@@ -1,8 +1,9 @@
 // Words: the test whether a tag ends one, and the vector of a word.
-ghost use Rattle.std.specs.Prelude.{◌≡◌, cond, List, ◌<◌, ◌≤◌, length};
+ghost use Rattle.std.specs.Prelude.{◌≡◌, ◌&&◌, cond, List, ◌<◌, ◌≤◌, length};
 ghost use Rattle.matching.specs.Words.{Word, ends};
 ghost use Rattle.matching.specs.Machine.{vector};
 ghost use Rattle.tagset.specs.Answer.{cut_at};
+ghost use Rattle.machines.specs.Letters.{agree_at};
 
 use tagset::tag_bytes;
 
@@ -23,6 +24,23 @@ pub fn narrow(x: usize) -> u16
     ensures { result ≡ x }
 {
     x as u16
+}
+
+fn both(a: bool, b: bool) -> bool
+    ensures { result ≡ (a && b) }
+{
+    if a { b } else { false }
+}
+
+// Whether the letters at place i from the ends of a word and a tag are there and the same.
+fn agrees(word: &[u8], tag: &[u8], i: usize) -> bool
+    requires { i < length tag.now }
+    ensures { result ≡ agree_at word.now tag.now i }
+{
+    if word.len() <= i {
+        return false;
+    }
+    word[word.len() - 1 - i] == tag[tag.len() - 1 - i]
 }
 
 // Whether a tag ends a word: none ends a shorter one; else letter by letter from the end, up to the first difference.
@@ -50,10 +68,8 @@ fn bit(b: bool) -> usize
 
 // The vector of a word: bit i is set exactly if tag i ends it.
 pub fn vector_of(word: &[u8], letters: &[u8], from: &[usize], to: &[usize]) -> u16
-    ghost ts: { List Word }
-    requires to_value { cut_at letters.now from.now to.now ≡ ts }
-    requires ts_len { (length ts ≡ length from.now) × (length ts ≤ 16) }
-    ensures { result ≡ vector ts word.now }
+    requires { let ts = cut_at letters.now from.now to.now in (length ts ≡ length from.now) × (length ts ≤ 16) }
+    ensures { let ts = cut_at letters.now from.now to.now in result ≡ vector ts word.now }
 {
     let mut v: usize = 0;
     let mut i = from.len();

@@ -1,4 +1,6 @@
 // Reading a tag set (docs/RULES.md, 1).
+#![tactic(auto)]
+
 ghost use Rattle.std.specs.Prelude.{◌≡◌, ◌&&◌, [], ◌+◌, ◌*◌, ◌-◌, ◌<◌, ◌≤◌, min, eqb, length, get_or, take, drop};
 ghost use Rattle.matching.specs.Kinds.{folded_kind, kinds};
 ghost use Rattle.matching.specs.Tags.{Tags, no_tag, word_as};
@@ -15,7 +17,7 @@ use kinds::{FOLDED, Takes, row_of, rows_taken, wrong_length};
 const MOST_TAGS: usize = 16;
 
 // Why a set is refused, with the entry at fault.
-#[derive(Drop)]
+#[derive(Clone, Copy)]
 pub enum SetFault {
     Cut(usize),
     Many(usize),
@@ -26,7 +28,7 @@ pub enum SetFault {
 }
 
 // Where each tag lies in the bytes of its set: tag i from from[i] up to to[i]; and its kind. Past the count all are 0.
-#[derive(Drop)]
+#[derive(Clone, Copy)]
 pub struct Places {
     pub count: usize,
     pub from: [usize; 16],
@@ -34,7 +36,7 @@ pub struct Places {
     pub kinds: [usize; 16],
 }
 
-#[derive(Drop)]
+#[derive(Clone, Copy)]
 pub enum Verdict {
     Good,
     Bad(SetFault),
@@ -222,11 +224,9 @@ fn equals<'a>(
     kinds: &[usize],
     i: usize,
 ) -> bool
-    ghost tags: { Tags }
-    requires kinds_value { tags_in set.now from.now to.now kinds.now ≡ tags }
     requires lying { Lying set.now folded.now from.now to.now kinds.now }
-    requires i_in_bounds { i < length tags }
-    ensures { result ≡ (eqb (get_or tags i no_tag).kind kind && same tag.now (word_as kind (get_or tags i no_tag).word)) }
+    requires i_in_bounds { let tags = tags_in set.now from.now to.now kinds.now in i < length tags }
+    ensures { let tags = tags_in set.now from.now to.now kinds.now in result ≡ (eqb (get_or tags i no_tag).kind kind && same tag.now (word_as kind (get_or tags i no_tag).word)) }
 {
     if kinds[i] != kind {
         return false;
@@ -245,11 +245,9 @@ fn repeats<'a>(
     kinds: &[usize],
     t: usize,
 ) -> bool
-    ghost tags: { Tags }
-    requires kinds_value { tags_in set.now from.now to.now kinds.now ≡ tags }
     requires lying { Lying set.now folded.now from.now to.now kinds.now }
-    requires t_in_bounds { t < length tags }
-    ensures { result ≡ among_tags (get_or tags t no_tag) (take t tags) }
+    requires t_in_bounds { let tags = tags_in set.now from.now to.now kinds.now in t < length tags }
+    ensures { let tags = tags_in set.now from.now to.now kinds.now in result ≡ among_tags (get_or tags t no_tag) (take t tags) }
 {
     let kind = kinds[t];
     let bytes = read_as(kind, set, folded);
@@ -272,10 +270,8 @@ fn distinct_in<'a>(
     to: &[usize],
     kinds: &[usize],
 ) -> Verdict
-    ghost tags: { Tags }
-    requires kinds_value { tags_in set.now from.now to.now kinds.now ≡ tags }
-    requires lying { Lying set.now folded.now from.now to.now kinds.now }
-    ensures { result ≡ verdict_of (distinct [] 0 tags) }
+    requires { Lying set.now folded.now from.now to.now kinds.now }
+    ensures { let tags = tags_in set.now from.now to.now kinds.now in result ≡ verdict_of (distinct [] 0 tags) }
 {
     let mut t = 0;
     while t < from.len() {
@@ -289,10 +285,8 @@ fn distinct_in<'a>(
 
 // The same, with the set folded for the tags that are compared so.
 fn distinct_tags(set: &[u8], from: &[usize], to: &[usize], kinds: &[usize]) -> Verdict
-    ghost tags: { Tags }
-    requires kinds_value { tags_in set.now from.now to.now kinds.now ≡ tags }
-    requires cut { Cut set.now from.now to.now kinds.now }
-    ensures { result ≡ verdict_of (distinct [] 0 tags) }
+    requires { Cut set.now from.now to.now kinds.now }
+    ensures { let tags = tags_in set.now from.now to.now kinds.now in result ≡ verdict_of (distinct [] 0 tags) }
 {
     let mut folded = [0u8; 576];
     fold_all(set, &mut folded);

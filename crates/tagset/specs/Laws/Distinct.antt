@@ -1,5 +1,5 @@
 -- Tags that equal an earlier one.
-use Rattle.std.specs.Prelude.{◌+◌, ◌<◌, ◌≤◌, suc, zero, ℕ, false, true, List, [], ◌++◌, ◌∷◌, ◌⊎◌, ◌≡◌, refl, eqb, drop, get_or, length, take}
+use Rattle.std.specs.Prelude.{◌+◌, ◌<◌, ◌≤◌, suc, zero, ℕ, false, true, [], ◌++◌, ◌∷◌, ◌⊎◌, ◌≡◌, refl, eqb, drop, get_or, length, take}
 use Rattle.std.proofs.Common.{inl, inr, ◌∙◌, ap, subst, sym, arith, drop_of_length-le, drop-cons, get_or-take, length-take-le, take-suc, eq-eqb}
 use Rattle.std.proofs.Math.Decide.{ℕ_discrete}
 use Rattle.std.proofs.Math.Seq.{take_all}

@@ -122,13 +122,3 @@ as_fault ks bytes number values (kind_as {entry} r) = record { fault = Kind entr
 as_fault ks bytes number values (length_as {entry} r) = record { fault = Length entry; refused = refused_so ks bytes _ r; number_is = refl; values_are = refl }
 as_fault ks bytes number values (empty_as r) = record { fault = Empty; refused = refused_so ks bytes _ r; number_is = refl; values_are = refl }
 as_fault ks bytes number values (repeat_as {entry} r) = record { fault = Repeat entry; refused = refused_so ks bytes _ r; number_is = refl; values_are = refl }
-
--- EACH NUMBER OF THE TABLE IS A REFUSED SET'S, WITH ITS ENTRY, EXACTLY IF ITS ROW SAYS SO
-pub refused_as_iff : (ks : List TagKind) (bytes : List ℕ) (number : ℕ) (values : List ℕ) → FaultWith ks bytes number values ↔ RefusedAs ks bytes number values
-refused_as_iff ks bytes number values = (there, as_fault ks bytes number values)
-  where
-    there : FaultWith ks bytes number values → RefusedAs ks bytes number values
-    there f =
-        subst (λ (l : List ℕ). RefusedAs ks bytes number l) f.values_are
-        (subst (λ (x : ℕ). RefusedAs ks bytes x (fault_values f.fault)) f.number_is
-        (numbered_as ks bytes f.fault ((refused_iff ks bytes f.fault).0 f.refused)))
