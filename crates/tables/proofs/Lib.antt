@@ -4,3 +4,4 @@ pub mod Judging
 pub mod OnePart
 pub mod Held
 pub mod Answers
+pub mod Laws

@@ -1,5 +1,5 @@
 -- A part over a good set in hand: its own tags, its answer, and what it leaves.
-use Prim.Native.Nat.{◌*◌, ◌+◌, ◌<◌, ◌≤◌, ℕ}
+use Prim.Native.Nat.{◌*◌, ◌<◌, ◌≤◌, ℕ}
 use mathlib.Core.List.{List, ◌++◌}
 use mathlib.Core.Path.{◌∙◌, ◌≡◌, ap, ap₂, fun_ext, refl, sym}
 use native.Mathlib.Omega.{arith}

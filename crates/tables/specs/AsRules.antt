@@ -49,6 +49,7 @@ module _ (tags : Tags) where
   split-there a b name needs (in_first p ps l m x) =
       subst (λ (n : ℕ). SplitShort tags a b n (bit_states 1 tags m)) (sym (zero-add m)) (of_exact m (bit_lowest 1 0 a m x))
   split-there a b name needs (in_others p ps l e (in_first p' ps' l' m x)) = of_folded m e (bit_lowest 2 8 b m x)
+  split-there a b name needs (in_others p ps l e (in_others p' ps' l' f x)) = elim x [ ]
 
   split-back : (a b name needs : ℕ) → SplitShort tags a b name needs → ShortIn tags split_layout (a ∷ b ∷ []) name needs
   split-back a b name needs (of_exact m x) =
@@ -74,6 +75,7 @@ module _ (tags : Tags) (len : ℕ) where
   whole-there : (name needs : ℕ) → ShortIn tags whole_layout (len ∷ []) name needs → (name ≡ 254) × (needs ≡ whole_states tags) × (slots_in 8 1 len < needs)
   whole-there name needs (in_first p ps l m x) =
       (omega (arith, only_machine m x), ap (λ (j : ℕ). states (tags_for 8 (of_kind 1 tags) j)) (only_machine m x), x.short)
+  whole-there name needs (in_others p ps l e x) = elim x [ ]
 
   whole_back : (name needs : ℕ) → (name ≡ 254) × (needs ≡ whole_states tags) × (slots_in 8 1 len < needs) → ShortIn tags whole_layout (len ∷ []) name needs
   whole_back name needs (en, es, s) =

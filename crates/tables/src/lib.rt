@@ -1,4 +1,6 @@
 // Building tables (docs/RULES.md, 2 and 3): one builder for the machines of every part of a layout.
+#![tactic(auto)]
+
 ghost use Rattle.std.specs.Prelude.{◌≡◌, ◌&&◌, cond, [], ◌∷◌, ◌≤◌, length};
 ghost use Rattle.matching.specs.Parts.{room_in, split_layout, whole_layout};
 ghost use Rattle.matching.specs.Tags.{Tags};
@@ -14,7 +16,7 @@ use tagset::{Places, SetFault, Verdict, read_set};
 mod parts;
 
 // What building gives: the number of tags; or the set's fault; or the lowest machine short of slots, by its name, and the states that it needs.
-#[derive(Drop)]
+#[derive(Clone, Copy)]
 pub enum Built {
     Tags(usize),
     Fault(SetFault),
@@ -30,7 +32,7 @@ pub enum Needed {
 
 // A part of a layout: the kind of its tags, so many bits for each of its machines, the name of the first of them, the letters that the bits make,
 // and the mask that leaves them.
-#[derive(Drop)]
+#[derive(Clone, Copy)]
 struct Part {
     kind: usize,
     bits: usize,
@@ -109,10 +111,8 @@ fn judge_split<'a>(
     first: usize,
     second: usize,
 ) -> Built
-    ghost tags: { Tags }
-    requires places_value { lying_in set.now places ≡ tags }
-    requires held { Held set.now folded.now places tags }
-    ensures { result ≡ built_by tags (room_in split_layout tags (first ∷ second ∷ [])) }
+    requires { let tags = lying_in set.now places in Held set.now folded.now places tags }
+    ensures { let tags = lying_in set.now places in result ≡ built_by tags (room_in split_layout tags (first ∷ second ∷ [])) }
 {
     let answer = judge_part(set, folded, places, EXACT_BITS, first);
     if !accepted(answer) {
@@ -130,11 +130,9 @@ fn build_split_tags<'a>(
     second: &mut [u16],
     write: bool,
 ) -> Built
-    ghost tags: { Tags }
-    requires places_value { lying_in set.now places ≡ tags }
-    requires held { Held set.now folded.now places tags }
-    ensures answer { result ≡ built_by tags (room_in split_layout tags (length first.old ∷ length second.old ∷ [])) }
-    ensures left { first.new ∷ second.new ∷ []
+    requires { let tags = lying_in set.now places in Held set.now folded.now places tags }
+    ensures answer { let tags = lying_in set.now places in result ≡ built_by tags (room_in split_layout tags (length first.old ∷ length second.old ∷ [])) }
+    ensures left { let tags = lying_in set.now places in first.new ∷ second.new ∷ []
         ≡ cond write (tables_by split_layout tags (first.old ∷ second.old ∷ [])
         (room_in split_layout tags (length first.old ∷ length second.old ∷ [])))
         (first.old ∷ second.old ∷ []) }
@@ -150,11 +148,9 @@ fn build_split_tags<'a>(
 
 // The whole-byte table of tags.
 fn build_whole_tags<'a>(set: &'a [u8], folded: &'a [u8], places: Places, table: &mut [u16]) -> Built
-    ghost tags: { Tags }
-    requires places_value { lying_in set.now places ≡ tags }
-    requires held { Held set.now folded.now places tags }
-    ensures answer { result ≡ built_by tags (room_in whole_layout tags (length table.old ∷ [])) }
-    ensures left { table.new ∷ []
+    requires { let tags = lying_in set.now places in Held set.now folded.now places tags }
+    ensures answer { let tags = lying_in set.now places in result ≡ built_by tags (room_in whole_layout tags (length table.old ∷ [])) }
+    ensures left { let tags = lying_in set.now places in table.new ∷ []
         ≡ tables_by whole_layout tags (table.old ∷ []) (room_in whole_layout tags (length table.old ∷ [])) }
 {
     let answer = judge_part(set, folded, places, WHOLE_BYTES, table.len());

@@ -19,10 +19,8 @@ use tagset::{Places, read_as};
 
 // The states that machine m needs.
 fn states_of(bytes: &[u8], own: Chosen, part: Part, m: usize) -> usize
-    ghost ts: { List Word }
-    requires own_value { own_words bytes.now own ≡ ts }
-    requires shaped { (Shaped part) × (m < part.machines) × (Tagged bytes.now own ts) }
-    ensures { result ≡ states (tags_for part.bits ts m) }
+    requires { let ts = own_words bytes.now own in (Shaped part) × (m < part.machines) × (Tagged bytes.now own ts) }
+    ensures { let ts = own_words bytes.now own in result ≡ states (tags_for part.bits ts m) }
 {
     let mut letters = [0u8; 576];
     spell(bytes, m * part.bits, part.mask, &mut letters);
@@ -35,11 +33,9 @@ fn states_of(bytes: &[u8], own: Chosen, part: Part, m: usize) -> usize
 
 // The slots of machine m, with vectors over the part's own tags.
 fn make_machine(bytes: &[u8], own: Chosen, part: Part, m: usize, run: &mut [u16])
-    ghost ts: { List Word }
-    requires own_value { own_words bytes.now own ≡ ts }
-    requires shaped { (Shaped part) × (m < part.machines) × (Tagged bytes.now own ts)
+    requires { let ts = own_words bytes.now own in (Shaped part) × (m < part.machines) × (Tagged bytes.now own ts)
         × (states (tags_for part.bits ts m) * (part.letters + 1) ≤ length run.old) }
-    ensures { Filled (tags_for part.bits ts m) part.letters run.new }
+    ensures { let ts = own_words bytes.now own in Filled (tags_for part.bits ts m) part.letters run.new }
 {
     let mut letters = [0u8; 576];
     spell(bytes, m * part.bits, part.mask, &mut letters);
@@ -58,11 +54,9 @@ fn make_machine(bytes: &[u8], own: Chosen, part: Part, m: usize, run: &mut [u16]
 
 // The slots of machine m, with vectors over all tags, whose kinds these are.
 fn fill_machine(bytes: &[u8], own: Chosen, kinds: &[usize], part: Part, m: usize, run: &mut [u16])
-    ghost ts: { List Word }
-    requires own_value { own_words bytes.now own ≡ ts }
-    requires shaped { (Shaped part) × (m < part.machines) × (Tagged bytes.now own ts) × (length kinds.now ≤ 16)
+    requires { let ts = own_words bytes.now own in (Shaped part) × (m < part.machines) × (Tagged bytes.now own ts) × (length kinds.now ≤ 16)
         × (states (tags_for part.bits ts m) * (part.letters + 1) ≤ length run.old) }
-    ensures { Marked (tags_for part.bits ts m) (mark_by part.kind kinds.now part.bits ts m) part.letters run.new }
+    ensures { let ts = own_words bytes.now own in Marked (tags_for part.bits ts m) (mark_by part.kind kinds.now part.bits ts m) part.letters run.new }
 {
     make_machine(bytes, own, part, m, run);
     deal_out(kinds, part.kind, part.letters, run);
@@ -77,12 +71,10 @@ fn fill_machines(
     s: usize,
     table: &mut [u16],
 )
-    ghost ts: { List Word }
-    requires own_value { own_words bytes.now own ≡ ts }
-    requires shaped { (Shaped part) × (Tagged bytes.now own ts) × (length kinds.now ≤ 16)
+    requires { let ts = own_words bytes.now own in (Shaped part) × (Tagged bytes.now own ts) × (length kinds.now ≤ 16)
         × (part.machines * (s * (part.letters + 1)) ≤ length table.old)
         × ((m : ℕ) → m < part.machines → states (tags_for part.bits ts m) ≤ s) }
-    ensures { table.new ≡ built part.bits part.machines s ts (mark_by part.kind kinds.now part.bits ts)
+    ensures { let ts = own_words bytes.now own in table.new ≡ built part.bits part.machines s ts (mark_by part.kind kinds.now part.bits ts)
         ++ drop (part.machines * (s * slot_size part.bits)) table.old }
 {
     let machines = part.machines;
@@ -99,10 +91,8 @@ fn fill_machines(
 
 // So many tags, or the lowest machine short of slots: all are counted.
 fn judge(bytes: &[u8], own: Chosen, part: Part, s: usize, tags: usize) -> Built
-    ghost ts: { List Word }
-    requires own_value { own_words bytes.now own ≡ ts }
-    requires shaped { (Shaped part) × (Tagged bytes.now own ts) }
-    ensures { result ≡ counted_by tags (named (as_part part) (room_from part.bits s ts 0 part.machines)) }
+    requires { let ts = own_words bytes.now own in (Shaped part) × (Tagged bytes.now own ts) }
+    ensures { let ts = own_words bytes.now own in result ≡ counted_by tags (named (as_part part) (room_from part.bits s ts 0 part.machines)) }
 {
     let machines = part.machines;
     let mut m = 0;
@@ -118,10 +108,8 @@ fn judge(bytes: &[u8], own: Chosen, part: Part, s: usize, tags: usize) -> Built
 
 // The most states that one of the machines needs.
 fn most_states(bytes: &[u8], own: Chosen, part: Part) -> usize
-    ghost ts: { List Word }
-    requires own_value { own_words bytes.now own ≡ ts }
-    requires shaped { (Shaped part) × (Tagged bytes.now own ts) }
-    ensures { result ≡ most_states part.bits ts 0 part.machines }
+    requires { let ts = own_words bytes.now own in (Shaped part) × (Tagged bytes.now own ts) }
+    ensures { let ts = own_words bytes.now own in result ≡ most_states part.bits ts 0 part.machines }
 {
     let mut most = 0;
     let mut m = part.machines;
@@ -140,10 +128,8 @@ pub fn judge_part<'a>(
     part: Part,
     len: usize,
 ) -> Built
-    ghost tags: { Tags }
-    requires places_value { lying_in set.now places ≡ tags }
-    requires shaped { (Shaped part) × (Held set.now folded.now places tags) }
-    ensures { result ≡ built_by tags (part_room (as_part part) tags (part_slots (as_part part) len)) }
+    requires { let tags = lying_in set.now places in (Shaped part) × (Held set.now folded.now places tags) }
+    ensures { let tags = lying_in set.now places in result ≡ built_by tags (part_room (as_part part) tags (part_slots (as_part part) len)) }
 {
     let own = choose(places, part.kind);
     let s = slots(len, part.bits, part.machines);
@@ -152,10 +138,8 @@ pub fn judge_part<'a>(
 
 // The slots that a part needs for the tags.
 pub fn part_needs<'a>(set: &'a [u8], folded: &'a [u8], places: Places, part: Part) -> usize
-    ghost tags: { Tags }
-    requires places_value { lying_in set.now places ≡ tags }
-    requires shaped { (Shaped part) × (Held set.now folded.now places tags) }
-    ensures { result ≡ part_needs (as_part part) tags }
+    requires { let tags = lying_in set.now places in (Shaped part) × (Held set.now folded.now places tags) }
+    ensures { let tags = lying_in set.now places in result ≡ part_needs (as_part part) tags }
 {
     let own = choose(places, part.kind);
     most_states(read_as(part.kind, set, folded), own, part)
@@ -163,11 +147,9 @@ pub fn part_needs<'a>(set: &'a [u8], folded: &'a [u8], places: Places, part: Par
 
 // The machines of a part, at the front of its run.
 pub fn fill_part<'a>(set: &'a [u8], folded: &'a [u8], places: Places, part: Part, table: &mut [u16])
-    ghost tags: { Tags }
-    requires places_value { lying_in set.now places ≡ tags }
-    requires shaped { (Shaped part) × (Held set.now folded.now places tags)
+    requires { let tags = lying_in set.now places in (Shaped part) × (Held set.now folded.now places tags)
         × (EnoughFor (as_part part) tags (part_slots (as_part part) (length table.old))) }
-    ensures { table.new ≡ part_table (as_part part) tags table.old }
+    ensures { let tags = lying_in set.now places in table.new ≡ part_table (as_part part) tags table.old }
 {
     let own = choose(places, part.kind);
     let bytes = read_as(part.kind, set, folded);
