@@ -15,7 +15,7 @@ pub const MOST: usize = 256;
 pub const PARTS: usize = 2;
 
 // What is known of each part: the slots of its table, and whether it is awake.
-#[derive(Drop)]
+#[derive(Clone, Copy)]
 pub struct Known {
     pub slots: [usize; 2],
     pub awake: [bool; 2],

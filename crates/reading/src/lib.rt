@@ -1,4 +1,6 @@
 // Reading a piece over any tables (docs/RULES.md, 4).
+#![tactic(auto)]
+
 mod noted;
 pub mod records;
 pub mod refusals;

@@ -7,12 +7,12 @@ use Rattle.std.proofs.lemmas.List.{length-map}
 use Rattle.std.proofs.Math.Seq.{length-sets, length-take-le}
 use Rattle.std.proofs.lemmas.List.Edits.{sets}
 use Rattle.matching.specs.Kinds.{as_read}
-use Rattle.matching.specs.Laws.AnyTable.{moved, nexts-length}
+use Rattle.matching.specs.Laws.AnyTable.{nexts-length}
+use Rattle.matching.proofs.Laws.AnyTable.{moved}
 use Rattle.matching.specs.Laws.Bools.{or_false-l, or_false-r}
 use Rattle.matching.specs.Laws.Kinds.{word_as-length}
 use Rattle.matching.specs.Parts.{Layout, Part, Runs, first_run, part_slots, part_step, step_in}
 use Rattle.matching.specs.Reading.{ones_of, table_step}
-use Rattle.matching.specs.Stepping.{Step}
 use Rattle.matching.specs.Words.{Word}
 use Rattle.passing.specs.Steps as steps
 use Rattle.blocks.specs.Laws.Beside.{Beside, came-beside}

@@ -9,7 +9,6 @@ use Rattle.matching.specs.Laws.Kinds.{word_as-exact}
 use Rattle.matching.specs.Laws.Slices.{map-take}
 use Rattle.matching.specs.Parts.{Layout, Part, Runs, part_step, split_layout}
 use Rattle.matching.specs.Reading.{table_step}
-use Rattle.matching.specs.Stepping.{Step}
 use Rattle.matching.specs.Tags.{word_as}
 use Rattle.matching.specs.Words.{Word}
 use Rattle.passing.specs.Laws.Starts.{one-even}

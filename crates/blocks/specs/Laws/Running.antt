@@ -114,7 +114,7 @@ map_at f (c ∷ w) (suc i) h = map_at f w i (omega arith)
 module _ {P : Type 0} (step as_read : Step P) (f : ℕ → ℕ) (same : (p : P) (c : ℕ) → as_read p c ≡ step p (f c)) where
   ran-reads : {p : P} (w : Word) {q : P} {rows : List (List ℕ)} → Ran step p (map f w) q rows → Ran as_read p w q rows
   ran-reads [] (at_rest p) = at_rest p
-  ran-reads (c ∷ w) (onward p x m these v q rows e r) = onward p c m these w q rows (same p c ∙ e) (ran-reads w r)
+  ran-reads (c ∷ w) (onward p x m these v q rows e r) = onward p c m these w q rows (same p c ∙ e) (ran-reads {p = m} w r)
 
   pub came-read : {p : P} {w : Word} {e : ℕ} {q : P} {rows : List (List ℕ)} → Came step p (map f w) e q rows → Came as_read p w e q rows
   came-read {p} {w} {e} {q} {rows} g = record {

@@ -6,7 +6,8 @@ use Rattle.std.proofs.Common.{◌∙◌, subst, sym, arith, drop_of_length-le, l
 use Rattle.std.proofs.Math.Path.{ap, refl}
 use Rattle.std.proofs.Math.Seq.{take-take}
 use Rattle.matching.specs.Kinds.{as_read}
-use Rattle.matching.specs.Laws.AnyTable.{moved, nexts-length}
+use Rattle.matching.specs.Laws.AnyTable.{nexts-length}
+use Rattle.matching.proofs.Laws.AnyTable.{moved}
 use Rattle.matching.specs.Laws.Bools.{and_both, and_l, and_r, both_ways}
 use Rattle.matching.specs.Laws.Layouts.{first-length, other-lengths}
 use Rattle.matching.specs.Laws.Parts.{BothGo, both_go_lem, both_go}

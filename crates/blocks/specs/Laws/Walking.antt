@@ -10,7 +10,7 @@ use Rattle.std.proofs.lemmas.List.{length-map, set-get_or}
 use Rattle.matching.specs.Laws.Readings.{table_step-goes, table_step-wrong}
 use Rattle.matching.specs.Reading.{all_below, flagged, nexts, ones_of, table_step, vectors_at}
 use Rattle.matching.specs.Slicing.{anded}
-use Rattle.matching.specs.Stepping.{Step, goes_to, is_damaged}
+use Rattle.matching.specs.Stepping.{goes_to, is_damaged}
 use Rattle.passing.specs.Laws.Below.{full}
 use Rattle.passing.specs.Steps.{Ready}
 use Rattle.passing.specs.Steps as steps

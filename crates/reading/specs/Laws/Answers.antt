@@ -6,7 +6,7 @@ use Rattle.std.proofs.Math.Decide.{dec_lt}
 use Rattle.std.proofs.Math.ListN.{get_or-append, get_or, get_or-replicate, length-replicate}
 use Rattle.matching.specs.Laws.Bools.{and_l, and_r, both_ways, decided, not-both}
 use Rattle.matching.specs.Kinds.{exact_kind}
-use Rattle.matching.specs.Laws.Parts.{kept_in, one-part-read}
+use Rattle.matching.proofs.Laws.Parts.{kept_in, one-part-read}
 use Rattle.matching.specs.Laws.Stepping.{went}
 use Rattle.matching.specs.Limits.{most_slots}
 use Rattle.matching.specs.Parts.{Layout, Part, Runs, lengths, part, place_below, read_in, slots_over, whole_layout, width}
@@ -14,7 +14,6 @@ use Rattle.matching.specs.Reading.{Outcome, all_below, read}
 use Rattle.matching.specs.Table.{slots_in}
 use Rattle.matching.specs.Refusal.{first_of}
 use Rattle.matching.specs.Stepping.{OutcomeOf}
-use Rattle.matching.specs.Stepping as stepping
 use Rattle.passing.specs.Laws.Below.{below_get}
 use Rattle.reading.specs.Outside.{ReadOf, list_by, own_slots, read_by, read_number, read_of, read_to, refused_read, split_by, whole_by}
 use Rattle.reading.specs.Refusals.{read_grounds}
@@ -66,14 +65,6 @@ unfolding first_of
 first-none false long e = absurd (omega (arith, e))
 first-none true true e = absurd (omega (arith, e))
 first-none true false e = (refl, refl)
-
-pub read-refused : (layout : Layout) (runs : Runs) (place : List ℕ) (count : ℕ) (piece : List ℕ) (len : ℕ) (slots : List ℕ)
-    → slots ≡ slots_over layout (lengths runs)
-    → (why : ReadRefusal) → read_number why ≡ first_of (read_grounds (place_below layout slots place) (ltb 4294967295 (count + length piece)))
-    → read_of layout runs place count piece len ≡ refused_read why
-unfolding read_of
-read-refused layout runs place count piece len slots e why v = rw (← e)
-    (first-refused _ (place_below layout slots place) (ltb 4294967295 (count + length piece)) why v)
 
 -- ---- the states of a place and the slots of their tables
 

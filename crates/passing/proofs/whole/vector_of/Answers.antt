@@ -1,0 +1,10 @@
+-- A vector is below 65,536, so the AND with 65,535 is itself.
+use Prim.Native.Nat.{◌*◌, ◌+◌}
+use native.Mathlib.Omega.{arith}
+use Rattle.passing.specs.Laws.Runs.{vector-one}
+use Rattle.passing.proofs.whole.vector_of.Goals as goal
+
+pub returns : goal.returns
+returns c =
+    let a = c.args in
+    λ s. vector-one s a.table.now a.q (omega (arith, c.shared_slice_known-1.given (a.q * 257 + 256)))

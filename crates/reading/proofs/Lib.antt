@@ -1,0 +1,2 @@
+-- Laws that rest on those of specs/Laws.
+pub mod Laws
