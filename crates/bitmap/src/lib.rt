@@ -1,4 +1,6 @@
 // The bitmap layout (docs/RULES.md, 2 to 4): the whole-byte machine in slots of 19 numbers, and one byte's step over any such table.
+#![tactic(auto)]
+
 pub mod steps;
 
 ghost use Rattle.std.specs.Prelude.{◌≡◌};

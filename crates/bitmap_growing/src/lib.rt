@@ -1,5 +1,7 @@
 // Building a bitmap table in place, state by state in the order of their numbers (docs/RULES.md, 2 and 3). A state that is placed but not yet
 // settled waits in its own slot: its depth, where it fails to, and the mask of the tags that go through it.
+#![tactic(auto)]
+
 ghost use Rattle.std.specs.Prelude.{◌≡◌, List, ◌*◌, ◌<◌, ◌≤◌, length};
 ghost use Rattle.matching.specs.Words.{Lawful, Word};
 ghost use Rattle.tagset.specs.Answer.{cut_at};
@@ -25,10 +27,8 @@ fn begin(tags: usize, table: &mut [u16])
 
 // The n states, each in its turn.
 fn grow(letters: &[u8], from: &[usize], to: &[usize], table: &mut [u16], s: usize, n: usize)
-    ghost ts: { List Word }
-    requires to_value { cut_at letters.now from.now to.now ≡ ts }
-    requires ts_len { (length ts ≡ length from.now) × (n ≡ length (by_level ts)) × (Growing ts s table.old 0 1) }
-    ensures { table.new ≡ built s ts }
+    requires { let ts = cut_at letters.now from.now to.now in (length ts ≡ length from.now) × (n ≡ length (by_level ts)) × (Growing ts s table.old 0 1) }
+    ensures { let ts = cut_at letters.now from.now to.now in table.new ≡ built s ts }
 {
     let mut k: usize = 1;
     let mut q: usize = 0;
@@ -47,10 +47,8 @@ pub fn make_bitmap(
     s: usize,
     n: usize,
 )
-    ghost ts: { List Word }
-    requires to_value { cut_at letters.now from.now to.now ≡ ts }
-    requires ts_len { (length ts ≡ length from.now) × (Lawful ts) × (n ≡ length (by_level ts)) × (n ≤ s) × (s * 19 ≡ length table.old) }
-    ensures { table.new ≡ built s ts }
+    requires { let ts = cut_at letters.now from.now to.now in (length ts ≡ length from.now) × (Lawful ts) × (n ≡ length (by_level ts)) × (n ≤ s) × (s * 19 ≡ length table.old) }
+    ensures { let ts = cut_at letters.now from.now to.now in table.new ≡ built s ts }
 {
     begin(from.len(), table);
     grow(letters, from, to, table, s, n);

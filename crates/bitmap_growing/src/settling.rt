@@ -54,10 +54,8 @@ pub fn settle(
     q: usize,
     k: usize,
 ) -> usize
-    ghost ts: { List Word }
-    requires to_value { cut_at letters.now from.now to.now ≡ ts }
-    requires ts_len { (length ts ≡ length from.now) × (q < length (by_level ts)) × (Growing ts s table.old q k) }
-    ensures { Growing ts s table.new (q + 1) result }
+    requires { let ts = cut_at letters.now from.now to.now in (length ts ≡ length from.now) × (q < length (by_level ts)) × (Growing ts s table.old q k) }
+    ensures { let ts = cut_at letters.now from.now to.now in Growing ts s table.new (q + 1) result }
 {
     let d = wide(number(table, q, 0));
     let f = wide(number(table, q, 17));

@@ -60,10 +60,8 @@ fn sow_tag(
     k: usize,
     u: usize,
 )
-    ghost ts: { List Word }
-    requires to_value { cut_at letters.now from.now to.now ≡ ts }
-    requires u_in_bounds { (u < length ts) × (Found ts q d f mask) × (Sowing ts s table.old q k u) }
-    ensures { Sowing ts s table.new q k (u + 1) }
+    requires { let ts = cut_at letters.now from.now to.now in (u < length ts) × (Found ts q d f mask) × (Sowing ts s table.old q k u) }
+    ensures { let ts = cut_at letters.now from.now to.now in Sowing ts s table.new q k (u + 1) }
 {
     if !goes_through(mask, u) {
         return;
@@ -88,10 +86,8 @@ pub fn sow(
     mask: u16,
     k: usize,
 )
-    ghost ts: { List Word }
-    requires to_value { cut_at letters.now from.now to.now ≡ ts }
-    requires ts_len { (length ts ≡ length from.now) × (Found ts q d f mask) × (Sowing ts s table.old q k 0) }
-    ensures { Growing ts s table.new (q + 1) (k + kids ts q) }
+    requires { let ts = cut_at letters.now from.now to.now in (length ts ≡ length from.now) × (Found ts q d f mask) × (Sowing ts s table.old q k 0) }
+    ensures { let ts = cut_at letters.now from.now to.now in Growing ts s table.new (q + 1) (k + kids ts q) }
 {
     let mut u: usize = 0;
     while u < from.len() {

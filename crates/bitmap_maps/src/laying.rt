@@ -43,10 +43,8 @@ pub fn lay_map(
     d: usize,
     mask: u16,
 )
-    ghost ts: { List Word }
-    requires to_value { cut_at letters.now from.now to.now ≡ ts }
-    requires unlaid { Unlaid ts (length from.now) q table.old }
-    ensures { (p : Word) → Waits ts p d mask → MapLaid ts p q table.old table.new }
+    requires { let ts = cut_at letters.now from.now to.now in Unlaid ts (length from.now) q table.old }
+    ensures { let ts = cut_at letters.now from.now to.now in (p : Word) → Waits ts p d mask → MapLaid ts p q table.old table.new }
 {
     let at = q * 19;
     table[at] = 0;

@@ -1,4 +1,6 @@
 // Masks of tags and maps of states, for building a bitmap table (docs/RULES.md, 2 and 3).
+#![tactic(auto)]
+
 pub mod counting;
 pub mod laying;
 pub mod masks;

@@ -25,10 +25,8 @@ fn bit(b: bool) -> u16
 
 // The tags that are the word of a state of depth d, from the mask of those that go through it.
 pub fn own_tags(letters: &[u8], from: &[usize], to: &[usize], d: usize, mask: u16) -> u16
-    ghost ts: { List Word }
-    requires to_value { cut_at letters.now from.now to.now ≡ ts }
-    requires ts_len { (length ts ≡ length from.now) × (length ts ≤ 16) }
-    ensures { (p : Word) → Waits ts p d mask → result ≡ own_tags ts p }
+    requires { let ts = cut_at letters.now from.now to.now in (length ts ≡ length from.now) × (length ts ≤ 16) }
+    ensures { let ts = cut_at letters.now from.now to.now in (p : Word) → Waits ts p d mask → result ≡ own_tags ts p }
 {
     let mut v: u16 = 0;
     let mut u = from.len();

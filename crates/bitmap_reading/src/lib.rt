@@ -1,4 +1,6 @@
 // Reading a piece over any bitmap table (docs/RULES.md, 4).
+#![tactic(auto)]
+
 mod rows;
 mod walks;
 

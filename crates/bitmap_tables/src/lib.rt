@@ -1,4 +1,6 @@
 // Building a bitmap table from the bytes of a set (docs/RULES.md, 2 and 3).
+#![tactic(auto)]
+
 ghost use Rattle.std.specs.Prelude.{◌≡◌, List, length};
 ghost use Rattle.matching.specs.Words.{Lawful, Word};
 ghost use Rattle.tagset.specs.Answer.{cut_at};
@@ -17,11 +19,9 @@ const BITMAP: usize = 253;
 
 // The tags' table, where there is a slot for each state.
 fn build_tags(set: &[u8], from: &[usize], to: &[usize], table: &mut [u16]) -> Built
-    ghost ts: { List Word }
-    requires to_value { cut_at set.now from.now to.now ≡ ts }
-    requires fit { (Fit (length from.now) ts) × (Lawful ts) }
-    ensures answer { result ≡ map_built_tags ts (length table.old) }
-    ensures left { table.new ≡ map_table_tags ts table.old }
+    requires { let ts = cut_at set.now from.now to.now in (Fit (length from.now) ts) × (Lawful ts) }
+    ensures answer { let ts = cut_at set.now from.now to.now in result ≡ map_built_tags ts (length table.old) }
+    ensures left { let ts = cut_at set.now from.now to.now in table.new ≡ map_table_tags ts table.old }
 {
     let s = map_slots(table.len());
     let n = count_states(set, from, to);

@@ -1,6 +1,6 @@
 -- The bits of a word of a map: when two tests make the same word, and the word with one bit more.
 use Rattle.std.specs.Prelude.{◌%◌, ◌*◌, ◌+◌, ◌-◌, ◌/◌, ◌<◌, ◌^◌, ◌≤◌, suc, zero, ℕ, Bool, ◌||◌, cond, false, true, ◌≡◌, refl, eqb}
-use Rattle.std.proofs.Math.Bool.{or_false}
+use Rattle.std.proofs.Math.Bool.{or-false}
 use Rattle.std.proofs.Common.{◌∙◌, ap, ap₂, subst, sym, add-zero, mod-lt, not-suc-le-zero, pow-suc, one-add, arith, lit<, eq-eqb, ne_eqb}
 use Rattle.std.proofs.lemmas.Nat.Bits.{and_high}
 use Rattle.std.specs.Int.Bits.{bit_and, bit_or, or_add_and}
@@ -38,7 +38,7 @@ unfolding bits_from
 bits-with g zero c k h = absurd (not-suc-le-zero h)
 bits-with g (suc n) c zero h =
     let rest : bits_from (λ x. g x || eqb (c + 0) x) (suc c) n ≡ bits_from g (suc c) n =
-    bits-same (λ x. g x || eqb (c + 0) x) g n (suc c) (λ x l m. ap (λ (b : Bool). g x || b) (ne_eqb (c + 0) x (λ z. omega arith)) ∙ or_false (g x)) in
+    bits-same (λ x. g x || eqb (c + 0) x) g n (suc c) (λ x l m. ap (λ (b : Bool). g x || b) (ne_eqb (c + 0) x (λ z. omega arith)) ∙ or-false (g x)) in
     let here : ◌≡◌ {A = ℕ} (cond (g c || eqb (c + 0) c) 1 0) 1 = ap (λ (b : Bool). cond (g c || b) 1 0) (eq-eqb (c + 0) c (add-zero c)) ∙ ones (g c) in
     let z : ◌≡◌ {A = ℕ} (cond (g (c + 0)) 0 1) (cond (g c) 0 1) = ap (λ (x : ℕ). cond (g x) 0 1) (add-zero c) in
     omega (arith, rest, here, z, joined (g c))
@@ -51,7 +51,7 @@ bits-with g (suc n) c (suc k) h =
     let rest : bits_from g (suc c) n + cond (g (c + suc k)) 0 (2 ^ k) ≡ bits_from (λ x. g x || eqb (c + suc k) x) (suc c) n =
     subst (λ (y : ℕ). bits_from g (suc c) n + cond (g y) 0 (2 ^ k) ≡ bits_from (λ x. g x || eqb y x) (suc c) n) z (bits-with g n (suc c) k (omega arith)) in
     let here : ◌≡◌ {A = ℕ} (cond (g c || eqb (c + suc k) c) 1 0) (cond (g c) 1 0) =
-    ap (λ (b : Bool). cond b 1 0) (ap (λ (b : Bool). g c || b) (ne_eqb (c + suc k) c (λ e. omega arith)) ∙ or_false (g c)) in
+    ap (λ (b : Bool). cond b 1 0) (ap (λ (b : Bool). g c || b) (ne_eqb (c + suc k) c (λ e. omega arith)) ∙ or-false (g c)) in
     omega (arith, rest, here, spread (g (c + suc k)) k)
 
 -- OR with a power of two sets its bit

@@ -1,6 +1,6 @@
 -- Laying a map: the slot at the start, one tag more, and all of them.
 use Rattle.std.specs.Prelude.{◌%◌, ◌*◌, ◌+◌, ◌/◌, ◌<◌, ◌^◌, ◌≤◌, ℕ, Bool, ◌&&◌, ◌||◌, false, true, List, [], ◌++◌, ◌∷◌, ◌⊎◌, ◌≡◌, ltb, length, set, take}
-use Rattle.std.proofs.Math.Bool.{or_assoc, or_false}
+use Rattle.std.proofs.Math.Bool.{or_assoc, or-false}
 use Rattle.std.proofs.Common.{inl, inr, ◌∙◌, ap₂, subst, div-add-mod', div-lt_iff_lt-mul, mod-lt, add-one, arith, lit<, take_all, take-suc}
 use Rattle.std.proofs.Math.Path.{ap, refl, sym}
 use Rattle.std.specs.Int.Bits.{bit_or}
@@ -18,7 +18,7 @@ use Rattle.bitmap_maps.specs.Laws.Masks.{begins-child}
 
 begins_one_snoc : (us : List Word) (v t : Word) → begins_one v (us ++ t ∷ []) ≡ (begins_one v us || begins v t)
 unfolding begins_one
-begins_one_snoc [] v t = or_false (begins v t)
+begins_one_snoc [] v t = or-false (begins v t)
 begins_one_snoc (u ∷ us) v t = ap (λ (b : Bool). begins v u || b) (begins_one_snoc us v t) ∙ sym (or_assoc (begins v u) (begins_one v us) (begins v t))
 
 -- no tag yet: a map of zeros
@@ -84,7 +84,7 @@ module _ (us : List Word) (p : Word) (q : ℕ) (before mid : List ℕ) (laid : M
     other j h ne =
         get_or-set_other mid (q * 19 + c / 16) (q * 19 + j) (bit_or (number_at mid q (c / 16)) (2 ^ (c % 16))) 0 (λ z. ne (omega arith))
         ∙ laid.map j h
-        ∙ sym (bits-same with old 16 (j * 16) (λ x l m. ap (λ (b : Bool). old x || b) (ne_eqb c x (λ z. ne (omega arith))) ∙ or_false (old x)))
+        ∙ sym (bits-same with old 16 (j * 16) (λ x l m. ap (λ (b : Bool). old x || b) (ne_eqb c x (λ z. ne (omega arith))) ∙ or-false (old x)))
 
     with_byte_lem : (g : ℕ → Bool) → ((x : ℕ) → g x ≡ with x) → (j : ℕ) → j < 16 → number_at (with_byte mid q c) q j ≡ bits_from g (j * 16) 16
     with_byte_lem g e j h = go (decided (eqb j (c / 16))) ∙ bits-same with g 16 (j * 16) (λ x l m. sym (e x))
@@ -128,7 +128,7 @@ module _ (us : List Word) (p : Word) (q : ℕ) (before mid : List ℕ) (laid : M
       go (inr e) =
           subst (MapLaid (us ++ tag ∷ []) p q before) (sym (t.off e))
           record {
-            map = λ j h. laid.map j h ∙ bits-same old (new tag) 16 (j * 16) (λ x l m. sym (newly false e x ∙ or_false (old x)));
+            map = λ j h. laid.map j h ∙ bits-same old (new tag) 16 (j * 16) (λ x l m. sym (newly false e x ∙ or-false (old x)));
             low = laid.low;
             high = laid.high;
             long = laid.long;

@@ -7,7 +7,8 @@ use Rattle.std.proofs.Math.ListN.{take}
 use Rattle.matching.specs.Laws.Bits.{ones_of-tags_ending}
 use Rattle.matching.specs.Laws.Inputs.{Follows, done-by, follows, input_step_lem}
 use Rattle.matching.specs.Laws.Machine.{walk_snoc}
-use Rattle.matching.specs.Laws.Prefixes.{lt_tree, vector_tree, word_tree}
+use Rattle.matching.specs.Laws.Prefixes.{lt_tree, word_tree}
+use Rattle.matching.proofs.Laws.Prefixes.{vector_tree}
 use Rattle.matching.specs.Laws.Stepping.{both_go}
 use Rattle.matching.specs.Machine.{longest, next, prefixes, walk}
 use Rattle.matching.specs.Occurrence.{tags_ending}

@@ -1,5 +1,5 @@
 -- The loop over a piece.
-use Rattle.std.specs.Prelude.{◌+◌, ◌-◌, ◌/◌, ◌<◌, ◌≤◌, ℕ, List, ◌≡◌, refl, get_or, length}
+use Rattle.std.specs.Prelude.{◌+◌, ◌/◌, ◌<◌, ◌≤◌, ℕ, List, ◌≡◌, refl, get_or, length}
 use Rattle.std.proofs.Common.{◌∙◌, sym, arith}
 use Rattle.matching.specs.Reading.{ones_of}
 use Rattle.matching.specs.Stepping.{OutcomeOf, goes_to, read_by}

@@ -22,7 +22,8 @@ use Rattle.tagset.specs.Laws.Places.{tags-accepted, whole-exact}
 use Rattle.tagset.specs.Refusals.{Accepted, Refused}
 use Rattle.tagset.specs.declared.SetFault.{SetFault}
 use Rattle.tables.specs.Building.{built_number, built_values, most_states, needed_of}
-use Rattle.tables.specs.Laws.Exact.{WhenBy, exact-by, exactly_when, needed-slots_iff, number_by}
+use Rattle.tables.specs.Laws.Exact.{WhenBy, exactly_when, needed-slots_iff}
+use Rattle.tables.proofs.Laws.Exact.{exact-by, number_by}
 use Rattle.tables.specs.declared.Built.{Built}
 use Rattle.bitmap.specs.Laws.States.{states-same}
 use Rattle.bitmap.specs.Levels.{by_level}

@@ -1,0 +1,12 @@
+-- Each number of the row is where its byte leads from state 0, or no state.
+use Prim.Native.Nat.{◌-◌}
+use mathlib.Core.Path.{◌≡◌}
+use lib.ListN.{length}
+use Rattle.bitmap_reading.specs.Rows.{Row}
+use Rattle.bitmap_reading.proofs.rows.row_for.Given as goal
+
+abbrev pub invariant-loop-c : goal.invariant-loop-c
+invariant-loop-c l = (Row l.s l.table l.row) × (length l.row ≡ 256)
+
+abbrev pub decreases-loop-c : goal.decreases-loop-c
+decreases-loop-c l = l.most - l.c
