@@ -2,3 +2,8 @@ pub mod Appending
 pub mod HandingOut
 pub mod ByAnswer
 pub mod Scanning
+pub mod Laws
+pub mod Refusals
+pub mod Exact
+pub mod Unchanged
+pub mod Answers

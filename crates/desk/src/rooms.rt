@@ -17,7 +17,7 @@ pub fn new_ticket(serial: Serial, edition: Edition) -> Ticket
     }
 }
 
-#[derive(Drop)]
+#[derive(Clone, Copy)]
 pub enum Wanted {
     Free,
     For(Serial),

@@ -5,14 +5,16 @@ use Rattle.std.proofs.Common.{append-nil, ◌∙◌, ap, subst, sym, arith, leng
 use Rattle.std.proofs.Math.Decide.{ℕ_discrete}
 use Rattle.desk.specs.Calls.{open_of}
 use Rattle.desk.specs.Feed.{feed_of, read_for}
-use Rattle.desk.specs.Laws.Good.{good, room-held}
+use Rattle.desk.specs.Laws.Good.{room-held}
+use Rattle.desk.proofs.Laws.Good.{good}
 use Rattle.desk.specs.Laws.Rooms.{for_held, set_other, set_same}
 use Rattle.desk.specs.Laws.Shared.{held-push_all, records_for_append, records_for-other, records_of-length}
 use Rattle.desk.specs.Laws.TakeMany.{take-many-reached}
 use Rattle.desk.specs.Laws.Views.{Closes, close_done, close_no-ticket, closes}
 use Rattle.desk.specs.Laws.Views.{Opens, open_done, open_no-room, open_no-set, open_serial-end, opens}
 use Rattle.desk.specs.Laws.Views.{Replaces, replace_done, replace_edition-end, replace_fault, replace_table, replaces}
-use Rattle.desk.specs.Laws.Views.{Feeds, feed_long, feed_no-place, feed_no-ticket, feed_other-slots, feed_read, feed_stale, feeds}
+use Rattle.desk.specs.Laws.Views.{Feeds, feed_long, feed_no-place, feed_no-ticket, feed_other-slots, feed_read, feed_stale}
+use Rattle.desk.proofs.Laws.Views.{feeds}
 use Rattle.desk.specs.Reached.{Reached, by_call, call_close, call_feed, call_open, call_replace, from_new}
 use Rattle.desk.specs.Rooms.{is_held, room_of, ticket_in}
 use Rattle.desk.specs.Shared.{held, records_for, records_of, round}

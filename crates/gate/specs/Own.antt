@@ -2,7 +2,7 @@
 -- serial, and in no other; a record whose serial has no room sets none; and no record is held then.
 use Rattle.std.specs.Prelude.{ℕ, ◌≤◌, false, true, List, [], ◌∷◌, ◌++◌, ◌≡◌, length}
 use Rattle.std.proofs.Common.{subst, sym}
-use Rattle.desk.specs.Laws.Good.{good}
+use Rattle.desk.proofs.Laws.Good.{good}
 use Rattle.desk.specs.Reached.{Reached}
 use Rattle.desk.specs.Rooms.{Apart, is_held, room_of, serial_of, ticket_in}
 use Rattle.desk.specs.Shared.{held, records_for}
@@ -16,7 +16,7 @@ use Rattle.gate.specs.Noting.{noted, seen_in}
 use Rattle.gate.specs.declared.Gate.{Gate}
 use Rattle.gate.specs.declared.Seen.{Seen}
 use Rattle.desk.specs.Limits.{most_records, most_tickets}
-use Rattle.desk.specs.Laws.Apart.{reached-apart}
+use Rattle.desk.proofs.Laws.Apart.{reached-apart}
 
 -- a gate's masks and a desk: 16 of each, no two rooms held under one serial, and at most 256 records held
 pub record Roomed (g : Gate) (d : Desk) : Type 0 where

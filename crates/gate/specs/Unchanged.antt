@@ -5,7 +5,8 @@ use Rattle.desk.specs.Calls.{open_of}
 use Rattle.desk.specs.Numbers.{open_number, replace_number}
 use Rattle.desk.specs.Replace.{replaced_run}
 use Rattle.desk.specs.Rooms.{room_of, ticket_in}
-use Rattle.desk.specs.Unchanged.{open_refused, replace_refused}
+use Rattle.desk.specs.Unchanged.{replace_refused}
+use Rattle.desk.proofs.Unchanged.{open_refused}
 use Rattle.desk.specs.declared.Desk.{Desk}
 use Rattle.desk.specs.declared.Edition.{Edition}
 use Rattle.desk.specs.declared.OpenAnswer.{OpenAnswer}

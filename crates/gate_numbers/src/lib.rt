@@ -1,4 +1,6 @@
 // The gate's answers as numbers. What its replacing and its beginning answer is the desk's.
+#![tactic(auto)]
+
 ghost use Rattle.std.specs.Prelude.{◌≡◌};
 ghost use Rattle.gate.specs.Numbers.{piece_number, piece_values, verdict_number, verdict_values};
 ghost use Rattle.numbers.specs.Answers.{said_of};

@@ -1,4 +1,6 @@
 // Answers as numbers: 0 and what the call gives, or the refusal's number and what is returned with it.
+#![tactic(auto)]
+
 ghost use Rattle.std.specs.Prelude.{◌≡◌, [], ◌∷◌};
 ghost use Rattle.tagset.specs.Answer.{fault_number, fault_values};
 ghost use Rattle.tables.specs.Building.{built_number, built_values, needed_number, needed_values};
@@ -15,7 +17,7 @@ use tagset::SetFault;
 
 // No call gives more than four values yet; the others leave the layout as it is when one gives more.
 #[repr(C)]
-#[derive(Drop)]
+#[derive(Clone, Copy)]
 pub struct Answer {
     pub refusal: u64,
     pub a: u64,

@@ -1,19 +1,17 @@
 -- The rooms of every desk that calls have made tell serials apart, whatever tables its feeds were lent.
-use Rattle.std.specs.Prelude.{ℕ, zero, suc, ◌+◌, ◌<◌, ◌≤◌, false, true, List, ◌≡◌, refl, length, replicate, set, ◌⊎◌}
+use Rattle.std.specs.Prelude.{ℕ, ◌+◌, ◌<◌, ◌≤◌, true, List, ◌≡◌, length, set}
 use Rattle.std.proofs.lemmas.Bool.{false≢true}
-use Rattle.std.proofs.Common.{◌∙◌, ap, subst, sym, arith, inl, inr, eq-eqb}
-use Rattle.std.proofs.Math.Decide.{dec_le, ℕ_discrete}
-use Rattle.desk.specs.Calls.{new_desk}
+use Rattle.std.proofs.Common.{◌∙◌, ap, subst, sym, arith}
+use Rattle.std.proofs.Math.Decide.{ℕ_discrete}
 use Rattle.desk.specs.Feed.{read_for, read_on}
-use Rattle.desk.specs.Laws.Good.{good, room-held, set_places}
-use Rattle.desk.specs.Laws.Rooms.{for_held, free-held, set_other, set_same}
-use Rattle.desk.specs.Laws.Views.{Closes, close_done, close_no-ticket, closes}
-use Rattle.desk.specs.Laws.Views.{Feeds, feed_long, feed_no-place, feed_no-ticket, feed_other-slots, feed_read, feed_stale, feeds}
-use Rattle.desk.specs.Laws.Views.{Opens, open_done, open_no-room, open_no-set, open_serial-end, opens}
-use Rattle.desk.specs.Laws.Views.{Replaces, replace_done, replace_edition-end, replace_fault, replace_table, replaces}
-use Rattle.desk.specs.Laws.Views.{Takes, take-nothing, take-oldest, takes}
-use Rattle.desk.specs.Reached.{Reached, by_call, call_close, call_feed, call_open, call_replace, call_take, from_new}
-use Rattle.desk.specs.Rooms.{Apart, free_ticket, is_for, is_held, new_ticket, room_of, serial_of, ticket_in}
+use Rattle.desk.specs.Laws.Good.{set_places}
+use Rattle.desk.specs.Laws.Rooms.{set_other, set_same}
+use Rattle.desk.specs.Laws.Views.{Closes, close_done, close_no-ticket}
+use Rattle.desk.specs.Laws.Views.{Feeds, feed_long, feed_no-place, feed_no-ticket, feed_other-slots, feed_read, feed_stale}
+use Rattle.desk.specs.Laws.Views.{Opens, open_done, open_no-room, open_no-set, open_serial-end}
+use Rattle.desk.specs.Laws.Views.{Replaces, replace_done, replace_edition-end, replace_fault, replace_table}
+use Rattle.desk.specs.Laws.Views.{Takes, take-nothing, take-oldest}
+use Rattle.desk.specs.Rooms.{Apart, free_ticket, is_held, new_ticket, serial_of, ticket_in}
 use Rattle.desk.specs.declared.Closing.{Closing}
 use Rattle.desk.specs.declared.Desk.{Desk}
 use Rattle.desk.specs.declared.Feeding.{Feeding}
@@ -22,15 +20,14 @@ use Rattle.desk.specs.declared.Replacing.{Replacing}
 use Rattle.desk.specs.declared.Serial.{Serial}
 use Rattle.desk.specs.declared.Taking.{Taking}
 use Rattle.desk.specs.declared.Ticket.{Ticket}
-use Rattle.matching.specs.Laws.Bools.{not-both}
 use Rattle.matching.specs.Words.{Word}
-use Rattle.desk.specs.Layout.{Kind, Lent, Order, Sizes, sizes_of}
+use Rattle.desk.specs.Layout.{Lent, Order, Sizes}
 use Rattle.desk.specs.Limits.{most_tickets}
 
 -- no room is held under a serial that was not given yet, and no two under one
-record Told (d : Desk) : Type 0 where
-  given : (i : ℕ) → is_held (ticket_in d.tickets i) ≡ true → (ticket_in d.tickets i).serial.0 ≤ d.serial.0
-  apart : Apart d.tickets
+pub record Told (d : Desk) : Type 0 where
+  pub given : (i : ℕ) → is_held (ticket_in d.tickets i) ≡ true → (ticket_in d.tickets i).serial.0 ≤ d.serial.0
+  pub apart : Apart d.tickets
 
 -- one room set, with a serial that no other room has
 apart-set : (rooms : List Ticket) (i : ℕ) (t : Ticket) → i < length rooms → Apart rooms
@@ -58,16 +55,8 @@ apart-set rooms i t h u f a b ha hb e = go (ℕ_discrete a i) (ℕ_discrete b i)
     go (no p) (yes q) = absurd (f a p (still (off-i a p) ha) (still (at_i b q) hb) (sym (its (off-i a p)) ∙ e ∙ its (at_i b q)))
     go (no p) (no q) = u a b (still (off-i a p) ha) (still (off-i b q) hb) (sym (its (off-i a p)) ∙ e ∙ its (off-i b q))
 
-none : (n i : ℕ) → is_held (ticket_in (replicate n free_ticket) i) ≡ false
-none zero i = refl
-none (suc n) zero = refl
-none (suc n) (suc i) = none n i
-
-told-new : (kind : Kind) → Told (new_desk kind)
-told-new kind = record { given = λ i h. absurd (not-both h (none most_tickets i)); apart = λ i j h k e. absurd (not-both h (none most_tickets i)) }
-
 module _ (d : Desk) (wide : length d.tickets ≡ most_tickets) (k : Told d) where
-  told_opens : (r : Opening) → Opens d r → Told r.desk
+  pub told_opens : (r : Opening) → Opens d r → Told r.desk
   told_opens r (open_no-set a) = k
   told_opens r (open_serial-end a b) = k
   told_opens r (open_no-room a b c) = k
@@ -80,24 +69,24 @@ module _ (d : Desk) (wide : length d.tickets ≡ most_tickets) (k : Told d) wher
         (λ j n q _ z. omega (arith, k.given j q, z));
   }
 
-  told_closes : (s : Serial) (r : Closing) → Closes d s r → Told r.desk
+  pub told_closes : (s : Serial) (r : Closing) → Closes d s r → Told r.desk
   told_closes s r (close_no-ticket h) = k
   told_closes s r (close_done i e h) = record {
     given = set_places (λ (t : Ticket). t.serial.0 ≤ d.serial.0) d.tickets i free_ticket k.given (λ q. absurd (false≢true q));
     apart = apart-set d.tickets i free_ticket (omega (arith, wide, h)) k.apart (λ j n q z _. false≢true z);
   }
 
-  told_takes : (r : Taking) → Takes d r → Told r.desk
+  pub told_takes : (r : Taking) → Takes d r → Told r.desk
   told_takes r (take-nothing e) = k
   told_takes r (take-oldest h) = record { given = k.given; apart = k.apart }
 
-  told_replaces : (order : Order) (len : Sizes) (r : Replacing) → Replaces d order len r → Told r.desk
+  pub told_replaces : (order : Order) (len : Sizes) (r : Replacing) → Replaces d order len r → Told r.desk
   told_replaces order len r (replace_fault fault e) = k
   told_replaces order len r (replace_table machine needs e) = k
   told_replaces order len r (replace_edition-end count e l) = k
   told_replaces order len r (replace_done count e l) = record { given = k.given; apart = k.apart }
 
-  told_feeds : (i : ℕ) (table : Lent) (piece : Word) (r : Feeding) → (i < most_tickets → is_held (ticket_in d.tickets i) ≡ true) → Feeds d i table piece r
+  pub told_feeds : (i : ℕ) (table : Lent) (piece : Word) (r : Feeding) → (i < most_tickets → is_held (ticket_in d.tickets i) ≡ true) → Feeds d i table piece r
       → Told r.desk
   told_feeds i table piece r f (feed_no-ticket a) = k
   told_feeds i table piece r f (feed_stale a b) = k
@@ -111,42 +100,3 @@ module _ (d : Desk) (wide : length d.tickets ≡ most_tickets) (k : Told d) wher
         given = set_places (λ (x : Ticket). x.serial.0 ≤ d.serial.0) d.tickets i after k.given (λ _. k.given i (f a));
         apart = apart-set d.tickets i after (omega (arith, wide, a)) k.apart (λ j n q _ z. n (k.apart j i q (f a) z));
       }
-
-told : {d : Desk} → Reached d → Told d
-told (from_new kind) = told-new kind
-told (by_call {d = d} r (call_replace order run)) = told_replaces d (good r).rooms (told r) order (sizes_of run) _ (replaces d order (sizes_of run))
-told (by_call {d = d} r call_open) = told_opens d (good r).rooms (told r) _ (opens d)
-told (by_call {d = d} r (call_feed s table piece)) =
-    told_feeds d (good r).rooms (told r) (room_of d.tickets s) table piece _
-    (λ h. (for_held s (ticket_in d.tickets (room_of d.tickets s)) (room-held d s (good r) h)).0) (feeds d s table piece)
-told (by_call {d = d} r (call_close s)) = told_closes d (good r).rooms (told r) s _ (closes d s)
-told (by_call {d = d} r call_take) = told_takes d (good r).rooms (told r) _ (takes d)
-
-pub reached-apart : {d : Desk} → Reached d → Apart d.tickets
-reached-apart r = (told r).apart
-
--- a serial's room is the only one that it has
-pub reached_unique : {d : Desk} → Reached d → (s : Serial) (i j : ℕ) → is_for s (ticket_in d.tickets i) ≡ true
-    → is_for s (ticket_in d.tickets j) ≡ true → i ≡ j
-reached_unique {d} r s i j h k =
-    let a = for_held s (ticket_in d.tickets i) h in
-    let b = for_held s (ticket_in d.tickets j) k in
-    reached-apart r i j a.0 b.0 (a.1 ∙ sym b.1)
-
--- a serial that was not given has no room
-pub unknown_room : {d : Desk} → Reached d → (s : Serial) → (s.0 ≡ 0) ⊎ (d.serial.0 < s.0) → most_tickets ≤ room_of d.tickets s
-unknown_room {d} r s z = go (dec_le most_tickets (room_of d.tickets s)) z
-  where
-    go : Dec (most_tickets ≤ room_of d.tickets s) → (s.0 ≡ 0) ⊎ (d.serial.0 < s.0) → most_tickets ≤ room_of d.tickets s
-    go (yes h) z = h
-    go (no h) z = absurd (known z)
-      where
-        t : Ticket
-        t = ticket_in d.tickets (room_of d.tickets s)
-
-        its : (is_held t ≡ true) × (t.serial.0 ≡ s.0)
-        its = for_held s t (room-held d s (good r) (omega arith))
-
-        known : (s.0 ≡ 0) ⊎ (d.serial.0 < s.0) → ⊥
-        known (inl e) = not-both its.0 (free-held t (eq-eqb t.serial.0 0 (its.1 ∙ e)))
-        known (inr e) = omega (arith, e, its.1, (told r).given (room_of d.tickets s) its.0)

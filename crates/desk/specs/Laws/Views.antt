@@ -10,7 +10,7 @@ use Rattle.std.specs.Prelude.{◌%◌, ◌+◌, ◌<◌, ◌≤◌, suc, zero, �
 use Rattle.std.proofs.Common.{true≢false, inl, inr, arith, eqb-true, ltb-false, ltb-true}
 use Rattle.std.proofs.lemmas.Bool.{eqb-false, not-true}
 use Rattle.desk.specs.Calls.{close_by, close_of, open_by, open_of, opened_in, take_by, take_of, with_records, with_ticket}
-use Rattle.desk.specs.Feed.{advance, fed_by, feed_by, feed_in, feed_of, read_for}
+use Rattle.desk.specs.Feed.{advance, fed_by, feed_by, feed_in, read_for}
 use Rattle.desk.specs.Replace.{replace_by, replace_of, under_next}
 use Rattle.desk.specs.Rooms.{edition_of, free_room, free_ticket, room_of, serial_of, ticket_in}
 use Rattle.desk.specs.Shared.{no_record, popped}
@@ -130,10 +130,6 @@ feeds_in d i table piece = go _ _ _ _ _ refl refl refl refl refl
     go true true true true f p q r u z = feed_long (ltb-true _ _ p) (eqb-true _ _ q) (fits_so _ _ r) (ltb-true _ _ u)
     go true true true false false p q r u z = feed_no-place (ltb-true _ _ p) (eqb-true _ _ q) (fits_so _ _ r) (ltb-false _ _ u) z
     go true true true false true p q r u z = feed_read (ltb-true _ _ p) (eqb-true _ _ q) (fits_so _ _ r) (ltb-false _ _ u)
-
-pub feeds : (d : Desk) (s : Serial) (table : Lent) (piece : Word) → Feeds d (room_of d.tickets s) table piece (feed_of d s table piece)
-unfolding feed_of
-feeds d s table piece = feeds_in d (room_of d.tickets s) table piece
 
 pub data States (d : Desk) (s : Serial) : StateAnswer → Type 0 where
   state-never : most_tickets ≤ room_of d.tickets s → (s.0 ≡ 0) ⊎ (d.serial.0 < s.0) → States d s A.Never

@@ -1,0 +1,11 @@
+use Rattle.desk.specs.Layout.{lent}
+use Prim.Native.Nat.{◌-◌, ◌<◌}
+use lib.ListN.{length}
+use Rattle.gate.specs.Laws.Feeding.{SoFar}
+use Rattle.gate.proofs.feeding.feed_on.Given as goal
+
+abbrev pub invariant-loop-from : goal.invariant-loop-from
+invariant-loop-from l = SoFar l.serial (lent l.first l.second) l.initial.now l.piece l.now l.from × (length l.piece < 18446744073709551616)
+
+abbrev pub decreases-loop-from : goal.decreases-loop-from
+decreases-loop-from l = length l.piece - l.from
