@@ -1,10 +1,15 @@
 // What a program writes on standard output, gathered in a buffer: the bytes at its front wait, `used` says how many.
 // They are handed to the system when the buffer is full, and at a flush. A write that fails loses bytes and stops nothing.
+#![tactic(auto)]
+
 ghost use Rattle.std.specs.Prelude.{◌∷◌, []};
 ghost use Rattle.output.specs.Buffer.{buffer, Puts};
 ghost use Rattle.output.specs.Decimal.{decimal_of};
 
 const SIZE: usize = 65536;
+
+// The descriptor of standard output.
+const STDOUT: i32 = 1;
 
 // One byte more; answers how many wait then.
 pub fn put_byte(out: &mut [u8; 65536], used: usize, byte: u8) -> usize
@@ -51,8 +56,8 @@ pub fn put_line_end(out: &mut [u8; 65536], used: usize) -> usize
 pub fn flush(out: &[u8; 65536], used: usize) {
     let bytes: &[u8] = out;
     if used < bytes.len() {
-        io::write_all(libc::STDOUT_FILENO, &bytes[0..used]);
+        io::write_all(STDOUT, &bytes[0..used]);
     } else {
-        io::write_all(libc::STDOUT_FILENO, bytes);
+        io::write_all(STDOUT, bytes);
     }
 }

@@ -1,4 +1,6 @@
 // The lines of a replay script: what call a line makes, if any. Every line gives an answer.
+#![tactic(auto)]
+
 mod bytes;
 mod lines;
 mod names;
@@ -24,7 +26,7 @@ use numbers::{Number, number_of};
 pub use reads::machines;
 use words::{behind, word};
 
-#[derive(Drop)]
+#[derive(Clone, Copy)]
 pub enum Layout {
     Split,
     Whole,
@@ -72,6 +74,7 @@ const LONGEST: usize = 20000;
 const LARGEST: u32 = 4294967295;
 
 // The call of a line without its end; its bytes are put into the buffer.
+#[tactic(auto, using(crate::specs::Laws::Calls::call_long, crate::specs::Laws::Calls::call_empty, crate::specs::Laws::Calls::call_comment))]
 pub fn call_of(line: &[u8], buffer: &mut [u8; 20000]) -> Line
     ensures call_after { meant result.place buffer.new result.call ≡ call_of line.now }
     ensures bounded { Bounded result.call }

@@ -18,6 +18,7 @@ pub enum Numbers {
 }
 
 // What a digit counts; 16 for a byte that is no digit.
+#[tactic(auto, using(crate::specs::Laws::Numbers::digit_below, crate::specs::Laws::Numbers::digit_decimal, crate::specs::Laws::Numbers::digit_between, crate::specs::Laws::Numbers::digit_letter, crate::specs::Laws::Numbers::digit_above))]
 pub fn digit(b: u8) -> u8
     ensures { result ≡ digit_of b }
 {
@@ -52,6 +53,7 @@ pub fn all_digits(bytes: &[u8], base: u8) -> bool
 }
 
 // A word as a number of at most `most`.
+#[tactic(auto, using(crate::specs::Laws::Numbers::value_large))]
 pub fn number_of(word: &[u8], most: u32) -> Number
     ensures { result ≡ number_of most word.now }
 {

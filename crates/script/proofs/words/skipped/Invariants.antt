@@ -1,0 +1,11 @@
+-- `script::words::skipped` meets its contract. The invariant: what is left to skip.
+use Prim.Native.Nat.{◌-◌}
+use mathlib.Core.Path.{◌≡◌}
+use Rattle.script.specs.Words.{skipped}
+use Rattle.script.proofs.words.skipped.Given as goal
+
+abbrev pub invariant-loop-i : goal.invariant-loop-i
+invariant-loop-i l = skipped l.k l.bytes ≡ skipped (l.k - l.i) l.rest
+
+abbrev pub decreases-loop-i : goal.decreases-loop-i
+decreases-loop-i l = l.k - l.i
