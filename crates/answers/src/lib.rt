@@ -1,4 +1,6 @@
 // The answers of a replay script as text, put into the buffer of standard output. Each says how many bytes wait then.
+#![tactic(auto)]
+
 mod show;
 mod texts;
 

@@ -1,10 +1,14 @@
 // The bench program (docs/RULES.md, 9): feeds input.bin to one ticket under the set of set.bin, and writes every record.
-ghost use Rattle.std.specs.Prelude.{◌≡◌, length, take};
+#![tactic(auto)]
+
+ghost use Rattle.std.specs.Prelude.{◌≡◌, ◌≤◌, length, take};
 ghost use Rattle.desk.specs.Layout.{by_set, lent, one_bit, sizes};
 ghost use Rattle.desk.specs.Calls.{new_desk};
 ghost use Rattle.desk.specs.Replace.{replace_of, replaced_run};
 
 use desk::{Desk, OpenAnswer, ReplaceAnswer, Replacing, Serial};
+use std::fs::File;
+use std::io::Read;
 
 // 479 slots of 24 numbers: what the largest set needs in each table.
 fn new_table() -> [u16; 11496]
@@ -13,15 +17,29 @@ fn new_table() -> [u16; 11496]
     [0u16; 11496]
 }
 
-// The first bytes of the file of the set; none where it is missing. A longer set is judged by its first 580 bytes (benchlines, FirstBytes).
-fn read_set(bytes: &mut [u8; 4096]) -> usize {
-    let fd = os::open_read(b"set.bin");
-    if fd < 0 {
-        return 0;
+// Reads until the bytes are full, the file ends or a read fails; how many of them were read.
+fn read_full(file: &mut File, bytes: &mut [u8]) -> usize
+    ensures { result ≤ length bytes.new }
+{
+    let mut n: usize = 0;
+    while n < bytes.len() {
+        match file.read(&mut bytes[n..]) {
+            Ok(0) => return n,
+            Ok(k) => n += k,
+            Err(_) => return n,
+        }
     }
-    let n = io::read_full(fd, bytes);
-    libc::close(fd);
     n
+}
+
+// The first bytes of the file of the set; none where it is missing. A longer set is judged by its first 580 bytes (benchlines, FirstBytes).
+fn read_set(rt: &HostRuntime, bytes: &mut [u8; 4096]) -> usize
+    ensures { result ≤ 4096 }
+{
+    let Ok(mut file) = File::open(rt, "set.bin") else {
+        return 0;
+    };
+    read_full(&mut file, bytes)
 }
 
 // A new desk under the set of the first n bytes.
@@ -67,7 +85,7 @@ struct Turn {
 
 // Reads a piece of at most 4,096 bytes and feeds it.
 fn next_piece(
-    fd: i32,
+    file: &mut File,
     desk: Desk,
     serial: Serial,
     first: &[u16; 11496],
@@ -75,8 +93,8 @@ fn next_piece(
     out: &mut [u8; 65536],
     used: usize,
 ) -> Turn {
-    let mut piece = io::buffer();
-    let n = io::read_full(fd, &mut piece);
+    let mut piece = [0u8; 4096];
+    let n = read_full(file, &mut piece);
     if n == 0 {
         return Turn {
             desk,
@@ -103,7 +121,7 @@ fn taken_in_all(desk: Desk) -> u32 {
 // Feeds piece after piece to the end of the input, or to a piece that is not taken whole. Nothing says that an input ends: a count
 // of turns that no run uses up does.
 fn feed_all(
-    fd: i32,
+    file: &mut File,
     desk: Desk,
     serial: Serial,
     first: &[u16; 11496],
@@ -115,7 +133,7 @@ fn feed_all(
     let mut put = used;
     let mut turns = u64::MAX;
     while turns > 0 {
-        let turn = next_piece(fd, now, serial, first, second, out, put);
+        let turn = next_piece(file, now, serial, first, second, out, put);
         let next = turn.desk;
         now = next;
         put = turn.used;
@@ -127,8 +145,9 @@ fn feed_all(
     put
 }
 
-// Opens the ticket and feeds it the whole input.
+// Opens the ticket and feeds it the whole input; nothing where that is missing.
 fn serve(
+    rt: &HostRuntime,
     desk: Desk,
     first: &[u16; 11496],
     second: &[u16; 11496],
@@ -139,16 +158,18 @@ fn serve(
     let opened = opening.desk;
     let answer = opening.answer;
     let serial = serial_of(answer);
-    let fd = os::open_read(b"input.bin");
-    feed_all(fd, opened, serial, first, second, out, used)
+    let Ok(mut file) = File::open(rt, "input.bin") else {
+        return serving::lines::put_taken(out, used, taken_in_all(opened));
+    };
+    feed_all(&mut file, opened, serial, first, second, out, used)
 }
 
-fn main() {
-    let mut set = io::buffer();
+fn main(rt: HostRuntime) {
+    let mut set = [0u8; 4096];
     let mut first = new_table();
     let mut second = new_table();
-    let mut out = io::large_buffer();
-    let n = read_set(&mut set);
+    let mut out = [0u8; 65536];
+    let n = read_set(&rt, &mut set);
     let replacing = replaced(&set, n, &mut first, &mut second);
     let desk = replacing.desk;
     let answer = replacing.answer;
@@ -157,6 +178,6 @@ fn main() {
         output::flush(&out, used);
         return;
     }
-    let end = serve(desk, &first, &second, &mut out, used);
+    let end = serve(&rt, desk, &first, &second, &mut out, used);
     output::flush(&out, end);
 }

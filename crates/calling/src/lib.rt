@@ -1,4 +1,6 @@
 // What a replay script runs on: one desk, one set, two tables and one list; each call puts its answer.
+#![tactic(auto)]
+
 mod buffers;
 mod desk_calls;
 mod outside;

@@ -1,12 +1,14 @@
 // The lines of the input, read piece by piece.
 ghost use Rattle.std.specs.Prelude.{◌≡◌, ◌≤◌, length, take};
 
+use std::io::{Error, Read};
+
 // What is read and not yet used: the bytes of the buffer from `from` up to `to`; none at the end of the input, or where a read failed.
 #[derive(Drop)]
 pub struct Span {
     pub from: usize,
     pub to: usize,
-    pub failed: bool,
+    pub failed: Option<Error>,
 }
 
 // A line: how many of its bytes are kept, whether there was any line, and what is left of the buffer.
@@ -18,7 +20,7 @@ pub struct Gathered {
 }
 
 // What is left, or what one more read gives where nothing is.
-fn next_piece(fd: i32, input: &mut [u8], rest: Span) -> Span
+fn next_piece<R: Read>(reader: &mut R, input: &mut [u8], rest: Span) -> Span
     ensures { (result.from ≤ result.to) × (result.to ≤ length input.new) }
 {
     if rest.from < rest.to {
@@ -26,24 +28,29 @@ fn next_piece(fd: i32, input: &mut [u8], rest: Span) -> Span
             return rest;
         }
     }
-    let got = libc::read(fd, input);
-    let to = io::count(got, input);
-    Span {
-        from: 0,
-        to,
-        failed: got < 0,
+    match reader.read(input) {
+        Ok(to) => Span {
+            from: 0,
+            to,
+            failed: None,
+        },
+        Err(error) => Span {
+            from: 0,
+            to: 0,
+            failed: Some(error),
+        },
     }
 }
 
 // The next line without its end. Of one that is too long as much is kept as the line has room for.
-pub fn gather(fd: i32, input: &mut [u8], rest: Span, line: &mut [u8]) -> Gathered {
+pub fn gather<R: Read>(reader: &mut R, input: &mut [u8], rest: Span, line: &mut [u8]) -> Gathered {
     let mut left = rest;
     let mut kept: usize = 0;
     let mut begun = false;
     let mut turns = u64::MAX;
     while 0 < turns {
         turns -= 1;
-        let piece = next_piece(fd, input, left);
+        let piece = next_piece(reader, input, left);
         let from = piece.from;
         let to = piece.to;
         if to <= from {
@@ -59,7 +66,7 @@ pub fn gather(fd: i32, input: &mut [u8], rest: Span, line: &mut [u8]) -> Gathere
         let next = Span {
             from: from + part.passed,
             to,
-            failed: false,
+            failed: None,
         };
         if part.ended {
             return Gathered {

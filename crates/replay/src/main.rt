@@ -1,4 +1,6 @@
 // Reads a script of calls, makes each of them on one desk, and writes each answer.
+#![tactic(auto)]
+
 mod lines;
 
 ghost use Rattle.std.specs.Prelude.{◌≡◌, replicate};
@@ -6,6 +8,10 @@ ghost use Rattle.calling.specs.Calls.{Within};
 
 use calling::State;
 use lines::Span;
+use std::env::{Env, FillError};
+use std::fs::File;
+use std::io::{Error, ErrorKind, Read};
+use std::str::from_utf8;
 
 // What is held after a line, what is left of the input at hand, and whether there was a line.
 #[derive(Drop)]
@@ -42,10 +48,10 @@ fn new_bytes() -> [u8; 20000] {
 }
 
 // Reads line n and makes its call; where there is none, writes the answers that wait.
-fn one_line(
+fn one_line<R: Read>(
     s: State,
     n: u64,
-    fd: i32,
+    reader: &mut R,
     rest: Span,
     input: &mut [u8; 65536],
     line: &mut [u8; 20001],
@@ -59,7 +65,7 @@ fn one_line(
     requires { Within s }
     ensures { Within result.state }
 {
-    let gathered = lines::gather(fd, input, rest, line);
+    let gathered = lines::gather(reader, input, rest, line);
     let after = gathered.rest;
     if !gathered.begun {
         output::flush(out, s.used);
@@ -78,28 +84,28 @@ fn one_line(
     }
 }
 
-// Runs the script to its end; whether a read failed. The buffers stand here and are lent as arrays.
-fn run(fd: i32) -> bool {
-    let mut input = io::large_buffer();
+// Runs the script to its end; what a read failed by, if one did. The buffers stand here and are lent as arrays.
+fn run<R: Read>(reader: &mut R) -> Option<Error> {
+    let mut input = [0u8; 65536];
     let mut line = new_line();
     let mut bytes = new_bytes();
-    let mut set = io::buffer();
+    let mut set = [0u8; 4096];
     let mut first = new_first();
     let mut second = new_second();
     let mut list = new_list();
-    let mut out = io::large_buffer();
+    let mut out = [0u8; 65536];
     let mut s = calling::new_state();
     let mut rest = Span {
         from: 0,
         to: 0,
-        failed: false,
+        failed: None,
     };
     let mut n: u64 = 1;
     while n < u64::MAX {
         let t = one_line(
             s,
             n,
-            fd,
+            reader,
             rest,
             &mut input,
             &mut line,
@@ -119,31 +125,50 @@ fn run(fd: i32) -> bool {
         rest = after;
         n += 1;
     }
-    true
+    Some(Error::from(ErrorKind::Other))
 }
 
 // One line on standard error: what couldn't be read, and why.
-fn fail(name: &[u8]) {
-    io::write_all(libc::STDERR_FILENO, b"replay: ");
-    os::fail(name);
+fn fail(rt: &HostRuntime, name: &str, error: Error) {
+    let _ = eprintln!(rt; "replay: {name}: {error}");
 }
 
-fn main() {
-    if os::arg_count() < 2 {
-        if run(libc::STDIN_FILENO) {
-            fail(b"standard input");
+// Runs the script of standard input.
+fn run_input(rt: &HostRuntime) {
+    let mut input = rt.stdin();
+    if let Some(error) = run(&mut input) {
+        fail(rt, "standard input", error);
+    }
+}
+
+// Runs the script of a file.
+fn run_file(rt: &HostRuntime, name: &str) {
+    match File::open(rt, name) {
+        Ok(mut file) => {
+            if let Some(error) = run(&mut file) {
+                fail(rt, name, error);
+            }
         }
-        return;
+        Err(error) => fail(rt, name, error),
     }
-    let mut path = io::buffer();
-    let n = os::arg(1, &mut path);
-    let fd = os::open_read(&path[..n]);
-    if fd < 0 {
-        fail(&path[..n]);
-        return;
+}
+
+fn main(rt: HostRuntime) {
+    let mut name = [0u8; 4096];
+    match rt.arg(1, &mut name) {
+        Ok(n) => match from_utf8(&name[..n]) {
+            Ok(path) => run_file(&rt, path),
+            Err(_) => fail(
+                &rt,
+                "the script's name",
+                Error::from(ErrorKind::InvalidInput),
+            ),
+        },
+        Err(FillError::TooLong) => fail(
+            &rt,
+            "the script's name",
+            Error::from(ErrorKind::InvalidInput),
+        ),
+        Err(FillError::NotPresent) => run_input(&rt),
     }
-    if run(fd) {
-        fail(&path[..n]);
-    }
-    libc::close(fd);
 }

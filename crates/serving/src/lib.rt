@@ -1,4 +1,6 @@
 // What the bench program does between its files: feeding a piece to the ticket, taking all records whenever a feed stops, and the lines.
+#![tactic(auto)]
+
 pub mod lines;
 
 ghost use Rattle.desk.specs.Layout.{lent};

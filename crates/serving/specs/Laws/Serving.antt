@@ -5,7 +5,7 @@ use Rattle.desk.specs.declared.Desk.{Desk}
 use Rattle.desk.specs.declared.Feeding.{Feeding}
 use Rattle.desk.specs.declared.Serial.{Serial}
 use Rattle.desk.specs.Feed.{feed_of, taken_by}
-use Rattle.desk.specs.Laws.Pieces.{fed-at-most}
+use Rattle.desk.proofs.Laws.Pieces.{fed-at-most}
 use Rattle.matching.specs.Words.{Word}
 use Rattle.desk.specs.TakeMany.{list_taken, many_of, oldest, take_many_of}
 use Rattle.desk.specs.declared.TakingMany.{TakingMany}

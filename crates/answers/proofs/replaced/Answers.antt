@@ -1,0 +1,14 @@
+use Rattle.numbers.specs.Laws.{replace_few}
+use Rattle.output.specs.Laws.Waiting.{put_then}
+use Rattle.answers.specs.Laws.Said.{say_given, say_refused}
+use Rattle.answers.proofs.replaced.Goals as goal
+
+pub returns-then-given-gt0 : goal.returns-then-given-gt0
+returns-then-given-gt0 c =
+    say_refused _ _ _ (replace_few c.args.answer)
+    c.of_replace-said.ensures c.if-given-gt0.true c.refused.ensures
+
+pub returns : goal.returns
+returns c =
+    say_given _ _ _ c.of_replace-said.ensures c.if-given-gt0.false
+    (put_then (put_then c.put_numbered-n.ensures c.put_numbered-n-2.ensures) c.put_line_end.ensures)
