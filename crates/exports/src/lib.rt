@@ -1,5 +1,7 @@
 // The static library for C and Rust: each call of the gate and of the desk, building and reading outside it, and the size queries.
 // A gate or a desk goes in by value and comes back beside its answer; its image is numbers alone, so any bytes of its size are one.
+#![tactic(auto)]
+
 ghost use Rattle.std.specs.Prelude.{◌≡◌, [], ◌∷◌, length};
 ghost use Rattle.desk.specs.Layout.{by_set, lent, one_bit, sizes};
 ghost use Rattle.desk.specs.Rooms.{serial_of};
