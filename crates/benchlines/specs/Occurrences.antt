@@ -101,7 +101,7 @@ writes_the_occurrences set lent ts edition count pieces e lines bytes below tags
     b = begun set lent ts edition count tags accepted
 
     c : Comes first (serial_of 1) bytes e lines
-    c = all_comes first (serial_of 1) b.desk-is b.table_is small served
+    c = all_comes (serial_of 1) first b.desk-is b.table_is small served
 
     calls : List Call
     calls = call_replace (by_set set) lent ∷ call_open ∷ c.calls

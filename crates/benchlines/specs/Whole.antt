@@ -8,8 +8,9 @@ use Rattle.std.proofs.Common.{◌∙◌, arith, length-append, length-drop, leng
 use Rattle.std.proofs.Math.Path.{ap}
 use Rattle.desk.specs.Calls.{new_desk, open_of}
 use Rattle.desk.specs.Feed.{feed_of}
-use Rattle.desk.specs.Laws.Pieces.{fed-at-most}
-use Rattle.desk.specs.Laws.Views.{Feeds, feed_long, feed_no-place, feed_no-ticket, feed_other-slots, feed_read, feed_stale, feeds}
+use Rattle.desk.proofs.Laws.Pieces.{fed-at-most}
+use Rattle.desk.specs.Laws.Views.{Feeds, feed_long, feed_no-place, feed_no-ticket, feed_other-slots, feed_read, feed_stale}
+use Rattle.desk.proofs.Laws.Views.{feeds}
 use Rattle.desk.specs.Replace.{replace_of, replaced_run}
 use Rattle.desk.specs.Rooms.{edition_of, room_of, serial_of}
 use Rattle.desk.specs.Shared.{records_of}
@@ -96,26 +97,26 @@ parts_length : (before piece : Word) (t : ℕ) → t ≤ length piece → length
 parts_length before piece t h = omega (arith, length-append before (take t piece), length-take-le t piece h, length-drop t piece)
 
 -- a piece that isn't LONG is taken whole
-whole : {ts : Tags} {before : Word} (calls : List Call) {table : Lent} {d e : Desk} {piece : Word} {lines : List ℕ} {n : ℕ} → Ready ts before calls
+whole : {ts : Tags} {table : Lent} {before : Word} (calls : List Call) {d e : Desk} {piece : Word} {lines : List ℕ} {n : ℕ} → Ready ts before calls
     → (run (start one_bit) calls).desk ≡ d → (run (start one_bit) calls).table ≡ table → Below 256 piece → length before + length piece ≤ largest
     → Served (serial_of 1) table d piece e lines n → n ≡ length piece
 whole calls ready at lent below few all-taken = refl
-whole calls {table} {d} {piece = []} ready at lent below few (none-taken some none) = absurd (omega arith)
-whole calls {table} {d} {piece = c ∷ piece} ready at lent below few (none-taken some none) =
+whole {table = table} calls {d} {piece = []} ready at lent below few (none-taken some none) = absurd (omega arith)
+whole {table = table} calls {d} {piece = c ∷ piece} ready at lent below few (none-taken some none) =
     let taken : 0 < rest_taken (serial_of 1) table d (c ∷ piece) = rw (← at, ← lent) (some_bytes ready c piece below few) in
     absurd (omega (arith, taken, none))
-whole {before = before} calls {table} {d} {piece = piece} ready at lent below few (some-taken some more) =
+whole {table = table} {before = before} calls {d} {piece = piece} ready at lent below few (some-taken some more) =
     let s = serial_of 1 in
     let t = rest_taken s table d piece in
     let c = rest_comes_by (run (start one_bit) calls) s table d piece at lent below in
     let part = fed-at-most d s table piece in
     let same = run_append (start one_bit) calls c.calls in
     let left : length (before ++ take t piece) + length (drop t piece) ≤ largest = omega (arith, parts_length before piece t part, few) in
-    let rest = whole (calls ++ c.calls) (ready_on ready c) (ap (λ (x : World). x.desk) same ∙ c.desk-is)
+    let rest = whole {before = before ++ take t piece} (calls ++ c.calls) (ready_on ready c) (ap (λ (x : World). x.desk) same ∙ c.desk-is)
     (ap (λ (x : World). x.table) same ∙ c.table_is ∙ lent) (below_rest t piece below) left more in
     omega (arith, rest, part, length-drop t piece)
 
-whole_input : {ts : Tags} {before : Word} (calls : List Call) {table : Lent} {d e : Desk} {pieces : List Word} {lines : List ℕ} {bytes : Word}
+whole_input : {ts : Tags} {table : Lent} {before : Word} (calls : List Call) {d e : Desk} {pieces : List Word} {lines : List ℕ} {bytes : Word}
     → Ready ts before calls
     → (run (start one_bit) calls).desk ≡ d → (run (start one_bit) calls).table ≡ table → AllBelow 256 pieces → length before + length (joined pieces) ≤ largest
     → ServedAll (serial_of 1) table d pieces e lines bytes → bytes ≡ joined pieces
@@ -124,13 +125,13 @@ whole_input calls ready at lent below few no-piece = refl
 whole_input {before = before} calls ready at lent below few (one_piece {piece = piece} {pieces = pieces} {n = n} {bytes = bytes} served more) =
     let sizes = length-append piece (joined pieces) in
     let taken : n ≡ length piece = whole calls ready at lent below.0 (omega (arith, few, sizes)) served in
-    let c = served_comes (run (start one_bit) calls) (serial_of 1) at lent below.0 served in
+    let c = served_comes (serial_of 1) (run (start one_bit) calls) at lent below.0 served in
     let all : take n piece ≡ piece = take_all n piece (omega (arith, taken)) in
     let same = run_append (start one_bit) calls c.calls in
     let left : length (before ++ take n piece) + length (joined pieces) ≤ largest =
     omega (arith, few, sizes, length-append before (take n piece), ap (λ (x : Word). length x) all) in
     let rest : bytes ≡ joined pieces =
-    whole_input (calls ++ c.calls) (ready_on ready c) (ap (λ (x : World). x.desk) same ∙ c.desk-is)
+    whole_input {before = before ++ take n piece} (calls ++ c.calls) (ready_on ready c) (ap (λ (x : World). x.desk) same ∙ c.desk-is)
     (ap (λ (x : World). x.table) same ∙ c.table_is ∙ lent) below.1 left more in
     ap (λ (x : Word). x ++ bytes) all ∙ ap (λ (x : Word). piece ++ x) rest
 

@@ -17,7 +17,7 @@ use Rattle.history.specs.Laws.Later.{goes-run}
 use Rattle.history.specs.Laws.LedgerSteps.{any_sound, sound-run}
 use Rattle.history.specs.Laws.Numbers.{differ}
 use Rattle.history.specs.RecordsHeld.{HeldAfter}
-use Rattle.matching.specs.Laws.Parts.{kept_in}
+use Rattle.matching.proofs.Laws.Parts.{kept_in}
 use Rattle.matching.specs.Limits.{largest}
 use Rattle.matching.specs.Occurrence.{Ordered}
 use Rattle.matching.specs.Parts.{Layout, Runs, lengths, place_below, read_in, slots_over}

@@ -4,8 +4,10 @@ use Rattle.desk.specs.declared.StateAnswer.TheVariants as A
 use Rattle.std.specs.Prelude.{◌-◌, ◌<◌, suc, ℕ, List, ◌∷◌, ◌≡◌, refl, length}
 use Rattle.std.proofs.Common.{◌∙◌, ap, sym, arith}
 use Rattle.desk.specs.Feed.{feed_of, taken_by}
-use Rattle.desk.specs.Laws.Good.{good, on-place, room-held}
-use Rattle.desk.specs.Laws.Views.{Feeds, feed_long, feed_no-place, feed_no-ticket, feed_other-slots, feed_read, feed_stale, feeds}
+use Rattle.desk.specs.Laws.Good.{on-place, room-held}
+use Rattle.desk.proofs.Laws.Good.{good}
+use Rattle.desk.specs.Laws.Views.{Feeds, feed_long, feed_no-place, feed_no-ticket, feed_other-slots, feed_read, feed_stale}
+use Rattle.desk.proofs.Laws.Views.{feeds}
 use Rattle.desk.specs.Laws.Views.{States, state-closed, state-never, state_open, state-stale, states}
 use Rattle.desk.specs.Rooms.{room_of, ticket_in}
 use Rattle.desk.specs.State.{state_of}

@@ -8,7 +8,8 @@ use Rattle.std.proofs.Common.{inr, ◌∙◌, ap, ap₂, subst, sym, le_trans, a
 use Rattle.desk.specs.Calls.{close_of}
 use Rattle.desk.specs.Feed.{feed_of}
 use Rattle.desk.specs.Laws.Views.{Closes, close_done, close_no-ticket, closes}
-use Rattle.desk.specs.Laws.Views.{Feeds, feed_long, feed_no-place, feed_no-ticket, feed_other-slots, feed_read, feed_stale, feeds}
+use Rattle.desk.specs.Laws.Views.{Feeds, feed_long, feed_no-place, feed_no-ticket, feed_other-slots, feed_read, feed_stale}
+use Rattle.desk.proofs.Laws.Views.{feeds}
 use Rattle.desk.specs.Laws.Views.{Replaces, replace_done, replace_edition-end, replace_fault, replace_table, replaces}
 use Rattle.desk.specs.Replace.{replace_of}
 use Rattle.desk.specs.Rooms.{edition_of, room_of, serial_of, ticket_in}

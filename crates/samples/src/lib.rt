@@ -1,1 +1,2 @@
 // The bench samples that are proved: one table of theorems, in specs/Samples.antt.
+#![tactic(auto)]

@@ -120,22 +120,22 @@ comes_none w s at = record {
   empty = λ r none. ap (λ (x : Desk). x.records.count) (sym at) ∙ none;
 }
 
-pub served_comes : (w : World) (s : Serial) {table : Lent} {d e : Desk} {piece : Word} {lines : List ℕ} {n : ℕ} → w.desk ≡ d → w.table ≡ table
+pub served_comes : (s : Serial) {table : Lent} (w : World) {d e : Desk} {piece : Word} {lines : List ℕ} {n : ℕ} → w.desk ≡ d → w.table ≡ table
     → Below 256 piece
     → Served s table d piece e lines n → Comes w s (take n piece) e lines
-served_comes w s at lent below all-taken = comes_none w s at
-served_comes w s {table} {d} {piece = piece} at lent below (none-taken some none) =
+served_comes s w at lent below all-taken = comes_none w s at
+served_comes s {table} w {d} {piece = piece} at lent below (none-taken some none) =
     subst (λ (k : ℕ). Comes w s (take k piece) (rest_desk s table d piece) (rest_lines s table d piece)) none (rest_comes_by w s table d piece at lent below)
-served_comes w s {table} {d} {piece = piece} at lent below (some-taken {e = e} {lines = lines} {n = n} some more) =
+served_comes s {table} w {d} {piece = piece} at lent below (some-taken {e = e} {lines = lines} {n = n} some more) =
     let t = rest_taken s table d piece in
     let c = rest_comes_by w s table d piece at lent below in
     subst (λ (x : Word). Comes w s x e (rest_lines s table d piece ++ lines)) (sym (take-add t n piece))
     (comes_then w s (take t piece) (take n (drop t piece)) c
-    (served_comes (run w c.calls) s c.desk-is (c.table_is ∙ lent) (below_rest t piece below) more))
+    (served_comes s (run w c.calls) c.desk-is (c.table_is ∙ lent) (below_rest t piece below) more))
 
-pub all_comes : (w : World) (s : Serial) {table : Lent} {d e : Desk} {pieces : List Word} {lines : List ℕ} {bytes : Word} → w.desk ≡ d → w.table ≡ table
+pub all_comes : (s : Serial) {table : Lent} (w : World) {d e : Desk} {pieces : List Word} {lines : List ℕ} {bytes : Word} → w.desk ≡ d → w.table ≡ table
     → AllBelow 256 pieces → ServedAll s table d pieces e lines bytes → Comes w s bytes e lines
-all_comes w s at lent below no-piece = comes_none w s at
-all_comes w s at lent below (one_piece served more) =
-    let c = served_comes w s at lent below.0 served in
-    comes_then w s _ _ c (all_comes (run w c.calls) s c.desk-is (c.table_is ∙ lent) below.1 more)
+all_comes s w at lent below no-piece = comes_none w s at
+all_comes s w at lent below (one_piece served more) =
+    let c = served_comes s w at lent below.0 served in
+    comes_then w s _ _ c (all_comes s (run w c.calls) c.desk-is (c.table_is ∙ lent) below.1 more)

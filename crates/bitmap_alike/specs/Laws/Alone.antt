@@ -5,8 +5,9 @@ use mathlib.Core.List.{List, [], ◌++◌, ◌∷◌, append_assoc, append-nil}
 use Rattle.std.proofs.Common.{◌∙◌, subst₂, arith, length-append, length-take-le, lt-ltb, ltb-false, ltb-true}
 use Rattle.std.proofs.Math.Path.{◌≡◌, ap, ap₂, refl, subst, sym}
 use Rattle.std.proofs.Math.ListN.{length, take}
-use Rattle.matching.specs.Laws.Prefixes.{Tree, lt_tree, tree, walk_tree}
-use Rattle.matching.specs.Laws.Prefixes.{tree}
+use Rattle.matching.specs.Laws.Prefixes.{Tree, lt_tree, walk_tree}
+use Rattle.matching.proofs.Laws.Prefixes.{tree}
+use Rattle.matching.proofs.Laws.Prefixes.{tree}
 use Rattle.matching.specs.Limits.{largest}
 use Rattle.matching.specs.Machine.{longest, prefixes, walk}
 use Rattle.matching.specs.Occurrence.{Occurrence, occurrences_by, occurrences_from, tags_ending}
@@ -27,7 +28,8 @@ use Rattle.bitmap_alike.specs.Readings.{AsTags, MapAsBuilt, MapReads, MapRow, Ma
 use Rattle.bitmap_tables.specs.Refusals.{MapBuilds}
 use Rattle.bitmap_tables.specs.Laws.Exact.{map-lawful, map-tags_iff, words-exact}
 use Rattle.matching.specs.Tags.{exact}
-use Rattle.bitmap_tables.specs.Laws.Left.{map-left-holds, map-left-length}
+use Rattle.bitmap_tables.proofs.Laws.Left.{map-left-length}
+use Rattle.bitmap_tables.specs.Laws.Left.{map-left-holds}
 use Rattle.tagset.specs.Laws.Exact.{accepted_iff, same_good}
 use Rattle.matching.specs.Laws.Inputs.{done-by}
 use Rattle.matching.specs.Laws.Occurrences.{occurrences_by_append}

@@ -9,9 +9,10 @@ use Rattle.matching.specs.Laws.Expected.{expected_done}
 use Rattle.matching.specs.Laws.Kinds.{word_as-exact}
 use Rattle.matching.specs.Laws.Layouts.{place_in-start}
 use Rattle.matching.specs.Laws.Tags.{at_exact, of_kind-exact}
-use Rattle.matching.specs.Laws.Prefixes.{index_of_nil, lt_tree, tree, word_tree}
+use Rattle.matching.specs.Laws.Prefixes.{lt_tree, word_tree}
+use Rattle.matching.proofs.Laws.Prefixes.{index_of_nil, tree}
 use Rattle.matching.specs.Laws.Slices.{map-byte, reduced-byte}
-use Rattle.matching.specs.Laws.Prefixes.{tree}
+use Rattle.matching.proofs.Laws.Prefixes.{tree}
 use Rattle.matching.specs.Limits.{largest}
 use Rattle.matching.specs.Machine.{longest, prefixes, walk}
 use Rattle.matching.specs.Occurrence.{Occurrence, tags_ending}

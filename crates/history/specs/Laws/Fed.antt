@@ -2,7 +2,8 @@
 use Rattle.std.specs.Prelude.{◌+◌, ◌-◌, ◌<◌, ◌≤◌, suc, ℕ, true, List, [], ◌++◌, ◌≡◌, refl, length, set, take}
 use Rattle.std.proofs.Common.{append_assoc, append-nil, inl, inr, ◌∙◌, ap, ap₂, subst, sym, zero-add, arith, length-append, length-take-le}
 use Rattle.desk.specs.Feed.{fed_by, read_for, read_on}
-use Rattle.desk.specs.Laws.Good.{GoodDesk, good}
+use Rattle.desk.specs.Laws.Good.{GoodDesk}
+use Rattle.desk.proofs.Laws.Good.{good}
 use Rattle.desk.specs.Laws.Rooms.{for_held}
 use Rattle.desk.specs.Laws.Shared.{held-push_all, records_for_append, records_for-other, records_for-own, records_of_append, records_of-length}
 use Rattle.desk.specs.Reached.{Reached}

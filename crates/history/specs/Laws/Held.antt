@@ -5,12 +5,14 @@ use Rattle.std.proofs.Common.{append-nil, ◌∙◌, ap, sym, arith}
 use Rattle.desk.specs.Calls.{take_of}
 use Rattle.desk.specs.Conditions.{ticket_of}
 use Rattle.desk.specs.Feed.{feed_of, read_for}
-use Rattle.desk.specs.Laws.Good.{good, on-place, room-held}
+use Rattle.desk.specs.Laws.Good.{on-place, room-held}
+use Rattle.desk.proofs.Laws.Good.{good}
 use Rattle.desk.specs.Laws.Layout.{desk-kept}
 use Rattle.desk.specs.Laws.Rooms.{for_held}
 use Rattle.desk.specs.Laws.Shared.{held-popped, held-push_all, records_of-length}
 use Rattle.desk.specs.Laws.Views.{Closes, close_done, close_no-ticket, closes}
-use Rattle.desk.specs.Laws.Views.{Feeds, feed_long, feed_no-place, feed_no-ticket, feed_other-slots, feed_read, feed_stale, feeds}
+use Rattle.desk.specs.Laws.Views.{Feeds, feed_long, feed_no-place, feed_no-ticket, feed_other-slots, feed_read, feed_stale}
+use Rattle.desk.proofs.Laws.Views.{feeds}
 use Rattle.desk.specs.Laws.Views.{Opens, open_done, open_no-room, open_no-set, open_serial-end, opens}
 use Rattle.desk.specs.Laws.Views.{Replaces, replace_done, replace_edition-end, replace_fault, replace_table, replaces}
 use Rattle.desk.specs.Laws.Views.{Takes, take-nothing, take-oldest, takes}

@@ -10,9 +10,11 @@ use Rattle.matching.specs.Laws.Words.{below_append, below-take}
 use Rattle.history.specs.Laws.Numbers.{differ}
 use Rattle.history.specs.Readings.{AsBuilt, Demanded, Row, Turn, TurnsOfBytes, in_turn, on_turn, row_then, stopped_full, took_all}
 use Rattle.matching.specs.Laws.Expected.{Alike, Done, expected_advances, expected_alike, expected_done}
-use Rattle.matching.specs.Laws.Layouts.{LeftIn, place_in-below}
+use Rattle.matching.specs.Laws.Layouts.{LeftIn}
+use Rattle.matching.proofs.Laws.Layouts.{place_in-below}
 use Rattle.matching.specs.Laws.Occurrences.{occurrences_by_append}
-use Rattle.matching.specs.Laws.Parts.{AllTaken, read_left}
+use Rattle.matching.specs.Laws.Parts.{AllTaken}
+use Rattle.matching.proofs.Laws.Parts.{read_left}
 use Rattle.matching.specs.Laws.Tags.{at-few}
 use Rattle.matching.specs.Limits.{largest}
 use Rattle.matching.specs.Occurrence.{Occurrence, occurrences_by}

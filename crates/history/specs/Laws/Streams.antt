@@ -4,11 +4,13 @@ use Rattle.std.specs.Prelude.{◌+◌, ◌<◌, suc, zero, ℕ, List, [], ◌++�
 use Rattle.std.proofs.Common.{append-nil, ◌∙◌, ap, subst, sym, zero-add, arith, length-append}
 use Rattle.desk.specs.Calls.{with_ticket}
 use Rattle.desk.specs.Feed.{fed_by, read_for}
-use Rattle.desk.specs.Laws.Good.{good, on-place, room-held}
+use Rattle.desk.specs.Laws.Good.{on-place, room-held}
+use Rattle.desk.proofs.Laws.Good.{good}
 use Rattle.desk.specs.Laws.Rooms.{for_held}
 use Rattle.desk.specs.Laws.Shared.{records_for-own, records_of-length}
 use Rattle.desk.specs.Laws.Views.{Closes, close_done, close_no-ticket, closes}
-use Rattle.desk.specs.Laws.Views.{Feeds, feed_long, feed_no-place, feed_no-ticket, feed_other-slots, feed_read, feed_stale, feeds}
+use Rattle.desk.specs.Laws.Views.{Feeds, feed_long, feed_no-place, feed_no-ticket, feed_other-slots, feed_read, feed_stale}
+use Rattle.desk.proofs.Laws.Views.{feeds}
 use Rattle.desk.specs.Laws.Views.{Opens, open_done, open_no-room, open_no-set, open_serial-end, opens}
 use Rattle.desk.specs.Laws.Views.{Replaces, replace_done, replace_edition-end, replace_fault, replace_table, replaces}
 use Rattle.desk.specs.Laws.Views.{takes}

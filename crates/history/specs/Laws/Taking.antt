@@ -1,7 +1,8 @@
 -- A taking keeps the stream of records: the oldest of those held goes behind those taken out.
 use Rattle.std.specs.Prelude.{◌%◌, List, [], ◌++◌, ◌∷◌, ◌≡◌, refl, get_or}
 use Rattle.std.proofs.Common.{append_assoc, append-nil, ◌∙◌, ap, sym}
-use Rattle.desk.specs.Laws.Good.{GoodDesk, good}
+use Rattle.desk.specs.Laws.Good.{GoodDesk}
+use Rattle.desk.proofs.Laws.Good.{good}
 use Rattle.desk.specs.Laws.Shared.{held-popped}
 use Rattle.desk.specs.Laws.Views.{Takes, take-nothing, take-oldest, takes}
 use Rattle.desk.specs.Reached.{by_call, call_take, Reached}

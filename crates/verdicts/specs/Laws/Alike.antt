@@ -6,7 +6,8 @@ use Rattle.std.proofs.Math.Seq.{set_out}
 use Rattle.desk.specs.Feed.{feed_of}
 use Rattle.desk.specs.Laws.Rooms.{first_room-kept, set_other, set_same}
 use Rattle.desk.specs.Laws.TakeMany.{take-many-reached}
-use Rattle.desk.specs.Laws.Views.{Feeds, feeds, feed_no-ticket, feed_stale, feed_other-slots, feed_long, feed_no-place, feed_read}
+use Rattle.desk.specs.Laws.Views.{Feeds, feed_no-ticket, feed_stale, feed_other-slots, feed_long, feed_no-place, feed_read}
+use Rattle.desk.proofs.Laws.Views.{feeds}
 use Rattle.desk.specs.Reached.{Reached, by_call, call_feed}
 use Rattle.desk.specs.Rooms.{is_for, room_of, ticket_in}
 use Rattle.desk.specs.TakeMany.{many_of, oldest, take_many_of}

@@ -1,6 +1,6 @@
 -- What a beginning and a replacement answer; over any tables.
 use Rattle.std.proofs.Common.{sym}
-use Rattle.desk.specs.Laws.Good.{good}
+use Rattle.desk.proofs.Laws.Good.{good}
 use Rattle.desk.specs.Layout.{Order, Sizes}
 use Rattle.gate.specs.Gate.{begin_of, change_of}
 use Rattle.history.specs.Laws.Counts.{opens_as, replaces_as}

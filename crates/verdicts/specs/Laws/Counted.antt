@@ -2,9 +2,10 @@
 use Rattle.std.specs.Prelude.{ℕ, zero, suc, ◌+◌, ◌≤◌, Bool, cond, false, true, ◌≡◌, refl, eqb, ltb, drop, length}
 use Rattle.std.proofs.Common.{◌∙◌, ap, subst, arith, length-drop, length-set, eqb-true, ltb-true}
 use Rattle.desk.specs.Feed.{feed_of, taken_by}
-use Rattle.desk.specs.Laws.Pieces.{fed-at-most}
+use Rattle.desk.proofs.Laws.Pieces.{fed-at-most}
 use Rattle.desk.specs.Laws.Rooms.{set_other, set_same}
-use Rattle.desk.specs.Laws.Views.{Feeds, feeds, feed_no-ticket, feed_stale, feed_other-slots, feed_long, feed_no-place, feed_read}
+use Rattle.desk.specs.Laws.Views.{Feeds, feed_no-ticket, feed_stale, feed_other-slots, feed_long, feed_no-place, feed_read}
+use Rattle.desk.proofs.Laws.Views.{feeds}
 use Rattle.desk.specs.Rooms.{room_of, ticket_in}
 use Rattle.desk.specs.TakeMany.{take_many_of}
 use Rattle.desk.specs.declared.Desk.{Desk}

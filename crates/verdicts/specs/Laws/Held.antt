@@ -4,7 +4,7 @@ use Prim.Native.Nat.{ℕ, zero, suc, ◌+◌, ◌<◌, ◌≤◌}
 use Rattle.std.specs.Prelude.{Bool, cond, false, true, List, [], ◌++◌, ◌∷◌, ◌≡◌, eqb, ltb, get_or, length, set}
 use Rattle.std.proofs.Common.{◌∙◌, sym, ap, subst, le_of_eq, le_trans, arith, eq-eqb, ltb-true, ne_eqb}
 use Rattle.std.proofs.Math.Path.{refl}
-use Rattle.desk.specs.Laws.Good.{good}
+use Rattle.desk.proofs.Laws.Good.{good}
 use Rattle.desk.specs.Laws.Rooms.{first_room-holds, for_held, free-held, held-set, new-held}
 use Rattle.desk.specs.Laws.Views.{Closes, Opens, Replaces, close_done, close_no-ticket, closes, open_done, open_no-room, open_no-set, open_serial-end, opens}
 use Rattle.desk.specs.Laws.Views.{replace_done, replace_edition-end, replace_fault, replace_table, replaces}

@@ -7,7 +7,7 @@ use Rattle.std.proofs.Common.{inl, inr, ◌∙◌, sym, ap, subst, le_of_eq, ari
 use Rattle.std.proofs.Math.Path.{refl}
 use Rattle.std.proofs.Math.Dec.{eqb}
 use Rattle.std.proofs.lemmas.Bool.{eqb-false}
-use Rattle.desk.specs.Laws.Good.{good}
+use Rattle.desk.proofs.Laws.Good.{good}
 use Rattle.desk.specs.Laws.Rooms.{first_room-holds, for_held, free-held, held_for, new-held}
 use Rattle.desk.specs.Laws.Views.{Closes, Opens, Replaces, close_done, close_no-ticket, closes, open_done, open_no-room, open_no-set, open_serial-end, opens}
 use Rattle.desk.specs.Laws.Views.{replace_done, replace_edition-end, replace_fault, replace_table, replaces}
@@ -41,7 +41,7 @@ use Rattle.verdicts.specs.Laws.Masks.{nothing_seen, rooms-apart}
 use Rattle.desk.specs.Layout.{Kind, Lent, Order, sizes_of}
 use Rattle.desk.specs.Limits.{most_tickets}
 use Rattle.desk.specs.Calls.{opened_in}
-use Rattle.desk.specs.Laws.Apart.{reached_unique, unknown_room}
+use Rattle.desk.proofs.Laws.Apart.{reached_unique, unknown_room}
 
 -- what a room keeps for an approval: the ticket is of the edition that the count of replacements was, and unread is 0 while it is whole
 pub record Kept (t : Ticket) (x : Seen) (p : Approval) : Type 0 where

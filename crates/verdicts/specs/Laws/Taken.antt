@@ -3,7 +3,7 @@ use Rattle.gate.specs.declared.PieceAnswer.TheVariants as P
 use Rattle.std.specs.Prelude.{ℕ, ◌+◌, ◌<◌, Bool, false, true, ◌≡◌, refl, eqb, length}
 use Rattle.std.proofs.Common.{◌∙◌, ap, subst, sym, arith, eqb-true}
 use Rattle.std.proofs.lemmas.Bool.{eqb-false}
-use Rattle.desk.specs.Laws.Good.{good}
+use Rattle.desk.proofs.Laws.Good.{good}
 use Rattle.desk.specs.Rooms.{room_of, ticket_in}
 use Rattle.desk.specs.declared.Serial.{Serial}
 use Rattle.gate.specs.Feeding.{fed_on}

@@ -3,8 +3,9 @@ use Rattle.desk.specs.declared.FeedAnswer.TheVariants as F
 use Rattle.std.specs.Prelude.{ℕ, zero, suc, ◌+◌, ◌-◌, ◌<◌, ◌≤◌, Bool, cond, false, true, List, [], ◌++◌, ◌∷◌, ◌≡◌, refl, eqb, ltb, drop, get_or, length, take}
 use Rattle.std.proofs.Common.{◌∙◌, sym, ap, subst, arith, length-append, length-drop, length-take-le, eqb-true, ltb-false, ltb-true}
 use Rattle.desk.specs.Feed.{feed_of, taken_by}
-use Rattle.desk.specs.Laws.Pieces.{fed-at-most}
-use Rattle.desk.specs.Laws.Views.{Feeds, feeds, feed_no-ticket, feed_stale, feed_other-slots, feed_long, feed_no-place, feed_read}
+use Rattle.desk.proofs.Laws.Pieces.{fed-at-most}
+use Rattle.desk.specs.Laws.Views.{Feeds, feed_no-ticket, feed_stale, feed_other-slots, feed_long, feed_no-place, feed_read}
+use Rattle.desk.proofs.Laws.Views.{feeds}
 use Rattle.desk.specs.Rooms.{room_of, ticket_in}
 use Rattle.desk.specs.declared.Desk.{Desk}
 use Rattle.desk.specs.declared.Edition.{Edition}
