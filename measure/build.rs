@@ -1,9 +1,9 @@
-// Links the archive, without which nothing can be measured: the repository's own, or that of the folder that SPEED_ARCHIVE names,
-// where the library was compiled for this machine. And Hyperscan from the folder that SPEED_HYPERSCAN names.
+// Links the archive, without which nothing can be measured: the repository's own, or that of the folder that SPEED_ARCHIVE names.
+// And Hyperscan from the folder that SPEED_HYPERSCAN names.
 use std::env;
 use std::path::{Path, PathBuf};
 
-const ARCHIVE: &str = "target/staticlib/libexports.a";
+const ARCHIVE: &str = "crates/exports/out/libexports.a";
 
 /// The folder that a variable names, if it is set and names one.
 fn named(variable: &str) -> Option<PathBuf> {
@@ -22,9 +22,6 @@ fn archive_above(start: &Path) -> Option<PathBuf> {
 fn main() {
     let here = env::var("CARGO_MANIFEST_DIR").expect("cargo names the package's folder");
     let own = named("SPEED_ARCHIVE").map(|folder| folder.join("libexports.a"));
-    if own.is_some() {
-        println!("cargo:rustc-cfg=native");
-    }
     let Some(archive) = own.or_else(|| archive_above(Path::new(&here))) else {
         panic!("{ARCHIVE} is missing: run ./speed in the repository's folder, which makes it");
     };

@@ -1,6 +1,6 @@
 #!/usr/bin/env bash
 # bench at the largest count of bytes: an input of 4,294,967,295 is taken whole; with one byte more the last piece would be LONG, and
-# is not begun. The inputs are sparse files with a tag at their end. Some 45 seconds, so not part of `test`; target/bin/bench is built.
+# is not begun. The inputs are sparse files with a tag at their end. Some 45 seconds, so not part of `test`; crates/bench/out/bench is built.
 set -euo pipefail
 cd "$(dirname "$0")/.."
 source tests/platform.sh

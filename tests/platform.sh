@@ -1,6 +1,6 @@
 # How this machine builds and runs programs for x86-64, the one processor that rt compiles programs and the archive for. Sourced.
-# On x86-64 everything is the machine's own. Elsewhere rt's programs run by the emulator of rt's kit, and programs over the archive
-# are compiled by Debian's cross compilers and run by Debian's emulator.
+# On x86-64 everything is the machine's own. Elsewhere, should rt run there, its programs run by Debian's emulator, and programs over the
+# archive are compiled by Debian's cross compilers and run by that emulator too.
 
 CC=cc CXX=c++ NM=nm OBJDUMP=objdump
 RUN=                          # starts a program over the archive; nothing where the machine can start it itself
@@ -17,14 +17,30 @@ starter() { # PROGRAM [WORD...]
   echo "$1.run"
 }
 
-# what starts target/bin/NAME: the file itself, or target/bin/NAME.run
-rt_program() { # NAME
-  local kit program=$PWD/target/bin/$1
-  [[ $emulated ]] || { starter "$program"; return; }
-  kit=${RATTLE_HOME:-$(dirname "$(readlink -f "$(command -v rt)")")/..}
-  kit=$(realpath "$kit")/on/$(uname -m)/toolchain
-  starter "$program" "$kit/bin/qemu-x86_64" "$kit/lib/ld-linux-x86-64.so.2" --library-path "$kit/lib"
+# whether a file is there, and nothing that the crates of a checkout are made of is newer
+is_fresh() { # FILE [CHECKOUT]
+  local top=${2:-.}
+  [[ -f $1 && -z $(find "$top/crates.txt" "$top"/crates/*/{src,specs,proofs} -newer "$1" -print -quit 2>/dev/null) ]]
 }
+
+# proves and builds the program of a crate, and all crates below it, with rt's own lines on the way. rt builds a program by running it,
+# here on no input; it stays as crates/NAME/out/NAME, which rt ci leaves too
+build_program() { # NAME
+  local said
+  ! is_fresh "crates/$1/out/$1" || return 0
+  said=$(mktemp)
+  (cd "crates/$1" && rt run </dev/null 2>&1 >/dev/null) | tee "$said" | grep --line-buffered '^rt:' || true
+  grep -q "^rt: running " "$said" || { cat "$said" >&2; rm "$said"; return 1; }
+  rm "$said"
+  touch "crates/$1/out/$1"
+}
+
+# what starts a program that is built: the file itself, or FILE.run
+rt_program() { starter "$PWD/crates/$1/out/$1" ${emulated:+"$(command -v qemu-x86_64)"}; } # NAME
+
+# proves and builds the archive of a checkout, and all crates below it, as crates/exports/out/libexports.a; what rt says goes into a file
+ARCHIVE=crates/exports/out/libexports.a
+build_archive() { (cd "$1/crates/exports" && rt lib) >"$2" 2>&1; } # CHECKOUT FILE
 
 # what starts a program over the archive: the file itself, or FILE.run
 archive_program() { starter "$1" $RUN; } # FILE

@@ -1,6 +1,6 @@
 #!/usr/bin/env bash
 # The built programs against what they must write: bench on its samples and beside the second program, replay on its samples and on
-# generated scripts beside the second program. `test` runs it once both are built: target/bin has the programs, target/rust the second.
+# generated scripts beside the second program. `test` runs it once both are built: crates/NAME/out has the programs, target/rust the second.
 set -euo pipefail
 cd "$(dirname "$0")/.."
 root=$PWD
@@ -9,7 +9,7 @@ trap 'rm -rf "$work"' EXIT
 
 second=$root/target/rust/release/second
 compare=$root/target/rust/release/compare
-for program in "$root/target/bin/bench" "$root/target/bin/replay" "$second" "$compare"; do
+for program in crates/{bench/out/bench,replay/out/replay} "$second" "$compare"; do
   [[ -x $program ]] || { echo "programs.sh: $program is not built" >&2; exit 2; }
 done
 

@@ -1,7 +1,6 @@
 #!/usr/bin/env bash
 # The benchmark's engines give the same records on short inputs, its builders the same tables, and it finds out wrong
-# engines. It takes the peers that are installed, judges no figure and installs nothing. Where the archive is emulated, so does the
-# library compiled for the machine.
+# engines. It takes the peers that are installed, judges no figure and installs nothing.
 set -euo pipefail
 cd "$(dirname "$0")/.."
 source tests/platform.sh
@@ -32,9 +31,4 @@ for run in 'beside nowhere' share 'no such run'; do
   ./speed $run >/dev/null 2>&1 || code=$?
   ((code == 2)) || fail "./speed $run gave $code, and not 2"
 done
-
-if [[ $emulated ]]; then
-  ./speed native quick >target/speed-native.txt
-  grep -q '^| bitmap |' target/speed-native.txt || fail 'native has no figures'
-fi
 echo 'speed: all engines agree, and the wrong ones were found out'

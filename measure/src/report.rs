@@ -55,9 +55,6 @@ fn facts(plan: &Plan) -> String {
          All engines gave the same records before they were timed.\n",
         plan.machine, plan.rounds
     );
-    if cfg!(native) {
-        facts += "\nThe library was compiled for this machine, with no proof: the archive is for x86-64.\n";
-    }
     for peer in peers::missing() {
         facts += &format!("\nMissing here, and left out: {peer}.\n");
     }
