@@ -5,3 +5,4 @@ pub mod Refusals
 pub mod AsRules
 pub mod Lying
 pub mod Laws
+pub mod Cutting

@@ -12,6 +12,9 @@ ghost use Rattle.tagset.specs.Lying.{Cut, Lying};
 
 use kinds::folding::fold_all;
 use kinds::{FOLDED, Takes, row_of, rows_taken, wrong_length};
+pub use letters::Words;
+
+mod letters;
 
 // The tags of a set, at most: `most_tags` in matching's specs/Limits.antt.
 const MOST_TAGS: usize = 16;
