@@ -34,7 +34,7 @@ pub fn read_on(
 {
     let held = desk.records;
     let place = t.place;
-    let room = shared::room_left(held.count);
+    let room = Desk::RECORDS.saturating_sub(held.count);
     let scan = scan::read_for(first, second, place, t.taken, piece, room);
     let read = scan.read;
     let list = scan.list;

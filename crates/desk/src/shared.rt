@@ -1,17 +1,10 @@
 // Records of a reading put behind those that the shared list holds.
-ghost use Rattle.std.specs.Prelude.{◌≡◌, ◌-◌, ◌*◌, ◌≤◌, min, length};
+ghost use Rattle.std.specs.Prelude.{◌≡◌, ◌-◌, ◌*◌, ◌≤◌, length};
 ghost use Rattle.std.proofs.lemmas.List.Edits.{sets};
 ghost use Rattle.desk.specs.Shared.{push_all, records_of, paired};
 ghost use Rattle.desk.specs.TakeMany.{oldest, without, record_numbers};
 
 use crate::{Edition, Record, Records, Serial, Tag};
-
-// The records for which a list that holds so many has room.
-pub fn room_left(count: usize) -> usize
-    ensures { result ≡ 256 - count }
-{
-    if count < 256 { 256 - count } else { 0 }
-}
 
 // The first n ends and tags of a run, as records of a ticket.
 pub fn append(records: Records, serial: Serial, edition: Edition, list: &[u32], n: usize) -> Records
@@ -19,8 +12,7 @@ pub fn append(records: Records, serial: Serial, edition: Edition, list: &[u32], 
     ensures { result ≡ push_all records (records_of serial edition (paired n list.now)) }
 {
     let mut q = records;
-    let mut j: usize = 0;
-    while j < n {
+    for j in 0..n {
         let at = (q.first % 256 + q.count % 256) % 256;
         let end = list[2 * j];
         let tag = (list[2 * j + 1] % 256) as u8;
@@ -30,22 +22,9 @@ pub fn append(records: Records, serial: Serial, edition: Edition, list: &[u32], 
             end,
             tag: Tag(tag),
         };
-        q.count = q.count + 1;
-        j += 1;
+        q.count += 1;
     }
     q
-}
-
-pub fn least(a: usize, b: usize) -> usize
-    ensures { result ≡ min a b }
-{
-    if a < b { a } else { b }
-}
-
-fn wide(x: u8) -> u32
-    ensures { result ≡ x }
-{
-    x as u32
 }
 
 // The n oldest records, taken one after another into a list of numbers.
@@ -54,8 +33,7 @@ pub fn hand_out(records: Records, list: &mut [u32], n: usize) -> Records
     ensures { (result ≡ without n records) × (list.new ≡ sets list.old 0 (record_numbers (oldest n records))) }
 {
     let mut q = records;
-    let mut j: usize = 0;
-    while j < n {
+    for j in 0..n {
         let at = q.first % 256;
         let r = q.ring[at];
         let serial = r.serial;
@@ -65,10 +43,9 @@ pub fn hand_out(records: Records, list: &mut [u32], n: usize) -> Records
         list[i] = serial.0;
         list[i + 1] = edition.0;
         list[i + 2] = r.end;
-        list[i + 3] = wide(tag.0);
+        list[i + 3] = u32::from(tag.0);
         q.first = (at + 1) % 256;
-        q.count = q.count - 1;
-        j += 1;
+        q.count -= 1;
     }
     q
 }

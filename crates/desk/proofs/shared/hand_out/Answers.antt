@@ -9,7 +9,7 @@ loop-j-preserved c =
     let asked = c.requires in
     let l = loop in
     let a = args in
-    rw c.wide.ensures (handing_more a.records a.n a.list.now l.q l.list l.j (omega arith)
+    rw c.from.ensures (handing_more a.records a.n a.list.now l.q l.list l.j (omega arith)
     (omega (arith, l.invariant.count, asked)) l.invariant)
 
 pub returns : goal.returns

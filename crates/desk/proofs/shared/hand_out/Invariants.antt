@@ -1,9 +1,5 @@
-use Prim.Native.Nat.{◌-◌}
 use Rattle.desk.proofs.HandingOut.{HandingOut}
 use Rattle.desk.proofs.shared.hand_out.Given as goal
 
 abbrev pub invariant-loop-j : goal.invariant-loop-j
 invariant-loop-j l = HandingOut l.initial.q l.n l.initial.list l.q l.list l.j
-
-abbrev pub decreases-loop-j : goal.decreases-loop-j
-decreases-loop-j l = l.n - l.j
