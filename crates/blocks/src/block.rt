@@ -48,17 +48,14 @@ fn walk_parts<'a>(
     let mut place = start;
     let mut end = block.len();
     let mut loud = false;
-    let mut left: usize = PARTS;
-    while 0 < left {
-        let g = left - 1;
+    for g in (0..PARTS).rev() {
         let bytes = bytes_for(g, block, near);
         let r = walk_of(g, first, second, known, starts, start, bytes, end, hits);
         let own = r.place;
         let next = with_part(place, g, own);
         place = next;
         end = r.at;
-        loud = loud | r.loud;
-        left = g;
+        loud |= r.loud;
     }
     Block { end, place, loud }
 }

@@ -8,11 +8,8 @@ pub fn part_of(place: [usize; 16], g: usize) -> [usize; 8]
     ensures { result ≡ take 8 (drop (g * 8) place) }
 {
     let mut own: [usize; 8] = [0; 8];
-    let mut m: usize = 0;
-    while m < 8 {
-        own[m] = place[g * 8 + m];
-        m += 1;
-    }
+    let from = g * 8;
+    own.copy_from_slice(&place[from..from + 8]);
     own
 }
 
@@ -22,10 +19,7 @@ pub fn with_part(place: [usize; 16], g: usize, own: [usize; 8]) -> [usize; 16]
     ensures { result ≡ sets place (g * 8) own }
 {
     let mut all = place;
-    let mut m: usize = 0;
-    while m < 8 {
-        all[g * 8 + m] = own[m];
-        m += 1;
-    }
+    let from = g * 8;
+    all[from..from + 8].copy_from_slice(&own);
     all
 }

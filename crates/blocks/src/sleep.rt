@@ -4,7 +4,6 @@ ghost use Rattle.std.specs.Prelude.{◌≡◌, false, true, ◌+◌, ◌*◌, �
 ghost use Rattle.passing.specs.Steps.{Ready};
 ghost use Rattle.blocks.specs.Sleep.{Stay, Still};
 
-use passing::places::wide;
 use passing::steps::hits_of;
 
 // Whether machine m, in state q, stays there on either bit.
@@ -13,10 +12,7 @@ fn stays(table: &[u16], s: usize, m: usize, q: usize) -> bool
     ensures { result ≡ true → (get_or table.now ((m * s + q) * 3) 0 ≡ q) × (get_or table.now ((m * s + q) * 3 + 1) 0 ≡ q) }
 {
     let at = (m * s + q) * 3;
-    if wide(table[at]) != q {
-        return false;
-    }
-    wide(table[at + 1]) == q
+    usize::from(table[at]) == q && usize::from(table[at + 1]) == q
 }
 
 // Whether all machines of a part stay.
@@ -24,12 +20,10 @@ fn all_stay(table: &[u16], s: usize, place: [usize; 8]) -> bool
     requires { Ready 1 8 s table.now place }
     ensures { result ≡ true → Stay s table.now place }
 {
-    let mut m: usize = 0;
-    while m < 8 {
+    for m in 0..8 {
         if !stays(table, s, m, place[m]) {
             return false;
         }
-        m += 1;
     }
     true
 }

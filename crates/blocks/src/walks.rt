@@ -45,8 +45,7 @@ fn walk_part(
 {
     let mut place = start;
     let mut loud = false;
-    let mut i: usize = 0;
-    while i < to {
+    for i in 0..to {
         let next = next_numbers(table, s, 1, starts, place, bytes[i]);
         if !all_below(s, 8, next) {
             return Walked {
@@ -58,9 +57,12 @@ fn walk_part(
         let v = hits_of(table, s, 1, 8, 2, next);
         loud = note(hits, i, v, loud);
         place = next;
-        i += 1;
     }
-    Walked { at: i, place, loud }
+    Walked {
+        at: to,
+        place,
+        loud,
+    }
 }
 
 // The same where the part is awake; one that is asleep stays where it is, and notes nothing.

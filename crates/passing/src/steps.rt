@@ -4,7 +4,6 @@ ghost use Rattle.matching.specs.Slicing.{anded};
 ghost use Rattle.matching.specs.Reading.{nexts, vectors_at};
 ghost use Rattle.passing.specs.Steps.{entry_of, Ready, Step, Part};
 
-use crate::places::{byte, wide};
 use matching::letters;
 
 // The number of a state's row that start says: where its machine's slots begin, and the letter.
@@ -13,7 +12,7 @@ fn next_at(table: &[u16], row: usize, state: usize, start: usize) -> usize
     ensures { result ≡ get_or table.now (state * row + start) 0 }
 {
     let at = state * row + start;
-    wide(table[at])
+    usize::from(table[at])
 }
 
 // The vector of a state of machine m.
@@ -30,7 +29,7 @@ fn entry_of(bits: usize, c: u8, h: usize) -> usize
     requires { (0 < bits) × (h < 2) }
     ensures { result ≡ entry_of bits c h }
 {
-    (h * 16 + (byte(c) >> (h * 4)) % 16) * (4 / bits)
+    (h * 16 + (usize::from(c) >> (h * 4)) % 16) * (4 / bits)
 }
 
 // The next numbers of the machines that read half h of byte c, after those of the machines before.
@@ -51,11 +50,9 @@ fn next_half(
     let row = letters(bits) + 1;
     let first = entry_of(bits, c, h);
     let mut at = before;
-    let mut j: usize = 0;
-    while j < half {
+    for j in 0..half {
         let m = h * half + j;
         at[m] = next_at(table, row, place[m], starts[first + j]);
-        j += 1;
     }
     at
 }
@@ -91,10 +88,8 @@ pub fn vectors(
 {
     let size = letters(bits);
     let mut r = v;
-    let mut m = from;
-    while m < to {
-        r = r & vector_at(table, s, size, m, place[m]);
-        m += 1;
+    for m in from..to {
+        r &= vector_at(table, s, size, m, place[m]);
     }
     r
 }

@@ -1,5 +1,4 @@
 -- The machines before m stay.
-use Prim.Native.Nat.{◌-◌}
 use Rattle.blocks.specs.Laws.Sleep.{Staying}
 use lib.ListN.{length}
 use mathlib.Core.Path.{◌≡◌}
@@ -7,6 +6,3 @@ use Rattle.blocks.proofs.sleep.all_stay.Given as goal
 
 abbrev pub invariant-loop-m : goal.invariant-loop-m
 invariant-loop-m l = (length l.place ≡ 8) × Staying l.s l.table l.place l.m
-
-abbrev pub decreases-loop-m : goal.decreases-loop-m
-decreases-loop-m l = 8 - l.m

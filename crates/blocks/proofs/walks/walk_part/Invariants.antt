@@ -1,10 +1,6 @@
 -- The bytes up to i are walked, and what their vectors came to is noted.
-use Prim.Native.Nat.{◌-◌}
 use Rattle.blocks.specs.Laws.Walking.{Going}
 use Rattle.blocks.proofs.walks.walk_part.Given as goal
 
 abbrev pub invariant-loop-i : goal.invariant-loop-i
 invariant-loop-i l = Going l.s l.table l.bytes l.start l.to l.initial.hits l.hits l.place l.loud l.i
-
-abbrev pub decreases-loop-i : goal.decreases-loop-i
-decreases-loop-i l = l.to - l.i

@@ -1,21 +1,17 @@
--- Number by number: the whole test is the test of what is left.
-use Rattle.passing.specs.Laws.Below.{testing_false, testing_more, testing_true}
+-- The library's test of all, which is the rules' own.
+use Rattle.std.proofs.Common.{ℕ, Bool, List, [], ◌∷◌, ◌≡◌, ◌∙◌, ◌&&◌, refl, ap, take, rules, tests, ltb}
+use Rattle.std.proofs.lemmas.Iterator.{YieldsList-from_slice}
+use Rattle.std.proofs.lemmas.Iterator.Search.{all_from_yields_List}
+use Rattle.std.specs.List.{list_all}
+use Rattle.matching.specs.Reading.{all_below}
 use Rattle.passing.proofs.places.all_below.Goals as goal
 
-pub returns-then-s-place : goal.returns-then-s-place
-returns-then-s-place c =
-    let a = c.args in
-    let l = c.loop-m in
-    testing_false a.s a.k a.place c.requires l.m l.invariant c.loop-m-test.true c.if-s-place.true
-
-pub loop-m-preserved : goal.loop-m-preserved
-loop-m-preserved c =
-    let a = c.args in
-    let l = c.loop-m in
-    testing_more a.s a.k a.place c.requires l.m l.invariant c.loop-m-test.true c.if-s-place.false
+all_below-listed : (s : ℕ) (qs : List ℕ) → list_all (λ q. ltb q s) qs ≡ all_below s qs
+unfolding all_below
+all_below-listed s [] = refl
+all_below-listed s (q ∷ qs) = ap (λ (b : Bool). ltb q s && b) (all_below-listed s qs)
 
 pub returns : goal.returns
 returns c =
-    let a = c.args in
-    let l = c.loop-m in
-    testing_true a.s a.k a.place c.requires l.m l.invariant c.loop-m-test.false
+    all_from_yields_List (λ q. ltb q c.args.s) _ _ _ c.all.ensures.ran (YieldsList-from_slice (take c.args.k c.args.place) cc) (λ x b q k. search (rules, tests))
+    ∙ all_below-listed c.args.s (take c.args.k c.args.place)
