@@ -26,18 +26,11 @@ pub fn fold_table() -> [u8; 256]
     FOLD
 }
 
-fn wide(x: u8) -> usize
-    ensures { result ≡ x }
-{
-    x as usize
-}
-
 pub fn folded(fold: &[u8; 256], c: u8) -> u8
     requires { Folds fold.now }
     ensures { result ≡ lower c }
 {
-    let x = wide(c);
-    fold[x]
+    fold[usize::from(c)]
 }
 
 // The bytes of a run folded into another, at its front; what stands behind them stays.
@@ -46,9 +39,7 @@ pub fn fold_all(bytes: &[u8], out: &mut [u8])
     ensures { out.new ≡ map lower bytes.now ++ drop (length bytes.now) out.old }
 {
     let fold = fold_table();
-    let mut i = 0;
-    while i < bytes.len() {
-        out[i] = folded(&fold, bytes[i]);
-        i += 1;
+    for (i, c) in bytes.iter().enumerate() {
+        out[i] = folded(&fold, *c);
     }
 }

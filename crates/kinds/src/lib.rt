@@ -3,17 +3,41 @@
 
 pub mod folding;
 
-ghost use Rattle.std.specs.Prelude.{◌≡◌, ◌||◌, ◌<◌, ◌≤◌, ltb, get_or, take};
+ghost use Rattle.std.specs.Prelude.{◌≡◌, ◌||◌, ◌<◌, ◌≤◌, MatchOption, ltb, get_or, take};
 ghost use Rattle.matching.specs.Kinds.{kinds, no_kind};
 ghost use Rattle.kinds.specs.Rows.{kinds_taken, row_of};
-
-// Each kind's number, and the fewest and the most bytes of a tag of it: `kinds` in matching's specs/Kinds.antt.
-const KINDS: [[usize; 3]; 2] = [[1, 1, 32], [2, 1, 32]];
 
 // The numbers of the two kinds.
 pub const EXACT: usize = 1;
 
 pub const FOLDED: usize = 2;
+
+// The most bytes of a tag of each.
+const LONGEST_EXACT: usize = 32;
+
+const LONGEST_FOLDED: usize = 32;
+
+// A kind's number, and the fewest and the most bytes of a tag of it.
+#[derive(Clone, Copy)]
+struct Row {
+    number: usize,
+    shortest: usize,
+    longest: usize,
+}
+
+// The table of kinds: `kinds` in matching's specs/Kinds.antt.
+const KINDS: [Row; 2] = [
+    Row {
+        number: EXACT,
+        shortest: 1,
+        longest: LONGEST_EXACT,
+    },
+    Row {
+        number: FOLDED,
+        shortest: 1,
+        longest: LONGEST_FOLDED,
+    },
+];
 
 // The kinds that a reader of sets takes.
 #[derive(Drop)]
@@ -32,41 +56,25 @@ pub fn rows_taken(takes: Takes) -> usize
     }
 }
 
-// What the table has in a row: a kind's number, and the fewest and the most bytes of its tags.
-fn number_in(row: usize) -> usize
+// What the table has in a row.
+fn kind_in(row: usize) -> Row
     requires { row < 2 }
-    ensures { result ≡ (get_or kinds row no_kind).number }
+    ensures { let kind = get_or kinds row no_kind in (result.number ≡ kind.number) × (result.shortest ≡ kind.shortest) × (result.longest ≡ kind.longest) }
 {
-    KINDS[row][0]
+    KINDS[row]
 }
 
-fn shortest_in(row: usize) -> usize
-    requires { row < 2 }
-    ensures { result ≡ (get_or kinds row no_kind).shortest }
-{
-    KINDS[row][1]
-}
-
-fn longest_in(row: usize) -> usize
-    requires { row < 2 }
-    ensures { result ≡ (get_or kinds row no_kind).longest }
-{
-    KINDS[row][2]
-}
-
-// The row of a kind's number among the first so many; as many where it is in none of them.
-pub fn row_of(number: usize, rows: usize) -> usize
+// The row of a kind's number among the first so many, if it is in one of them.
+pub fn row_of(number: usize, rows: usize) -> Option<usize>
     requires { rows ≤ 2 }
-    ensures { result ≡ row_of number (take rows kinds) }
+    ensures { let ks = take rows kinds in MatchOption result (row_of number ks ≡ rows) (λ row. (row < rows) × (row ≡ row_of number ks)) }
 {
-    let mut row = 0;
-    while row < rows {
-        if number_in(row) == number {
-            return row;
+    for row in 0..rows {
+        if kind_in(row).number == number {
+            return Some(row);
         }
-        row += 1;
     }
-    row
+    None
 }
 
 // Whether a tag of the kind in a row may not have so many bytes.
@@ -74,8 +82,6 @@ pub fn wrong_length(row: usize, length: usize) -> bool
     requires { row < 2 }
     ensures { result ≡ (ltb length (get_or kinds row no_kind).shortest || ltb (get_or kinds row no_kind).longest length) }
 {
-    if length < shortest_in(row) {
-        return true;
-    }
-    longest_in(row) < length
+    let kind = kind_in(row);
+    length < kind.shortest || kind.longest < length
 }

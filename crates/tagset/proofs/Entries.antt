@@ -10,15 +10,15 @@ use lib.Dec.{ltb}
 use lib.ListN.{drop, get_or, length, length-drop, take}
 use lib.Seq.{get_or-drop, get_or-take, length-take-le}
 use borrow.Author.Tests.{ltb-false, ltb-true}
+use Rattle.std.specs.Prelude.{Err, Ok}
 use Rattle.matching.specs.Kinds.{TagKind, is_among, kind_of, kinds, no_kind}
 use Rattle.matching.specs.Laws.Bools.{or_cases, or_false-l, or_false-r}
-use Rattle.kinds.specs.Laws.Rows.{row_among, row_kind, row_most, row_none}
+use Rattle.kinds.specs.Laws.Rows.{row_among, row_kind, row_none}
 use Rattle.kinds.specs.Rows.{row_of}
 use Rattle.tagset.specs.Answer.{placed}
 use Rattle.tagset.specs.Grammar.{entry_of, kind_at, length_at}
 use Rattle.tagset.specs.Laws.Entries.{entry_fails, payload_length, whole_entry}
 use Rattle.tagset.specs.Refusals.{Fails, Whole, fewer_than_four, kind_here, no_length, other_kind, seventeenth, short_payload}
-use Rattle.tagset.specs.declared.Entry.TheVariants as E
 use Rattle.tagset.specs.declared.SetFault.{SetFault}
 use Rattle.tagset.specs.declared.SetFault.TheVariants.{Cut, Kind, Length, Many}
 
@@ -59,33 +59,30 @@ module _ (s : List ℕ) (rows : ℕ) (two : rows ≤ 2) (k at : ℕ) where
   left_is : length (drop at s) ≡ length s - at
   left_is = length-drop at s
 
-  fault : {f : SetFault} → Fails (take rows kinds) k (drop at s) f → E.Faulty f ≡ placed at (entry_of (take rows kinds) k (drop at s))
+  fault : {f : SetFault} → Fails (take rows kinds) k (drop at s) f → Err f ≡ placed at (entry_of (take rows kinds) k (drop at s))
   fault f = sym (ap (placed at) (entry_fails f))
 
-  pub too_few : length s - at < 4 → E.Faulty (Cut k) ≡ placed at (entry_of (take rows kinds) k (drop at s))
+  pub too_few : length s - at < 4 → Err (Cut k) ≡ placed at (entry_of (take rows kinds) k (drop at s))
   too_few h = fault (fewer_than_four (omega (arith, left_is)))
 
   module _ (four : 4 ≤ length s - at) where
     here : 4 ≤ length (drop at s)
     here = omega (arith, left_is)
 
-    pub too_many : k ≡ 16 → E.Faulty (Many k) ≡ placed at (entry_of (take rows kinds) k (drop at s))
+    pub too_many : k ≡ 16 → Err (Many k) ≡ placed at (entry_of (take rows kinds) k (drop at s))
     too_many e = fault (seventeenth here e)
 
-    module _ (room : k ≡ 16 → ⊥) (kind : ℕ) (is : kind ≡ number s (at + 2)) (row : ℕ) (found : row ≡ row_of kind (take rows kinds)) where
+    module _ (room : k ≡ 16 → ⊥) (kind : ℕ) (is : kind ≡ number s (at + 2)) where
       kind-is : kind ≡ kind_at (drop at s)
       kind-is = is ∙ sym (kind-here s at)
 
-      pub other-kind : row ≡ rows → E.Faulty (Kind k) ≡ placed at (entry_of (take rows kinds) k (drop at s))
+      pub other-kind : row_of kind (take rows kinds) ≡ rows → Err (Kind k) ≡ placed at (entry_of (take rows kinds) k (drop at s))
       other-kind n = fault (other_kind here room
-          (subst (λ (x : ℕ). is_among x (take rows kinds) ≡ false) kind-is (row_none kind (take rows kinds) (omega (arith, rows_long, found, n)))))
+          (subst (λ (x : ℕ). is_among x (take rows kinds) ≡ false) kind-is (row_none kind (take rows kinds) (omega (arith, rows_long, n)))))
 
-      module _ (one : row ≡ rows → ⊥) (long : ℕ) (says : long ≡ number s at) where
-        pub in_table : row < 2
-        in_table = omega (arith, row_most kind (take rows kinds), rows_long, found, one)
-
+      module _ (row : ℕ) (one : row < rows) (found : row ≡ row_of kind (take rows kinds)) (long : ℕ) (says : long ≡ number s at) where
         within : row_of kind (take rows kinds) < rows
-        within = omega (arith, row_most kind (take rows kinds), rows_long, found, one)
+        within = omega (arith, found, one)
 
         known : is_among (kind_at (drop at s)) (take rows kinds) ≡ true
         known = subst (λ (x : ℕ). is_among x (take rows kinds) ≡ true) kind-is (row_among kind (take rows kinds) (omega (arith, rows_long, within)))
@@ -106,7 +103,7 @@ module _ (s : List ℕ) (rows : ℕ) (two : rows ≤ 2) (k at : ℕ) where
         longest-is : (get_or kinds row no_kind).longest ≡ (kind_here (take rows kinds) (drop at s)).longest
         longest-is = ap (λ (x : TagKind). x.longest) its_row
 
-        pub wrong-length : wrong_in row long ≡ true → E.Faulty (Length k) ≡ placed at (entry_of (take rows kinds) k (drop at s))
+        pub wrong-length : wrong_in row long ≡ true → Err (Length k) ≡ placed at (entry_of (take rows kinds) k (drop at s))
         wrong-length h =
             fault (no_length here room known (go (or_cases (ltb long (get_or kinds row no_kind).shortest) (ltb (get_or kinds row no_kind).longest long) h)))
           where
@@ -137,10 +134,10 @@ module _ (s : List ℕ) (rows : ℕ) (two : rows ≤ 2) (k at : ℕ) where
                     (or_false-r (ltb long (get_or kinds row no_kind).shortest) (ltb (get_or kinds row no_kind).longest long) right),
               )
 
-          pub cut_payload : length s - at < 4 + long → E.Faulty (Cut k) ≡ placed at (entry_of (take rows kinds) k (drop at s))
+          pub cut_payload : length s - at < 4 + long → Err (Cut k) ≡ placed at (entry_of (take rows kinds) k (drop at s))
           cut_payload h = fault (short_payload here room known some short (omega (arith, long-here, left_is)))
 
-          pub whole-tag : 4 + long ≤ length s - at → E.Tag (at + 4) (at + 4 + long) kind ≡ placed at (entry_of (take rows kinds) k (drop at s))
+          pub whole-tag : 4 + long ≤ length s - at → Ok (record { from = at + 4; to = at + 4 + long; kind = kind }) ≡ placed at (entry_of (take rows kinds) k (drop at s))
           whole-tag h =
               let w : Whole (take rows kinds) k (drop at s) =
               record {

@@ -8,6 +8,7 @@ use native.Mathlib.Numerals.{add-one}
 use native.Mathlib.Omega.{arith}
 use lib.Dec.{eqb}
 use lib.ListN.{drop, drop_of_length-le, get_or, length, length-drop, length-take, take}
+use lib.Pointwise.{pointwise}
 use lib.Seq.{drop-cons, get_or-take, length-take-le, take_all, take-nil}
 use borrow.Author.Tests.{eq-eqb, ne_eqb}
 use Rattle.matching.specs.Laws.Bools.{is_false, or_l}
@@ -43,33 +44,14 @@ part_cut l a e end begin he hb = go (dec_le a end) (dec_le e (length l))
         let y : drop a l ≡ [] = drop_of_length-le l {i = a} (omega arith) in
         rw (x, y) (sym (take-nil (e - a)))
 
--- ---- same, from letter to letter
+-- ---- same, as `==` of two slices says it
 
-same-lengths : (v w : Word) → same v w ≡ true → length v ≡ length w
-same-lengths v w e = ap {B = ℕ} length (same_eq v w e)
-
-pub same_uneven : (v w : Word) → (length v ≡ length w → ⊥) → false ≡ same v w
-same_uneven v w n = sym (is_false (same v w) (λ e. n (same-lengths v w e)))
-
-same_cons : (x y : ℕ) (v w : Word) → same (x ∷ v) (y ∷ w) ≡ (eqb x y && same v w)
+pub same_bytes : (v w : Word) → pointwise eqb v w ≡ same v w
 unfolding same
-same_cons x y v w = refl
-
-module _ (v w : Word) (i : ℕ) (even : length v ≡ length w) (left : i < length v) where
-  step : same (drop i v) (drop i w) ≡ (eqb (get_or v i 0) (get_or w i 0) && same (drop (suc i) v) (drop (suc i) w))
-  step =
-      rw (drop-cons v i 0 left, drop-cons w i 0 (omega arith))
-      (same_cons (get_or v i 0) (get_or w i 0) (drop (suc i) v) (drop (suc i) w))
-
-  pub same-differ : (get_or v i 0 ≡ get_or w i 0 → ⊥) → false ≡ same (drop i v) (drop i w)
-  same-differ n = sym (rw (step, ne_eqb (get_or v i 0) (get_or w i 0) n))
-
-  pub same_agree : get_or v i 0 ≡ get_or w i 0 → same (drop i v) (drop i w) ≡ same (drop (i + 1) v) (drop (i + 1) w)
-  same_agree e = rw (add-one i, step, eq-eqb (get_or v i 0) (get_or w i 0) e)
-
-pub same_end : (v w : Word) (i : ℕ) → length v ≡ length w → length v ≤ i → true ≡ same (drop i v) (drop i w)
-unfolding same
-same_end v w i even h = sym (rw (drop_of_length-le v h, drop_of_length-le w (rw even at h)))
+same_bytes [] [] = refl
+same_bytes [] (y ∷ w) = refl
+same_bytes (x ∷ v) [] = refl
+same_bytes (x ∷ v) (y ∷ w) = ap (λ (b : Bool). eqb x y && b) (same_bytes v w)
 
 -- ---- among, from tag to tag
 

@@ -7,18 +7,17 @@ use native.Mathlib.Numerals.{add-one}
 use native.Mathlib.Omega.{arith}
 use lib.ListN.{drop, drop_of_length-le, length, length-append, length-drop, replicate, set}
 use lib.Seq.{drop-drop, set_at}
+use Rattle.std.specs.Prelude.{Err, Ok, Result}
 use Rattle.matching.specs.Kinds.{TagKind}
 use Rattle.matching.specs.Tags.{Tag, Tags}
-use Rattle.tagset.specs.Answer.{along, begin_of, begun, end_of, ended, kind_of_tag, kinds_from, padded, passed_up, placed, set_read, tags_lie}
+use Rattle.tagset.specs.Answer.{along, begin_of, begun, end_of, ended, kind_of_tag, kinds_from, padded, placed, set_read, tags_lie}
 use Rattle.tagset.specs.Grammar.{EntryOf, entries_from, entry_of, kind_at, length_at, tag_at}
 use Rattle.tagset.specs.Laws.Entries.{EntryCase, entry_case, fails, passed-all, passed-fails, passed-few, passes, payload_length}
 use Rattle.tagset.specs.Laws.Exact.{passed-count}
 use Rattle.tagset.specs.Laws.Places.{along-length, along_snoc, size_snoc, size_of}
 use Rattle.tagset.specs.Refusals.{Passed, Whole, at_front, one_more}
-use Rattle.tagset.specs.declared.Entry.{Entry}
-use Rattle.tagset.specs.declared.Entry.TheVariants as E
+use Rattle.tagset.specs.declared.Place.{Place}
 use Rattle.tagset.specs.declared.SetFault.{SetFault}
-use Rattle.tagset.specs.declared.Verdict.TheVariants.{Good}
 
 padded-set : (l : List ℕ) (v k : ℕ) → length l ≡ k → k < 16 → set (padded 16 l) k v ≡ padded 16 (l ++ v ∷ [])
 padded-set l v k e h =
@@ -52,22 +51,23 @@ module _ {ks : List TagKind} {bytes from to kinds : List ℕ} {k at : ℕ} (g : 
   pub gone-few : k ≤ 16
   gone-few = passed-few g.passed
 
-  pub gone-all : length bytes ≤ at → record { verdict = Good; tags = record { count = k; from = from; to = to; kinds = kinds } } ≡ set_read (entries_from ks 17 0 bytes)
+  pub gone-all : length bytes ≤ at → Ok (record { count = k; from = from; to = to; kinds = kinds }) ≡ set_read (entries_from ks 17 0 bytes)
   unfolding set_read tags_lie
   gone-all h =
       let p : Passed ks bytes k g.tags [] = subst (Passed ks bytes k g.tags) (drop_of_length-le bytes h) g.passed in
       rw (passed-all p, passed-count p, g.froms, g.tos, g.kinded)
 
-  module _ (left : at < length bytes) (entry : Entry) (is : entry ≡ placed at (entry_of ks k (drop at bytes))) where
+  module _ (left : at < length bytes) where
     some : 0 < length (drop at bytes)
     some = omega (arith, length-drop at bytes)
 
-    pub gone-fails : {fault : SetFault} → entry ≡ E.Faulty fault → passed_up entry ≡ set_read (entries_from ks 17 0 bytes)
-    gone-fails {fault} e = go (entry_of ks k (drop at bytes)) (entry_case ks k (drop at bytes)) is
+    pub gone-fails : {fault : SetFault} → Err fault ≡ placed at (entry_of ks k (drop at bytes)) → Err fault ≡ set_read (entries_from ks 17 0 bytes)
+    unfolding set_read
+    gone-fails {fault} e = go (entry_of ks k (drop at bytes)) (entry_case ks k (drop at bytes)) e
       where
-        go : (o : EntryOf) → EntryCase ks k (drop at bytes) o → entry ≡ placed at o → passed_up entry ≡ set_read (entries_from ks 17 0 bytes)
+        go : (o : EntryOf) → EntryCase ks k (drop at bytes) o → Err fault ≡ placed at o → Err fault ≡ set_read (entries_from ks 17 0 bytes)
         go o (passes w) i = let z : ◌≡◌ {A = ℕ} 0 1 = cc in absurd (omega arith)
-        go o (fails f) i = rw (i, passed-fails g.passed some f)
+        go o (fails {fault = f} h) i = let q : fault ≡ f = cc in rw (passed-fails g.passed some h, q)
 
     -- one more entry passed
     pub record More (begin end kind : ℕ) : Type 0 where
@@ -75,12 +75,12 @@ module _ {ks : List TagKind} {bytes from to kinds : List ℕ} {k at : ℕ} (g : 
       pub on : at < end
       pub gone : Gone ks bytes (set from k begin) (set to k end) (set kinds k kind) (k + 1) end
 
-    pub gone-more : {begin end kind : ℕ} → entry ≡ E.Tag begin end kind → More begin end kind
-    gone-more {begin} {end} {kind} e = go (entry_of ks k (drop at bytes)) (entry_case ks k (drop at bytes)) is
+    pub gone-more : (p : Place) → Ok p ≡ placed at (entry_of ks k (drop at bytes)) → More p.from p.to p.kind
+    gone-more p e = go (entry_of ks k (drop at bytes)) (entry_case ks k (drop at bytes)) e
       where
-        whole : Whole ks k (drop at bytes) → begin ≡ at + 4 → end ≡ at + 4 + length (tag_at (drop at bytes)).word → kind ≡ kind_at (drop at bytes)
+        whole : {begin end kind : ℕ} → Whole ks k (drop at bytes) → begin ≡ at + 4 → end ≡ at + 4 + length (tag_at (drop at bytes)).word → kind ≡ kind_at (drop at bytes)
             → More begin end kind
-        whole w eb ee ek =
+        whole {begin} {end} {kind} w eb ee ek =
             let ts = g.tags in
             let t = tag_at (drop at bytes) in
             let n : length t.word ≡ length_at (drop at bytes) = payload_length w in
@@ -106,6 +106,9 @@ module _ {ks : List TagKind} {bytes from to kinds : List ℕ} {k at : ℕ} (g : 
                 let m : at + (4 + length_at (drop at bytes)) ≡ end = omega (arith, payload_length w) in
                 drop-drop (4 + length_at (drop at bytes)) at bytes ∙ ap (λ (i : ℕ). drop i bytes) m
 
-        go : (o : EntryOf) → EntryCase ks k (drop at bytes) o → entry ≡ placed at o → More begin end kind
-        go o (passes w) i = whole w (cc) (cc) (cc)
+        go : (o : EntryOf) → EntryCase ks k (drop at bytes) o → Ok p ≡ placed at o → More p.from p.to p.kind
+        go o (passes w) i =
+            let t = tag_at (drop at bytes) in
+            let q : p ≡ record { from = at + 4; to = at + 4 + length t.word; kind = t.kind } = cc in
+            whole w (ap (λ (x : Place). x.from) q) (ap (λ (x : Place). x.to) q) (ap (λ (x : Place). x.kind) q)
         go o (fails f) i = let z : ◌≡◌ {A = ℕ} 0 1 = cc in absurd (omega arith)

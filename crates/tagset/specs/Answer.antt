@@ -1,15 +1,11 @@
 -- What reading a set answers, and the rules' number and values of each fault.
-use Rattle.std.specs.Prelude.{ℕ, ◌+◌, ◌-◌, List, [], ◌∷◌, ◌++◌, length, replicate, take, drop}
+use Rattle.std.specs.Prelude.{Result, Ok, Err, ℕ, ◌+◌, ◌-◌, List, [], ◌∷◌, ◌++◌, length, replicate, take, drop}
 use Rattle.matching.specs.Words.{Word}
 use Rattle.tagset.specs.Grammar.{EntryOf, whole_tag, at_fault, SetOf, good_set, bad_set}
 use Rattle.tagset.specs.declared.SetFault.{SetFault}
 use Rattle.tagset.specs.declared.SetFault.TheVariants.{Cut, Many, Kind, Length, Empty, Repeat}
 use Rattle.tagset.specs.declared.Places.{Places}
-use Rattle.tagset.specs.declared.SetRead.{SetRead}
-use Rattle.tagset.specs.declared.Verdict.{Verdict}
-use Rattle.tagset.specs.declared.Verdict.TheVariants.{Good, Bad}
-use Rattle.tagset.specs.declared.Entry.{Entry}
-use Rattle.tagset.specs.declared.Entry.TheVariants as E
+use Rattle.tagset.specs.declared.Place.{Place}
 use Rattle.matching.specs.Limits.{most_tags}
 use Rattle.matching.specs.Tags.{Tag, Tags}
 
@@ -69,10 +65,10 @@ tags_lie tags = record {
   kinds = padded most_tags (kinds_from 0 tags);
 }
 
--- a set as it was read: its tags' places; or its fault, and no tags
-unfoldable pub set_read : SetOf → SetRead
-set_read (good_set tags) = record { verdict = Good; tags = tags_lie tags }
-set_read (bad_set fault) = record { verdict = Bad fault; tags = tags_lie [] }
+-- a set as it was read: its tags' places; or its fault
+unfoldable pub set_read : SetOf → Result Places SetFault
+set_read (good_set tags) = Ok (tags_lie tags)
+set_read (bad_set fault) = Err fault
 
 -- the runs of bytes that stand at some places
 unfoldable pub cut_at : List ℕ → List ℕ → List ℕ → List Word
@@ -91,16 +87,11 @@ abbrev pub tags_in : List ℕ → List ℕ → List ℕ → List ℕ → Tags
 tags_in bytes froms tos ks = as_tags (cut_at bytes froms tos) ks
 
 -- an entry that begins at `at`, as it is read
-abbrev pub placed : ℕ → EntryOf → Entry
-placed at (whole_tag t) = E.Tag (at + 4) (at + 4 + length t.word) t.kind
-placed at (at_fault fault) = E.Faulty fault
+abbrev pub placed : ℕ → EntryOf → Result Place SetFault
+placed at (whole_tag t) = Ok (record { from = at + 4; to = at + 4 + length t.word; kind = t.kind })
+placed at (at_fault fault) = Err fault
 
--- what an entry that is no tag makes of its set
-abbrev pub passed_up : Entry → SetRead
-passed_up (E.Faulty fault) = set_read (bad_set fault)
-passed_up (E.Tag from to kind) = set_read (bad_set Empty)
-
--- a set's verdict alone
-abbrev pub verdict_of : SetOf → Verdict
-verdict_of (good_set tags) = Good
-verdict_of (bad_set fault) = Bad fault
+-- a set's fault alone, if it has one
+abbrev pub verdict_of : SetOf → Result (Unit {0}) SetFault
+verdict_of (good_set tags) = Ok tt
+verdict_of (bad_set fault) = Err fault

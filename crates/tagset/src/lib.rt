@@ -7,7 +7,7 @@ ghost use Rattle.matching.specs.Tags.{Tags, no_tag, word_as};
 ghost use Rattle.matching.specs.Words.{same};
 ghost use Rattle.kinds.specs.Rows.{kinds_taken};
 ghost use Rattle.tagset.specs.Grammar.{among_tags, entry_of, entries_from, bad_set, distinct, set_of};
-ghost use Rattle.tagset.specs.Answer.{placed, passed_up, set_read, verdict_of, cut_at, tags_in};
+ghost use Rattle.tagset.specs.Answer.{placed, set_read, verdict_of, cut_at, tags_in};
 ghost use Rattle.tagset.specs.Lying.{Cut, Lying};
 
 use kinds::folding::fold_all;
@@ -20,7 +20,7 @@ mod letters;
 const MOST_TAGS: usize = 16;
 
 // Why a set is refused, with the entry at fault.
-#[derive(Clone, Copy)]
+#[derive(Clone, Copy, Debug, PartialEq, Eq)]
 pub enum SetFault {
     Cut(usize),
     Many(usize),
@@ -39,30 +39,12 @@ pub struct Places {
     pub kinds: [usize; 16],
 }
 
+// Where the tag of an entry lies in the bytes of its set, from .. up to .., and its kind.
 #[derive(Clone, Copy)]
-pub enum Verdict {
-    Good,
-    Bad(SetFault),
-}
-
-// A set as it was read. A bad one has no tags.
-#[derive(Drop)]
-pub struct SetRead {
-    pub verdict: Verdict,
-    pub tags: Places,
-}
-
-// What an entry is read as: its tag lies from .. up to .., and is of a kind; or its fault.
-#[derive(Drop)]
-pub enum Entry {
-    Tag(usize, usize, usize),
-    Faulty(SetFault),
-}
-
-fn wide(x: u8) -> usize
-    ensures { result ≡ x }
-{
-    x as usize
+struct Place {
+    from: usize,
+    to: usize,
+    kind: usize,
 }
 
 // The number of two bytes, the low byte first.
@@ -70,64 +52,41 @@ fn number_at(set: &[u8], at: usize) -> usize
     requires { at + 1 < length set.now }
     ensures { result ≡ get_or set.now at 0 + 256 * get_or set.now (at + 1) 0 }
 {
-    wide(set[at]) + 256 * wide(set[at + 1])
+    usize::from(set[at]) + 256 * usize::from(set[at + 1])
 }
 
 // Entry k, which begins at `at`, where tags of the kinds in the first rows of their table are taken: its checks in the rules' order.
-fn read_entry(set: &[u8], rows: usize, k: usize, at: usize) -> Entry
+fn read_entry(set: &[u8], rows: usize, k: usize, at: usize) -> Result<Place, SetFault>
     requires { (rows ≤ 2) × (at ≤ length set.now) }
     ensures { result ≡ placed at (entry_of (take rows kinds) k (drop at set.now)) }
 {
     let left = set.len() - at;
     if left < 4 {
-        return Entry::Faulty(SetFault::Cut(k));
+        return Err(SetFault::Cut(k));
     }
     if k == MOST_TAGS {
-        return Entry::Faulty(SetFault::Many(k));
+        return Err(SetFault::Many(k));
     }
     let kind = number_at(set, at + 2);
-    let row = row_of(kind, rows);
-    if row == rows {
-        return Entry::Faulty(SetFault::Kind(k));
-    }
+    let Some(row) = row_of(kind, rows) else {
+        return Err(SetFault::Kind(k));
+    };
     let length = number_at(set, at);
     if wrong_length(row, length) {
-        return Entry::Faulty(SetFault::Length(k));
+        return Err(SetFault::Length(k));
     }
     if left < 4 + length {
-        return Entry::Faulty(SetFault::Cut(k));
+        return Err(SetFault::Cut(k));
     }
-    Entry::Tag(at + 4, at + 4 + length, kind)
-}
-
-// A refused set: it has no tags.
-fn refused(fault: SetFault) -> SetRead
-    ensures { result ≡ set_read (bad_set fault) }
-{
-    let tags = Places {
-        count: 0,
-        from: [0; 16],
-        to: [0; 16],
-        kinds: [0; 16],
-    };
-    SetRead {
-        verdict: Verdict::Bad(fault),
-        tags,
-    }
-}
-
-// The refusal of an entry that is no tag.
-fn passed_up(entry: Entry) -> SetRead
-    ensures { result ≡ passed_up entry }
-{
-    match entry {
-        Entry::Faulty(fault) => refused(fault),
-        Entry::Tag(_, _, _) => refused(SetFault::Empty),
-    }
+    Ok(Place {
+        from: at + 4,
+        to: at + 4 + length,
+        kind,
+    })
 }
 
 // The entries from the left: the first faulty one decides.
-fn read_entries(set: &[u8], rows: usize) -> SetRead
+fn read_entries(set: &[u8], rows: usize) -> Result<Places, SetFault>
     requires { rows ≤ 2 }
     ensures { result ≡ set_read (entries_from (take rows kinds) 17 0 set.now) }
 {
@@ -136,41 +95,29 @@ fn read_entries(set: &[u8], rows: usize) -> SetRead
     let mut kinds = [0usize; 16];
     let mut k = 0;
     let mut at = 0;
+    // A while, since each entry says where the next begins.
     while at < set.len() {
-        let entry = read_entry(set, rows, k, at);
-        let Entry::Tag(begin, end, kind) = entry else {
-            return passed_up(entry);
-        };
-        from[k] = begin;
-        to[k] = end;
-        kinds[k] = kind;
-        at = end;
+        let place = read_entry(set, rows, k, at)?;
+        from[k] = place.from;
+        to[k] = place.to;
+        kinds[k] = place.kind;
+        at = place.to;
         k += 1;
     }
-    let tags = Places {
+    Ok(Places {
         count: k,
         from,
         to,
         kinds,
-    };
-    SetRead {
-        verdict: Verdict::Good,
-        tags,
-    }
-}
-
-fn lower(a: usize, b: usize) -> usize
-    ensures { result ≡ min a b }
-{
-    if a < b { a } else { b }
+    })
 }
 
 // The bytes from a up to e, as far as there are such.
 fn part(set: &[u8], a: usize, e: usize) -> &[u8]
     ensures { result.now ≡ take (e - a) (drop a set.now) }
 {
-    let end = lower(e, set.len());
-    let begin = lower(a, end);
+    let end = e.min(set.len());
+    let begin = a.min(end);
     &set[begin..end]
 }
 
@@ -187,22 +134,6 @@ pub fn tag_bytes<'a>(set: &'a [u8], from: &[usize], to: &[usize], t: usize) -> &
     let a = from[t];
     let e = to[t];
     part(set, a, e)
-}
-
-fn same_bytes(v: &[u8], w: &[u8]) -> bool
-    ensures { result ≡ same v.now w.now }
-{
-    if v.len() != w.len() {
-        return false;
-    }
-    let mut i = 0;
-    while i < v.len() {
-        if v[i] != w[i] {
-            return false;
-        }
-        i += 1;
-    }
-    true
 }
 
 // The bytes of a set as a kind reads them: as they are, or folded.
@@ -236,7 +167,7 @@ fn equals<'a>(
     }
     let bytes = read_as(kind, set, folded);
     let earlier = tag_bytes(bytes, from, to, i);
-    same_bytes(tag, earlier)
+    tag == earlier
 }
 
 // Whether tag t equals an earlier one.
@@ -255,12 +186,10 @@ fn repeats<'a>(
     let kind = kinds[t];
     let bytes = read_as(kind, set, folded);
     let tag = tag_bytes(bytes, from, to, t);
-    let mut i = 0;
-    while i < t {
+    for i in 0..t {
         if equals(tag, kind, set, folded, from, to, kinds, i) {
             return true;
         }
-        i += 1;
     }
     false
 }
@@ -272,22 +201,20 @@ fn distinct_in<'a>(
     from: &[usize],
     to: &[usize],
     kinds: &[usize],
-) -> Verdict
+) -> Result<(), SetFault>
     requires { Lying set.now folded.now from.now to.now kinds.now }
     ensures { let tags = tags_in set.now from.now to.now kinds.now in result ≡ verdict_of (distinct [] 0 tags) }
 {
-    let mut t = 0;
-    while t < from.len() {
+    for t in 0..from.len() {
         if repeats(set, folded, from, to, kinds, t) {
-            return Verdict::Bad(SetFault::Repeat(t));
+            return Err(SetFault::Repeat(t));
         }
-        t += 1;
     }
-    Verdict::Good
+    Ok(())
 }
 
 // The same, with the set folded for the tags that are compared so.
-fn distinct_tags(set: &[u8], from: &[usize], to: &[usize], kinds: &[usize]) -> Verdict
+fn distinct_tags(set: &[u8], from: &[usize], to: &[usize], kinds: &[usize]) -> Result<(), SetFault>
     requires { Cut set.now from.now to.now kinds.now }
     ensures { let tags = tags_in set.now from.now to.now kinds.now in result ≡ verdict_of (distinct [] 0 tags) }
 {
@@ -298,25 +225,17 @@ fn distinct_tags(set: &[u8], from: &[usize], to: &[usize], kinds: &[usize]) -> V
 }
 
 // A set of bytes as docs/RULES.md, 1, has it, from the left, where tags of some kinds are taken.
-pub fn read_set(set: &[u8], takes: Takes) -> SetRead
+pub fn read_set(set: &[u8], takes: Takes) -> Result<Places, SetFault>
     ensures { result ≡ set_read (set_of (kinds_taken takes) set.now) }
 {
-    if set.len() == 0 {
-        return refused(SetFault::Empty);
+    if set.is_empty() {
+        return Err(SetFault::Empty);
     }
-    let read = read_entries(set, rows_taken(takes));
-    let verdict = read.verdict;
-    let Verdict::Good = verdict else {
-        return read;
-    };
-    let tags = read.tags;
-    let count = tags.count;
-    let from = tags.from;
-    let to = tags.to;
-    let kinds = tags.kinds;
-    let verdict = distinct_tags(set, &from[..count], &to[..count], &kinds[..count]);
-    let Verdict::Bad(fault) = verdict else {
-        return read;
-    };
-    refused(fault)
+    let read = read_entries(set, rows_taken(takes))?;
+    let count = read.count;
+    let from = read.from;
+    let to = read.to;
+    let kinds = read.kinds;
+    distinct_tags(set, &from[..count], &to[..count], &kinds[..count])?;
+    Ok(read)
 }

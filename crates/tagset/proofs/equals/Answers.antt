@@ -5,7 +5,7 @@ use mathlib.Core.Path.{◌∙◌, ap}
 use native.Mathlib.Omega.{arith}
 use lib.ListN.{get_or, length}
 use mathlib.Core.List.{[]}
-use Rattle.tagset.proofs.Parts.{other-kind, own-kind, tags-long}
+use Rattle.tagset.proofs.Parts.{other-kind, own-kind, same_bytes, tags-long}
 use Rattle.tagset.specs.Answer.{cut_at}
 use Rattle.tagset.proofs.equals.Goals as goal
 
@@ -35,4 +35,4 @@ returns c =
     c.tag_bytes-earlier.result.now
     (c.tag_bytes-earlier.ensures
     ∙ ap (λ (bytes : List ℕ). get_or (cut_at bytes a.from.now a.to.now) a.i []) c.read_as-bytes.ensures)
-    c.same_bytes.result c.same_bytes.ensures
+    _ (c.eq.ensures ∙ same_bytes a.tag.now c.tag_bytes-earlier.result.now)

@@ -35,4 +35,4 @@ loop-i-preserved c =
     c.equals.ensures c.if-equals.false
 
 pub returns : goal.returns
-returns c = comparing_end _ _ _ _ _ _ _ _ c.loop-i.invariant c.loop-i-test.false
+returns c = comparing_end _ _ _ _ _ _ _ _ c.loop-i.invariant (omega (arith, c.loop-i-test.false))

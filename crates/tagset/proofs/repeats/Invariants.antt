@@ -1,10 +1,6 @@
 -- `tagset::repeats` meets its contract. The tag is among the earlier ones exactly if it is among those not compared yet.
-use Prim.Native.Nat.{◌-◌}
 use Rattle.tagset.proofs.Parts.{Comparing}
 use Rattle.tagset.proofs.repeats.Given as goal
 
 abbrev pub invariant-loop-i : goal.invariant-loop-i
 invariant-loop-i l = Comparing l.set l.from l.to l.kinds l.t l.kind l.tag l.i
-
-abbrev pub decreases-loop-i : goal.decreases-loop-i
-decreases-loop-i l = l.t - l.i
