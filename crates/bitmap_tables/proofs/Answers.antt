@@ -16,7 +16,7 @@ use Rattle.tagset.specs.Laws.Lent.{GoodRead, lent-from, lent-to, lent-words}
 use Rattle.tagset.specs.Laws.Places.{cut_at-length}
 use Rattle.tagset.specs.Refusals.{Accepted}
 use Rattle.tagset.specs.declared.SetFault.{SetFault}
-use Rattle.tagset.specs.declared.SetRead.{SetRead}
+use Rattle.tagset.specs.declared.Places.{Places}
 use Rattle.machines.specs.Rows.{Fit}
 use Rattle.tables.specs.declared.Built.{Built}
 use Rattle.bitmap.specs.Laws.States.{states-same}
@@ -68,9 +68,9 @@ module _ (bytes run : List ℕ) where
   unfolding map_table_of
   fault-table e = rw e
 
-  module _ {r : SetRead} (g : GoodRead map_kinds bytes r) where
+  module _ {p : Places} (g : GoodRead map_kinds bytes p) where
     abbrev cut : List Word
-    cut = cut_at bytes (take r.tags.count r.tags.from) (take r.tags.count r.tags.to)
+    cut = cut_at bytes (take p.count p.from) (take p.count p.to)
 
     pub read-lawful : Below 256 bytes → Lawful cut
     read-lawful small =
@@ -78,12 +78,12 @@ module _ (bytes run : List ℕ) where
         subst Lawful (sym (lent-words g.lent))
         (map-lawful bytes small (words_of g.tags) (subst (Accepted map_kinds bytes) x ((accepted_iff map_kinds bytes g.tags).0 g.good)))
 
-    pub read-fit : Below 256 bytes → Fit (length (take r.tags.count r.tags.from)) cut
+    pub read-fit : Below 256 bytes → Fit (length (take p.count p.from)) cut
     read-fit small =
         let l = read-lawful small in
         let even = sym (lent-from g.lent) ∙ lent-to g.lent in
         record {
-          many = cut_at-length bytes (take r.tags.count r.tags.from) (take r.tags.count r.tags.to) even;
+          many = cut_at-length bytes (take p.count p.from) (take p.count p.to) even;
           few = l.few;
           short = l.short;
         }

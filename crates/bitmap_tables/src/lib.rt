@@ -12,7 +12,7 @@ use bitmap_growing::make_bitmap;
 use kinds::Takes;
 use machines::count_states;
 use tables::Built;
-use tagset::{Verdict, read_set};
+use tagset::read_set;
 
 // The machine's name in a refusal.
 const BITMAP: usize = 253;
@@ -38,14 +38,12 @@ pub fn build_bitmap(set: &[u8], table: &mut [u16]) -> Built
     ensures answer { result ≡ map_built_of set.now (length table.old) }
     ensures left { table.new ≡ map_table_of set.now table.old }
 {
-    let read = read_set(set, Takes::ExactAlone);
-    let verdict = read.verdict;
-    if let Verdict::Bad(fault) = verdict {
-        return Built::Fault(fault);
-    }
-    let tags = read.tags;
-    let count = tags.count;
-    let from = tags.from;
-    let to = tags.to;
+    let places = match read_set(set, Takes::ExactAlone) {
+        Ok(places) => places,
+        Err(fault) => return Built::Fault(fault),
+    };
+    let count = places.count;
+    let from = places.from;
+    let to = places.to;
     build_tags(set, &from[..count], &to[..count], table)
 }

@@ -14,7 +14,7 @@ use Rattle.matching.specs.Tags.{Tags}
 use Rattle.tagset.specs.Grammar.{bad_set, set_of}
 use Rattle.tagset.specs.Laws.Lent.{GoodRead}
 use Rattle.tagset.specs.declared.SetFault.{SetFault}
-use Rattle.tagset.specs.declared.SetRead.{SetRead}
+use Rattle.tagset.specs.declared.Places.{Places}
 use Rattle.choosing.specs.Choosing.{lying_in}
 use Rattle.tables.specs.Building.{built_by, built_of, needed_of, slots_needed, tables_by, tables_of}
 use Rattle.tables.specs.Shape.{is_accepted}
@@ -127,21 +127,21 @@ module _ (layout : Layout) (bytes : List ℕ) where
     unfolding needed_of
     fault-needed = rw bad
 
-  module _ {r : SetRead} (g : GoodRead (kinds_for layout) bytes r) where
-    pub good-answer : (lens : List ℕ) (answer : Built) → answer ≡ built_by (lying_in bytes r.tags) (room_in layout (lying_in bytes r.tags) lens)
+  module _ {p : Places} (g : GoodRead (kinds_for layout) bytes p) where
+    pub good-answer : (lens : List ℕ) (answer : Built) → answer ≡ built_by (lying_in bytes p) (room_in layout (lying_in bytes p) lens)
         → answer ≡ built_of layout bytes lens
     unfolding built_of
     good-answer lens answer e = rw g.good (e ∙ ap (λ (tags : Tags). built_by tags (room_in layout tags lens)) g.lent.lies)
 
     pub good-tables : (write : Bool) (runs after : Runs)
-        → after ≡ cond write (tables_by layout (lying_in bytes r.tags) runs (room_in layout (lying_in bytes r.tags) (lengths runs))) runs
+        → after ≡ cond write (tables_by layout (lying_in bytes p) runs (room_in layout (lying_in bytes p) (lengths runs))) runs
         → after ≡ cond write (tables_of layout bytes runs) runs
     unfolding tables_of
     good-tables write runs after e =
         rw g.good (e ∙ ap (λ (tags : Tags). cond write (tables_by layout tags runs (room_in layout tags (lengths runs))) runs) g.lent.lies)
 
-    pub good-needed : (first second : ℕ) → first ≡ get_or (slots_needed layout (lying_in bytes r.tags)) 0 0
-        → second ≡ get_or (slots_needed layout (lying_in bytes r.tags)) 1 0 → N.Slots first second ≡ needed_of layout bytes
+    pub good-needed : (first second : ℕ) → first ≡ get_or (slots_needed layout (lying_in bytes p)) 0 0
+        → second ≡ get_or (slots_needed layout (lying_in bytes p)) 1 0 → N.Slots first second ≡ needed_of layout bytes
     unfolding needed_of
     good-needed first second e f =
         let a : first ≡ get_or (slots_needed layout g.tags) 0 0 = e ∙ ap (λ (tags : Tags). get_or (slots_needed layout tags) 0 0) g.lent.lies in

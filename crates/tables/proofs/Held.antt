@@ -12,7 +12,7 @@ use Rattle.matching.specs.Parts.{Layout, kinds_for}
 use Rattle.matching.specs.Tags.{LawfulTags}
 use Rattle.matching.specs.Words.{Below}
 use Rattle.tagset.specs.Laws.Lent.{GoodRead}
-use Rattle.tagset.specs.declared.SetRead.{SetRead}
+use Rattle.tagset.specs.declared.Places.{Places}
 use Rattle.choosing.specs.Choosing.{lying_in}
 use Rattle.tables.specs.Shape.{Folded, Held}
 
@@ -30,11 +30,11 @@ folded_lent {set} {out} f h = sym (length-take-le (length set) out (omega (arith
 
 -- ---- a set that was read
 
-module _ (layout : Layout) {bytes : List ℕ} {r : SetRead} (g : GoodRead (kinds_for layout) bytes r) where
+module _ (layout : Layout) {bytes : List ℕ} {p : Places} (g : GoodRead (kinds_for layout) bytes p) where
   pub good-small : length bytes ≤ 576
   good-small = g.known.short (takes_short layout)
 
-  pub good-held : Below 256 bytes → (out : List ℕ) → Folded bytes out → Held bytes (take (length bytes) out) r.tags (lying_in bytes r.tags)
+  pub good-held : Below 256 bytes → (out : List ℕ) → Folded bytes out → Held bytes (take (length bytes) out) p (lying_in bytes p)
   good-held below out f = record {
     small = good-small;
     folds = f.front;

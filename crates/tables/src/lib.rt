@@ -11,7 +11,7 @@ ghost use Rattle.tables.specs.Shape.{Folded, Held, is_accepted};
 use kinds::folding::fold_all;
 use kinds::{EXACT, FOLDED, Takes};
 use parts::{fill_part, judge_part, part_needs};
-use tagset::{Places, SetFault, Verdict, read_set};
+use tagset::{Places, SetFault, read_set};
 
 mod parts;
 
@@ -168,12 +168,10 @@ pub fn build_split_if(set: &[u8], first: &mut [u16], second: &mut [u16], write: 
         ≡ cond write (tables_of split_layout set.now (first.old ∷ second.old ∷ []))
         (first.old ∷ second.old ∷ []) }
 {
-    let read = read_set(set, Takes::BothKinds);
-    let verdict = read.verdict;
-    if let Verdict::Bad(fault) = verdict {
-        return Built::Fault(fault);
-    }
-    let places = read.tags;
+    let places = match read_set(set, Takes::BothKinds) {
+        Ok(places) => places,
+        Err(fault) => return Built::Fault(fault),
+    };
     let folded = fold_set(set);
     let n = set.len();
     build_split_tags(set, &folded[..n], places, first, second, write)
@@ -193,12 +191,10 @@ pub fn build_whole(set: &[u8], table: &mut [u16]) -> Built
     ensures answer { result ≡ built_of whole_layout set.now (length table.old ∷ []) }
     ensures left { table.new ∷ [] ≡ tables_of whole_layout set.now (table.old ∷ []) }
 {
-    let read = read_set(set, Takes::ExactAlone);
-    let verdict = read.verdict;
-    if let Verdict::Bad(fault) = verdict {
-        return Built::Fault(fault);
-    }
-    let places = read.tags;
+    let places = match read_set(set, Takes::ExactAlone) {
+        Ok(places) => places,
+        Err(fault) => return Built::Fault(fault),
+    };
     let folded = fold_set(set);
     let n = set.len();
     build_whole_tags(set, &folded[..n], places, table)
@@ -208,12 +204,10 @@ pub fn build_whole(set: &[u8], table: &mut [u16]) -> Built
 pub fn slots_needed(set: &[u8]) -> Needed
     ensures { result ≡ needed_of split_layout set.now }
 {
-    let read = read_set(set, Takes::BothKinds);
-    let verdict = read.verdict;
-    if let Verdict::Bad(fault) = verdict {
-        return Needed::Fault(fault);
-    }
-    let places = read.tags;
+    let places = match read_set(set, Takes::BothKinds) {
+        Ok(places) => places,
+        Err(fault) => return Needed::Fault(fault),
+    };
     let folded = fold_set(set);
     let n = set.len();
     let first = part_needs(set, &folded[..n], places, EXACT_BITS);
@@ -225,12 +219,10 @@ pub fn slots_needed(set: &[u8]) -> Needed
 pub fn whole_slots_needed(set: &[u8]) -> Needed
     ensures { result ≡ needed_of whole_layout set.now }
 {
-    let read = read_set(set, Takes::ExactAlone);
-    let verdict = read.verdict;
-    if let Verdict::Bad(fault) = verdict {
-        return Needed::Fault(fault);
-    }
-    let places = read.tags;
+    let places = match read_set(set, Takes::ExactAlone) {
+        Ok(places) => places,
+        Err(fault) => return Needed::Fault(fault),
+    };
     let folded = fold_set(set);
     let n = set.len();
     Needed::Slots(part_needs(set, &folded[..n], places, WHOLE_BYTES), 0)

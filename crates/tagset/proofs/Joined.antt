@@ -9,7 +9,7 @@ use Rattle.matching.specs.Kinds.{TagKind, kinds}
 use Rattle.matching.specs.Tags.{Tags}
 use Rattle.kinds.specs.Laws.Rows.{rows_short}
 use Rattle.tagset.specs.Answer.{set_read, tags_in, tags_lie, verdict_of}
-use Rattle.tagset.specs.Grammar.{SetOf, bad_set, distinct, entries_from, good_set, on_tags, set_of}
+use Rattle.tagset.specs.Grammar.{SetOf, distinct, entries_from, good_set, on_tags, set_of}
 use Rattle.tagset.specs.Laws.Distinct.{DistinctCase, distinct_case, none_repeats, one_repeats}
 use Rattle.tagset.specs.Laws.Entries.{EntriesCase, all_passed, entries_case, one_fails, passed-all, passed-few}
 use Rattle.tagset.specs.Laws.Exact.{no_bytes_lem, passed-count, some_bytes}

@@ -11,8 +11,7 @@ use lib.ListN.{drop, drop_of_length-le, get_or, length, length-drop, length-take
 use lib.Pointwise.{pointwise}
 use lib.Seq.{drop-cons, get_or-take, length-take-le, take_all, take-nil}
 use borrow.Author.Tests.{eq-eqb, ne_eqb}
-use Rattle.matching.specs.Laws.Bools.{is_false, or_l}
-use Rattle.matching.specs.Laws.Words.{same_eq}
+use Rattle.matching.specs.Laws.Bools.{or_l}
 use Rattle.matching.specs.Kinds.{as_read}
 use Rattle.matching.specs.Tags.{Tag, Tags, no_tag, word_as}
 use Rattle.matching.specs.Words.{Word, same}

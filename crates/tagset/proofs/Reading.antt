@@ -7,7 +7,7 @@ use native.Mathlib.Numerals.{add-one}
 use native.Mathlib.Omega.{arith}
 use lib.ListN.{drop, drop_of_length-le, length, length-append, length-drop, replicate, set}
 use lib.Seq.{drop-drop, set_at}
-use Rattle.std.specs.Prelude.{Err, Ok, Result}
+use Rattle.std.specs.Prelude.{Err, Ok}
 use Rattle.matching.specs.Kinds.{TagKind}
 use Rattle.matching.specs.Tags.{Tag, Tags}
 use Rattle.tagset.specs.Answer.{along, begin_of, begun, end_of, ended, kind_of_tag, kinds_from, padded, placed, set_read, tags_lie}

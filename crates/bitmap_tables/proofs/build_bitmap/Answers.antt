@@ -6,40 +6,37 @@ use Rattle.tagset.specs.Laws.Places.{below_all}
 use Rattle.bitmap_tables.proofs.Answers.{fault-answer, fault-table, good-answer, good-table, read-fit, read-lawful}
 use Rattle.bitmap_tables.proofs.build_bitmap.Goals as goal
 
-pub returns-in-Bad : goal.returns-in-Bad
-returns-in-Bad c =
+pub returns-in-Err : goal.returns-in-Err
+returns-in-Err c =
     let a = c.args in
-    let r = c.read_set-read in
-    let e = taken_bad ExactAlone whole_kinds a.set.now r.result r.ensures c.in-Bad.is in
+    let e = taken_bad ExactAlone whole_kinds a.set.now c.in-Err.ensures in
     record { answer = fault-answer a.set.now a.table.now e; left = fault-table a.set.now a.table.now e }
 
 pub slice_bounds-from-end : goal.slice_bounds-from-end
 slice_bounds-from-end c =
-    let r = c.read_set-read in (taken-good ExactAlone whole_kinds c.args.set.now r.result r.ensures c.in_default.is).lent.fits_from
+    (taken-good ExactAlone whole_kinds c.args.set.now _ c.in-Ok.ensures).lent.fits_from
 
 pub slice_bounds-build_tags-end : goal.slice_bounds-build_tags-end
 slice_bounds-build_tags-end c =
-    let r = c.read_set-read in lent-from (taken-good ExactAlone whole_kinds c.args.set.now r.result r.ensures c.in_default.is).lent
+    lent-from (taken-good ExactAlone whole_kinds c.args.set.now _ c.in-Ok.ensures).lent
 
 pub slice_bounds-to-end : goal.slice_bounds-to-end
 slice_bounds-to-end c =
-    let r = c.read_set-read in (taken-good ExactAlone whole_kinds c.args.set.now r.result r.ensures c.in_default.is).lent.fits_to
+    (taken-good ExactAlone whole_kinds c.args.set.now _ c.in-Ok.ensures).lent.fits_to
 
 pub slice_bounds-build_tags-end-2 : goal.slice_bounds-build_tags-end-2
 slice_bounds-build_tags-end-2 c =
-    let r = c.read_set-read in lent-to (taken-good ExactAlone whole_kinds c.args.set.now r.result r.ensures c.in_default.is).lent
+    lent-to (taken-good ExactAlone whole_kinds c.args.set.now _ c.in-Ok.ensures).lent
 
 pub build_tags-requires : goal.build_tags-requires
 build_tags-requires c =
     let a = c.args in
-    let r = c.read_set-read in
-    let g = taken-good ExactAlone whole_kinds a.set.now r.result r.ensures c.in_default.is in
+    let g = taken-good ExactAlone whole_kinds a.set.now _ c.in-Ok.ensures in
     let small = below_all 256 a.set.now (λ i h. (c.shared_slice_known-1.given i).fits) in
     (read-fit a.set.now a.table.now g small, read-lawful a.set.now a.table.now g small)
 
 pub returns : goal.returns
 returns c =
     let a = c.args in
-    let r = c.read_set-read in
-    let g = taken-good ExactAlone whole_kinds a.set.now r.result r.ensures c.in_default.is in
+    let g = taken-good ExactAlone whole_kinds a.set.now _ c.in-Ok.ensures in
     record { answer = good-answer a.set.now a.table.now g _ c.build_tags.ensures.answer; left = good-table a.set.now a.table.now g _ c.build_tags.ensures.left }

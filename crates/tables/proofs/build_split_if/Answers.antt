@@ -10,28 +10,24 @@ use Rattle.tables.proofs.Answers.{fault-answer, fault-tables, good-answer, good-
 use Rattle.tables.proofs.Held.{good-held, good-small}
 use Rattle.tables.proofs.build_split_if.Goals as goal
 
-pub returns-in-Bad : goal.returns-in-Bad
-returns-in-Bad c =
+pub returns-in-Err : goal.returns-in-Err
+returns-in-Err c =
     let a = c.args in
-    let r = c.read_set-read in
-    let bad = taken_bad BothKinds split-kinds a.set.now r.result r.ensures c.in-Bad.is in record { answer = fault-answer split_layout a.set.now bad (length a.first.now ∷ length a.second.now ∷ []); left = fault-tables split_layout a.set.now bad a.write (a.first.now ∷ a.second.now ∷ []) }
+    let bad = taken_bad BothKinds split-kinds a.set.now c.in-Err.ensures in record { answer = fault-answer split_layout a.set.now bad (length a.first.now ∷ length a.second.now ∷ []); left = fault-tables split_layout a.set.now bad a.write (a.first.now ∷ a.second.now ∷ []) }
 
 pub fold_set-folded-requires : goal.fold_set-folded-requires
 fold_set-folded-requires c =
     let a = c.args in
-    let r = c.read_set-read in
-    good-small split_layout (taken-good BothKinds split-kinds a.set.now r.result r.ensures c.in_default.is)
+    good-small split_layout (taken-good BothKinds split-kinds a.set.now _ c.in-Ok.ensures)
 
 pub build_split_tags-requires : goal.build_split_tags-requires
 build_split_tags-requires c =
     let a = c.args in
-    let r = c.read_set-read in
-    let g = taken-good BothKinds split-kinds a.set.now r.result r.ensures c.in_default.is in
+    let g = taken-good BothKinds split-kinds a.set.now _ c.in-Ok.ensures in
     good-held split_layout g (below_all 256 a.set.now (λ i h. (c.shared_slice_known-1.given i).fits)) _ c.fold_set-folded.ensures
 
 pub returns : goal.returns
 returns c =
     let a = c.args in
-    let r = c.read_set-read in
     let built = c.build_split_tags in
-    let g = taken-good BothKinds split-kinds a.set.now r.result r.ensures c.in_default.is in record { answer = good-answer split_layout a.set.now g (length a.first.now ∷ length a.second.now ∷ []) built.result built.ensures.answer; left = good-tables split_layout a.set.now g a.write (a.first.now ∷ a.second.now ∷ []) _ built.ensures.left }
+    let g = taken-good BothKinds split-kinds a.set.now _ c.in-Ok.ensures in record { answer = good-answer split_layout a.set.now g (length a.first.now ∷ length a.second.now ∷ []) built.result built.ensures.answer; left = good-tables split_layout a.set.now g a.write (a.first.now ∷ a.second.now ∷ []) _ built.ensures.left }

@@ -10,29 +10,25 @@ use Rattle.tables.proofs.Answers.{fault-needed, good-needed}
 use Rattle.tables.proofs.Held.{good-held, good-small}
 use Rattle.tables.proofs.whole_slots_needed.Goals as goal
 
-pub returns-in-Bad : goal.returns-in-Bad
-returns-in-Bad c =
+pub returns-in-Err : goal.returns-in-Err
+returns-in-Err c =
     let a = c.args in
-    let r = c.read_set-read in
     fault-needed whole_layout a.set.now
-    (taken_bad ExactAlone whole_kinds a.set.now r.result r.ensures c.in-Bad.is)
+    (taken_bad ExactAlone whole_kinds a.set.now c.in-Err.ensures)
 
 pub fold_set-folded-requires : goal.fold_set-folded-requires
 fold_set-folded-requires c =
     let a = c.args in
-    let r = c.read_set-read in
-    good-small whole_layout (taken-good ExactAlone whole_kinds a.set.now r.result r.ensures c.in_default.is)
+    good-small whole_layout (taken-good ExactAlone whole_kinds a.set.now _ c.in-Ok.ensures)
 
 pub part_needs-requires : goal.part_needs-requires
 part_needs-requires c =
     let a = c.args in
-    let r = c.read_set-read in
-    let g = taken-good ExactAlone whole_kinds a.set.now r.result r.ensures c.in_default.is in
+    let g = taken-good ExactAlone whole_kinds a.set.now _ c.in-Ok.ensures in
     (search rules, good-held whole_layout g (below_all 256 a.set.now (λ i h. (c.shared_slice_known-1.given i).fits)) _ c.fold_set-folded.ensures)
 
 pub returns : goal.returns
 returns c =
     let a = c.args in
-    let r = c.read_set-read in
-    let g = taken-good ExactAlone whole_kinds a.set.now r.result r.ensures c.in_default.is in
+    let g = taken-good ExactAlone whole_kinds a.set.now _ c.in-Ok.ensures in
     good-needed whole_layout a.set.now g c.part_needs.result 0 c.part_needs.ensures refl

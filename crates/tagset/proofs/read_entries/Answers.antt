@@ -1,5 +1,4 @@
 -- `tagset::read_entries` meets its contract. The invariant: the first k entries passed, and the arrays hold where their tags lie, and their kinds.
-use mathlib.Core.Path.{◌∙◌}
 use native.Mathlib.Omega.{arith}
 use lib.ListN.{take}
 use Rattle.std.proofs.lemmas.Result.{err_from_is_err_and}

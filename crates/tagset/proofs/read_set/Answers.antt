@@ -2,14 +2,14 @@
 use mathlib.Core.List.{List}
 use mathlib.Core.Path.{◌∙◌, ◌≡◌, ap, sym}
 use Prim.Native.Nat.{ℕ}
-use lib.ListN.{length, take}
+use lib.ListN.{take}
 use Rattle.kinds.specs.Rows.{kinds_taken}
 use Rattle.kinds.specs.declared.Takes.{Takes}
-use Rattle.std.proofs.Common.{Err, Ok, eqb-true}
+use Rattle.std.proofs.Common.{eqb-true}
 use Rattle.std.proofs.lemmas.Bool.{eqb-false}
 use Rattle.std.proofs.lemmas.Result.{err_from_is_err_and}
 use Rattle.matching.specs.Kinds.{TagKind, kinds}
-use Rattle.tagset.proofs.Joined.{Lain, joined-empty, joined-fault, joined-good, joined-repeat, lain, lain_short}
+use Rattle.tagset.proofs.Joined.{joined-empty, joined-fault, joined-good, joined-repeat, lain, lain_short}
 use Rattle.tagset.specs.Answer.{set_read}
 use Rattle.tagset.specs.Grammar.{set_of}
 use Rattle.tagset.specs.Laws.Lent.{lent-from, lent-kinds, lent-to}
