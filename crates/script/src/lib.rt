@@ -16,13 +16,13 @@ ghost use Rattle.script.specs.Words.{behind as behind·of};
 ghost use Rattle.script.specs.Numbers.{number_of};
 ghost use Rattle.script.specs.Bytes.{bytes_of};
 ghost use Rattle.script.specs.Sets.{set_of};
-ghost use Rattle.script.specs.Calls.{Bounded, Plain, Filled, Alone, Called, call_of, meant, set_by, feed_by, close_by, state_by, build_by, layout_of};
+ghost use Rattle.script.specs.Calls.{Bounded, Plain, Filled, Alone, Called, call_of, made, meant, set_by, feed_by, close_by, state_by, build_by, layout_of};
 
+use bytes::bytes_of;
 pub use bytes::put;
-use bytes::{Bytes, bytes_of};
 pub use lines::{Part, line_part};
-use names::{Layouts, Name};
-use numbers::{Number, number_of};
+use names::Name;
+use numbers::number_of;
 pub use reads::machines;
 use words::{behind, word};
 
@@ -80,24 +80,29 @@ pub fn call_of(line: &[u8], buffer: &mut [u8; 20000]) -> Line
     ensures bounded { Bounded result.call }
 {
     if LONGEST < line.len() {
-        return plain(Call::NotACall);
+        return plain(None);
     }
-    if line.len() == 0 {
-        return plain(Call::PassedOver);
+    if line.is_empty() {
+        return plain(Some(Call::PassedOver));
     }
     if line[0] == b'#' {
-        return plain(Call::PassedOver);
+        return plain(Some(Call::PassedOver));
     }
-    let name = names::name_of(word(line));
+    let Some(name) = names::name_of(word(line)) else {
+        return plain(None);
+    };
     let whole = words::reach(line, b' ') == line.len();
     by_name(name, whole, behind(line), buffer)
 }
 
-fn plain(call: Call) -> Line
-    ensures { result.call ≡ call }
+// A line without a place; where its words make no call, it is none.
+fn plain(call: Option<Call>) -> Line
+    ensures { result.call ≡ made call }
 {
-    let place = [0u16; 16];
-    Line { call, place }
+    Line {
+        call: call.unwrap_or(Call::NotACall),
+        place: [0u16; 16],
+    }
 }
 
 // A call by its name, whether that is the whole line, and the words behind it.
@@ -116,68 +121,53 @@ fn by_name(name: Name, whole: bool, words: &[u8], buffer: &mut [u8]) -> Line
         Name::Take => plain(alone(whole, Call::Take)),
         Name::Show => plain(alone(whole, Call::Show)),
         Name::Build => plain(build(words)),
-        Name::Read => reads::read(words, buffer),
+        Name::Read => reads::read(words, buffer).unwrap_or(plain(None)),
         Name::Poke => plain(tables::poke(words)),
         Name::Peek => plain(tables::peek(words)),
-        Name::Other => plain(Call::NotACall),
     }
 }
 
-fn alone(whole: bool, call: Call) -> Call
-    ensures { Alone whole call result }
+fn alone(whole: bool, call: Call) -> Option<Call>
+    ensures { Alone whole call (made result) }
 {
-    if whole {
-        return call;
-    }
-    Call::NotACall
+    if whole { Some(call) } else { None }
 }
 
-fn set(words: &[u8], buffer: &mut [u8]) -> Call
+fn set(words: &[u8], buffer: &mut [u8]) -> Option<Call>
     requires { (length words.now ≤ 20000) × (20000 ≤ length buffer.old) }
-    ensures { Filled buffer.new (set_by (set_of words.now)) result }
+    ensures { Filled buffer.new (set_by (set_of words.now)) (made result) }
 {
-    let Bytes::Are(n) = sets::set_bytes(words, buffer) else {
-        return Call::NotACall;
-    };
-    Call::Set(n)
+    let n = sets::set_bytes(words, buffer)?;
+    Some(Call::Set(n))
 }
 
-fn feed(words: &[u8], buffer: &mut [u8]) -> Call
+#[tactic(auto, using(crate::specs::Laws::Words::lengths))]
+fn feed(words: &[u8], buffer: &mut [u8]) -> Option<Call>
     requires { (length words.now ≤ 20000) × (20000 ≤ length buffer.old) }
-    ensures { Filled buffer.new (feed_by (number_of 4294967295 (word_of words.now)) (bytes_of (behind·of words.now))) result }
+    ensures { Filled buffer.new (feed_by (number_of 4294967295 (word_of words.now)) (bytes_of (behind·of words.now))) (made result) }
 {
-    let Number::Is(serial) = number_of(word(words), LARGEST) else {
-        return Call::NotACall;
-    };
-    let Bytes::Are(n) = bytes_of(behind(words), buffer) else {
-        return Call::NotACall;
-    };
-    Call::Feed(serial, n)
+    let serial = number_of(word(words), LARGEST)?;
+    let n = bytes_of(behind(words), buffer)?;
+    Some(Call::Feed(serial, n))
 }
 
-fn close(words: &[u8]) -> Call
-    ensures { Plain (close_by (number_of 4294967295 words.now)) result }
+fn close(words: &[u8]) -> Option<Call>
+    ensures { Plain (close_by (number_of 4294967295 words.now)) (made result) }
 {
-    let Number::Is(serial) = number_of(words, LARGEST) else {
-        return Call::NotACall;
-    };
-    Call::Close(serial)
+    let serial = number_of(words, LARGEST)?;
+    Some(Call::Close(serial))
 }
 
-fn state(words: &[u8]) -> Call
-    ensures { Plain (state_by (number_of 4294967295 words.now)) result }
+fn state(words: &[u8]) -> Option<Call>
+    ensures { Plain (state_by (number_of 4294967295 words.now)) (made result) }
 {
-    let Number::Is(serial) = number_of(words, LARGEST) else {
-        return Call::NotACall;
-    };
-    Call::State(serial)
+    let serial = number_of(words, LARGEST)?;
+    Some(Call::State(serial))
 }
 
-fn build(words: &[u8]) -> Call
-    ensures { Plain (build_by (layout_of words.now)) result }
+fn build(words: &[u8]) -> Option<Call>
+    ensures { Plain (build_by (layout_of words.now)) (made result) }
 {
-    let Layouts::Named(layout) = names::layout_of(words) else {
-        return Call::NotACall;
-    };
-    Call::Build(layout)
+    let layout = names::layout_of(words)?;
+    Some(Call::Build(layout))
 }

@@ -1,11 +1,10 @@
 // The names of the calls and of the layouts.
 ghost use Rattle.std.specs.Prelude.{◌≡◌};
-ghost use Rattle.script.specs.Calls.{desk_name, name_of, layout_of, Row};
+ghost use Rattle.script.specs.Calls.{name_of, layout_of, first_row};
 
 use crate::Layout;
-use crate::words::same;
 
-#[derive(Drop)]
+#[derive(Clone, Copy)]
 pub enum Name {
     Set,
     Lend,
@@ -20,69 +19,47 @@ pub enum Name {
     Read,
     Poke,
     Peek,
-    Other,
 }
 
-#[derive(Drop)]
-pub enum Layouts {
-    Named(Layout),
-    Unnamed,
-}
+const LAYOUTS: [(&[u8], Layout); 3] = [
+    (b"split", Layout::Split),
+    (b"whole", Layout::Whole),
+    (b"bitmap", Layout::Bitmap),
+];
 
-// A row of layouts: this one, where the word is its name, and else another.
-fn layout_named(word: &[u8], name: &[u8], layout: Layout, other: Layouts) -> Layouts
-    ensures { Row word.now name.now (Layouts.Named layout) other result }
+const NAMES: [(&[u8], Name); 13] = [
+    (b"set", Name::Set),
+    (b"lend", Name::Lend),
+    (b"build", Name::Build),
+    (b"read", Name::Read),
+    (b"poke", Name::Poke),
+    (b"peek", Name::Peek),
+    (b"replace", Name::Replace),
+    (b"open", Name::Open),
+    (b"feed", Name::Feed),
+    (b"close", Name::Close),
+    (b"state", Name::State),
+    (b"take", Name::Take),
+    (b"show", Name::Show),
+];
+
+// What the row says whose call the word is.
+fn row_of<A: Copy>(rows: &[(&[u8], A)], word: &[u8]) -> Option<A>
+    ensures { result ≡ first_row (λ row. row.0.now) (λ row. row.1) word.now rows.now }
 {
-    if same(word, name) {
-        return Layouts::Named(layout);
-    }
-    other
+    rows.iter().find(|row| row.0 == word).map(|row| row.1)
 }
 
-// A row for each layout, the last first.
-pub fn layout_of(word: &[u8]) -> Layouts
+#[tactic(auto, unfolding(crate::specs::Calls::layout_of))]
+pub fn layout_of(word: &[u8]) -> Option<Layout>
     ensures { result ≡ layout_of word.now }
 {
-    let l = Layouts::Unnamed;
-    let l = layout_named(word, b"bitmap", Layout::Bitmap, l);
-    let l = layout_named(word, b"whole", Layout::Whole, l);
-    layout_named(word, b"split", Layout::Split, l)
+    row_of(&LAYOUTS, word)
 }
 
-// A row of names: this one, where the word is the call's, and else another.
-fn named(word: &[u8], call: &[u8], name: Name, other: Name) -> Name
-    ensures { Row word.now call.now name other result }
-{
-    if same(word, call) {
-        return name;
-    }
-    other
-}
-
-// A row for each call on the desk, the last first.
-fn desk_name(word: &[u8]) -> Name
-    ensures { result ≡ desk_name word.now }
-{
-    let n = Name::Other;
-    let n = named(word, b"show", Name::Show, n);
-    let n = named(word, b"take", Name::Take, n);
-    let n = named(word, b"state", Name::State, n);
-    let n = named(word, b"close", Name::Close, n);
-    let n = named(word, b"feed", Name::Feed, n);
-    let n = named(word, b"open", Name::Open, n);
-    named(word, b"replace", Name::Replace, n)
-}
-
-// And a row for each other call. Two functions, since the search for their proof finds 8 rows of one and not 9: a ninth
-// begins a third function.
-pub fn name_of(word: &[u8]) -> Name
+#[tactic(auto, unfolding(crate::specs::Calls::name_of, crate::specs::Calls::desk_name))]
+pub fn name_of(word: &[u8]) -> Option<Name>
     ensures { result ≡ name_of word.now }
 {
-    let n = desk_name(word);
-    let n = named(word, b"peek", Name::Peek, n);
-    let n = named(word, b"poke", Name::Poke, n);
-    let n = named(word, b"read", Name::Read, n);
-    let n = named(word, b"build", Name::Build, n);
-    let n = named(word, b"lend", Name::Lend, n);
-    named(word, b"set", Name::Set, n)
+    row_of(&NAMES, word)
 }

@@ -1,10 +1,10 @@
 // The bytes of a set: as they are written, or an entry for each quotation, of kind 2 where a tilde marks it, and else of kind 1.
-ghost use Rattle.std.specs.Prelude.{◌≡◌, ◌+◌, ◌≤◌, eqb, length, take, drop, get_or, ◌||◌, ◌++◌};
-ghost use Rattle.script.specs.Bytes.{bytes_in, count_of, these};
+ghost use Rattle.std.specs.Prelude.{◌≡◌, ◌+◌, ◌≤◌, eqb, length, take, drop, get_or, ◌||◌, ◌++◌, Some};
+ghost use Rattle.script.specs.Bytes.{bytes_in, count_of};
 ghost use Rattle.script.specs.Sets.{quoted_at, entry_of, payload_at, entries_of, within, set_of, is_marked, kind_at};
 ghost use Rattle.script.specs.Sets.{unmarked as unmarked·of};
 
-use crate::bytes::{Bytes, bytes_of, put};
+use crate::bytes::{bytes_of, put};
 use crate::words::reach;
 
 const MOST: usize = 4096;
@@ -13,7 +13,7 @@ const MOST: usize = 4096;
 fn is_marked(words: &[u8]) -> bool
     ensures { result ≡ is_marked words.now }
 {
-    if words.len() == 0 {
+    if words.is_empty() {
         return false;
     }
     words[0] == b'~'
@@ -39,60 +39,59 @@ fn kind_at(words: &[u8]) -> u8
     1
 }
 
-// A quotation at the front of some words, with so many bytes inside: the last word, or followed by a blank; or there is none.
+// A quotation at the front of some words, with so many bytes inside: the last word, or followed by a blank.
 #[derive(Drop)]
 pub enum Quoted {
     Last(usize),
     Followed(usize),
-    NotQuoted,
 }
 
-pub fn quoted_at(words: &[u8]) -> Quoted
+pub fn quoted_at(words: &[u8]) -> Option<Quoted>
     ensures { result ≡ quoted_at words.now }
 {
-    if words.len() == 0 {
-        return Quoted::NotQuoted;
+    if words.is_empty() {
+        return None;
     }
     if words[0] != b'"' {
-        return Quoted::NotQuoted;
+        return None;
     }
     let inside = reach(&words[1..], b'"');
     let end = inside + 2;
     if words.len() < end {
-        return Quoted::NotQuoted;
+        return None;
     }
     if words.len() == end {
-        return Quoted::Last(inside);
+        return Some(Quoted::Last(inside));
     }
     if words[end] != b' ' {
-        return Quoted::NotQuoted;
+        return None;
     }
-    Quoted::Followed(inside)
+    Some(Quoted::Followed(inside))
 }
 
 // An entry of a kind behind the n bytes that the buffer begins with, unless the set grows too long.
-fn put_entry(buffer: &mut [u8], n: usize, kind: u8, payload: &[u8]) -> Bytes
+fn put_entry(buffer: &mut [u8], n: usize, kind: u8, payload: &[u8]) -> Option<usize>
     requires { (n ≤ 4096) × (4096 ≤ length buffer.old) }
-    ensures result_after { bytes_in buffer.new result ≡ within 4096 (these (take n buffer.old ++ entry_of kind payload.now)) }
+    ensures result_after { bytes_in buffer.new result ≡ within 4096 (Some (take n buffer.old ++ entry_of kind payload.now)) }
     ensures result_bound { count_of result ≤ 4096 }
 {
     if MOST < payload.len() {
-        return Bytes::NoBytes;
+        return None;
     }
     if MOST < n + 4 + payload.len() {
-        return Bytes::NoBytes;
+        return None;
     }
     let k = payload.len();
     let head = [(k % 256) as u8, (k / 256) as u8, kind, 0];
     put(buffer, n, &head);
     put(buffer, n + 4, payload);
-    Bytes::Are(n + 4 + k)
+    Some(n + 4 + k)
 }
 
 // The entry of a quotation of k bytes at the front of some words.
-fn put_quoted(buffer: &mut [u8], n: usize, kind: u8, words: &[u8], k: usize) -> Bytes
+fn put_quoted(buffer: &mut [u8], n: usize, kind: u8, words: &[u8], k: usize) -> Option<usize>
     requires { (n ≤ 4096) × (4096 ≤ length buffer.old) × (k + 2 ≤ length words.now) }
-    ensures result_after { bytes_in buffer.new result ≡ within 4096 (these (take n buffer.old ++ entry_of kind (payload_at k words.now))) }
+    ensures result_after { bytes_in buffer.new result ≡ within 4096 (Some (take n buffer.old ++ entry_of kind (payload_at k words.now))) }
     ensures result_bound { count_of result ≤ 4096 }
 {
     put_entry(buffer, n, kind, &words[1..k + 1])
@@ -106,33 +105,26 @@ fn behind_quoted(words: &[u8], k: usize) -> &[u8]
     &words[k + 3..]
 }
 
-fn entries(words: &[u8], buffer: &mut [u8]) -> Bytes
+fn entries(words: &[u8], buffer: &mut [u8]) -> Option<usize>
     requires { 4096 ≤ length buffer.old }
     ensures result_after { bytes_in buffer.new result ≡ within 4096 (entries_of (length words.now) words.now) }
     ensures result_bound { count_of result ≤ 4096 }
 {
     let mut rest = words;
-    let mut left = words.len();
     let mut n: usize = 0;
-    while 0 < left {
-        left -= 1;
+    for done in 0..words.len() {
         let kind = kind_at(rest);
         let bare = unmarked(rest);
-        let quoted = quoted_at(bare);
-        match quoted {
-            Quoted::NotQuoted => return Bytes::NoBytes,
+        match quoted_at(bare)? {
             Quoted::Last(k) => return put_quoted(buffer, n, kind, bare, k),
             Quoted::Followed(k) => {
-                let Bytes::Are(m) = put_quoted(buffer, n, kind, bare, k) else {
-                    return Bytes::NoBytes;
-                };
-                n = m;
+                n = put_quoted(buffer, n, kind, bare, k)?;
                 let next = behind_quoted(bare, k);
                 rest = next;
             }
         }
     }
-    Bytes::NoBytes
+    None
 }
 
 // Whether the first word is a quotation, marked or not, if it is one.
@@ -142,28 +134,27 @@ fn has_quotation(words: &[u8]) -> bool
     if is_marked(words) {
         return true;
     }
-    if words.len() == 0 {
+    if words.is_empty() {
         return false;
     }
     words[0] == b'"'
 }
 
-pub fn set_bytes(words: &[u8], buffer: &mut [u8]) -> Bytes
+#[tactic(auto, unfolding(crate::specs::Sets::set_of))]
+pub fn set_bytes(words: &[u8], buffer: &mut [u8]) -> Option<usize>
     requires { (length words.now ≤ length buffer.old) × (4096 ≤ length buffer.old) }
     ensures result_after { bytes_in buffer.new result ≡ set_of words.now }
     ensures result_bound { count_of result ≤ 4096 }
 {
-    if words.len() == 0 {
-        return Bytes::NoBytes;
+    if words.is_empty() {
+        return None;
     }
     if has_quotation(words) {
         return entries(words, buffer);
     }
-    let Bytes::Are(n) = bytes_of(words, buffer) else {
-        return Bytes::NoBytes;
-    };
+    let n = bytes_of(words, buffer)?;
     if MOST < n {
-        return Bytes::NoBytes;
+        return None;
     }
-    Bytes::Are(n)
+    Some(n)
 }

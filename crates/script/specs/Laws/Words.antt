@@ -1,6 +1,8 @@
 -- Laws of words: how far the first blank or quotation mark is.
-use Rattle.std.specs.Prelude.{ℕ, zero, suc, ◌+◌, ◌-◌, ◌≤◌, ◌<◌, ◌≡◌, Bool, true, false, cond, List, [], ◌∷◌, eqb, length, get_or, take, drop}
-use Rattle.std.proofs.Common.{arith, add-one, sym, ap, ◌∙◌, length-drop, length-take, drop_of_length-le, drop-cons, take_all, eq-eqb, ne_eqb}
+use Rattle.std.specs.Prelude.{refl, Some, None, unwrap_or, ℕ, zero, suc, ◌+◌, ◌-◌, ◌≤◌, ◌<◌, ◌≡◌, Bool, true, false, cond, List, [], ◌∷◌, eqb, length, get_or, take, drop, ltb}
+use Rattle.std.specs.List.{position_or_len}
+use Rattle.std.proofs.lemmas.List.Recursion.{is_position_or_len}
+use Rattle.std.proofs.Common.{arith, add-one, sym, ap, ◌∙◌, length-drop, length-take, drop_of_length-le, drop-cons, take_all, eq-eqb, ne_eqb, ltb-false}
 use Rattle.script.specs.Words.{reach, word_of, behind, skipped}
 
 pub reach_hit : (b : ℕ) (l : List ℕ) (i : ℕ) → i < length l → get_or l i 0 ≡ b → reach b (drop i l) ≡ 0
@@ -24,6 +26,20 @@ reach_le b (x ∷ l) = go (eqb x b) (reach_le b l)
     go true h = omega arith
     go false h = omega arith
 
+-- what the library's search finds: an index, or none, where all of them are passed
+pub reach_found : (b : ℕ) (l : List ℕ)
+    → unwrap_or (cond (ltb (position_or_len (λ x. eqb x b) l) (length l)) (Some (position_or_len (λ x. eqb x b) l)) None) (length l) ≡ reach b l
+unfolding reach
+reach_found b l = rw (sym same) (go (ltb (reach b l) (length l)) refl)
+  where
+    same : reach b l ≡ position_or_len (λ x. eqb x b) l
+    same = is_position_or_len (reach b) (λ x. eqb x b) refl
+        (λ x xs. let e : suc (reach b xs) ≡ 1 + reach b xs = omega arith in ap (cond (eqb x b) 0) e) l
+
+    go : (t : Bool) → ltb (reach b l) (length l) ≡ t → unwrap_or (cond t (Some (reach b l)) None) (length l) ≡ reach b l
+    go true h = refl
+    go false h = omega (arith, ltb-false (reach b l) (length l) h, reach_le b l)
+
 pub length-behind : (l : List ℕ) → length (behind l) ≤ length l
 unfolding behind
 length-behind l = simp length-drop (omega arith)
@@ -32,6 +48,9 @@ pub length-skipped : (k : ℕ) (l : List ℕ) → length (skipped k l) ≤ lengt
 unfolding skipped
 length-skipped zero l = omega arith
 length-skipped (suc k) l = omega (arith, length-skipped k (behind l), length-behind l)
+
+-- what stands in some bytes is no longer than they are
+pub ruleset lengths = (length-behind, length-skipped, reach_le)
 
 -- what is lent of some bytes from a place on
 pub rest-lent : (l : List ℕ) (a : ℕ) → take (length l - a) (drop a l) ≡ drop a l

@@ -1,5 +1,5 @@
 -- `script::bytes::bytes_of` meets its contract: by the first byte of the word.
-use native.Mathlib.Omega.{arith}
+use Rattle.std.proofs.Common.{arith, rules}
 use Prim.Native.Nat.{◌-◌}
 use mathlib.Core.Path.{sym, ap, ◌∙◌}
 use lib.ListN.{length}
@@ -10,8 +10,8 @@ use Rattle.script.specs.Bytes.{hex_of}
 use Rattle.script.specs.Laws.Bytes.{bytes_hex}
 use Rattle.script.proofs.bytes.bytes_of.Goals as goal
 
-pub returns-then-word-eq0 : goal.returns-then-word-eq0
-returns-then-word-eq0 c = record { result_after = sym (bytes-empty c.args.word.now c.if-word-eq0.true); result_in_bounds = omega arith }
+pub returns-then-is_empty-clause-result_after : goal.returns-then-is_empty-clause-result_after
+returns-then-is_empty-clause-result_after c = sym (bytes-empty c.args.word.now (search rules))
 
 pub returns-then-word-eq1 : goal.returns-then-word-eq1
 returns-then-word-eq1 c = record { result_after = sym (bytes-alone c.args.word.now c.if-first-eq45.true c.if-word-eq1.true); result_in_bounds = omega arith }

@@ -1,29 +1,44 @@
--- `script::bytes::hex` meets its contract.
-use native.Mathlib.Omega.{arith}
-use mathlib.Core.Path.{sym, ap, ◌∙◌}
-use Rattle.script.specs.Bytes.{these}
-use Rattle.script.specs.Laws.Bytes.{hex_odd, hex_these}
-use Rattle.script.specs.Laws.Bytes.{hex_other}
+-- `script::bytes::hex` meets its contract. The invariant: n pairs are put, and the rest of the digits is left.
+use Rattle.std.proofs.Common.{arith, ℕ, List, Some, ◌≡◌, ◌*◌, ◌+◌, ◌<◌, ◌≤◌, sym, ap, ◌∙◌, take, ◌/◌, length, length-set, append-nil, ◌++◌}
+use Rattle.script.specs.Laws.Numbers.{digits_miss, digits_step, digits_end}
+use Rattle.script.specs.Laws.Bytes.{pairs-more, pairs_end, pair_passed, hex_other, hex_these}
 use Rattle.script.proofs.bytes.hex.Goals as goal
 
-pub returns-then-digits-ne0 : goal.returns-then-digits-ne0
-returns-then-digits-ne0 c = record { result_after = sym (hex_odd c.args.digits.now c.if-digits-ne0.true); result_in_bounds = omega arith }
+pub returns-in_err-high-clause-result_after : goal.returns-in_err-high-clause-result_after
+returns-in_err-high-clause-result_after c =
+    let w = c.args.digits.now in
+    let l = c.loop-n in
+    let e = c.in_err-high.ensures in
+    rw c.from_residual.ensures (sym (hex_other w (l.invariant.digits ∙ digits_miss 16 w (2 * l.n) (omega arith) (omega arith))))
 
-pub returns : goal.returns
-returns c =
-    let c2 = c in
-    let put-pairs = c2.put_pairs-n in
-    let c4 = c2 in
-    let if2 = c4.if-not-all_digits in
-    let c5 = c4 in
-    let all_digits = c5.all_digits in
-    let c6 = c5 in
-    let if1 = c6.if-digits-ne0 in
-    let args = c6.args in record {
-      result_after = ap these put-pairs.ensures.buffer_after ∙ sym (hex_these args.digits.now if1.false
-          (sym all_digits.ensures ∙ if2.false));
-      result_in_bounds = put-pairs.ensures.upper_bound;
+pub returns-in_err-low-clause-result_after : goal.returns-in_err-low-clause-result_after
+returns-in_err-low-clause-result_after c =
+    let w = c.args.digits.now in
+    let l = c.loop-n in
+    let g = c.in_ok-high.ensures in
+    let e = c.in_err-low.ensures in
+    rw c.from_residual-in_err-low.ensures
+    (sym (hex_other w (l.invariant.digits ∙ digits_step 16 w (2 * l.n) (omega arith) (omega arith)
+    ∙ digits_miss 16 w (2 * l.n + 1) (omega arith) (omega arith))))
+
+pub loop-n-preserved : goal.loop-n-preserved
+loop-n-preserved c =
+    let w = c.args.digits.now in
+    let l = c.loop-n in
+    let h : 2 * l.n + 1 < length w = omega arith in
+    let g : l.n < length l.buffer = omega arith in
+    let high = c.in_ok-high.ensures in
+    let low = c.in_ok-low.ensures in record {
+      long = simp length-set l.invariant.long;
+      digits = l.invariant.digits ∙ pair_passed w l.n h (omega arith) (omega arith);
+      put = rw (high.value, low.value) (pairs-more w l.buffer l.n h g l.invariant.put);
     }
 
-pub returns-then-not-all_digits-clause-result_after : goal.returns-then-not-all_digits-clause-result_after
-returns-then-not-all_digits-clause-result_after c = sym (hex_other c.args.digits.now (sym c.all_digits.ensures ∙ c.if-not-all_digits.true))
+pub returns-clause-result_after : goal.returns-clause-result_after
+returns-clause-result_after c =
+    let w = c.args.digits.now in
+    let l = c.loop-n in
+    let n : l.n ≡ length w / 2 = omega arith in
+    let h : length w ≤ 2 * l.n = omega arith in
+    ap Some (ap (λ (k : ℕ). take k l.buffer) (sym n) ∙ sym (l.invariant.put ∙ ap (λ (m : List ℕ). take l.n l.buffer ++ m) (pairs_end w (2 * l.n) h) ∙ append-nil (take l.n l.buffer)))
+    ∙ sym (hex_these w (omega arith) (l.invariant.digits ∙ digits_end 16 w (2 * l.n) h))

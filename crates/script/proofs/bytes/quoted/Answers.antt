@@ -1,6 +1,7 @@
 -- `script::bytes::quoted` meets its contract.
 use native.Mathlib.Omega.{arith}
-use mathlib.Core.Path.{sym}
+use Rattle.std.proofs.Common.{sym, ap, ◌∙◌, ◌≡◌, ◌-◌, ℕ, take, length}
+use Rattle.std.proofs.Math.Seq.{paste}
 use Rattle.script.specs.Laws.Words.{reach_le}
 use Rattle.script.specs.Laws.Bytes.{quoted_none, quoted_put}
 use Rattle.script.proofs.bytes.quoted.Goals as goal
@@ -24,7 +25,7 @@ returns c =
     let c6 = c5 in
     let reach = c6.reach-n in
     let args = c6.args in record {
-      result_after = quoted_put args.buffer.now put.new.buffer args.rest.now reach.result reach.ensures if1.false put.ensures;
+      result_after = quoted_put args.buffer.now put.new.buffer args.rest.now reach.result reach.ensures if1.false (put.ensures ∙ ap (λ (n : ℕ). paste args.buffer.now 0 (take n args.rest.now) (length (take n args.rest.now))) (let e : reach.result ≡ reach.result - 0 = omega arith in e));
       result_in_bounds = omega
           (arith, if1.false);
     }

@@ -1,5 +1,5 @@
 -- `script::sets::quoted_at` meets its contract: what stands before, inside and behind.
-use native.Mathlib.Omega.{arith}
+use Rattle.std.proofs.Common.{arith, rules}
 use Prim.Native.Nat.{◌+◌, ◌-◌, ◌<◌}
 use mathlib.Core.Path.{sym, ap, ◌∙◌}
 use lib.ListN.{length, take, drop}
@@ -8,8 +8,8 @@ use Rattle.script.specs.Words.{reach}
 use Rattle.script.specs.Laws.Sets.{quote_none, quote_other, quote_open, quote_last, quote_joined, quote_followed}
 use Rattle.script.proofs.sets.quoted_at.Goals as goal
 
-pub returns-then-words-eq0 : goal.returns-then-words-eq0
-returns-then-words-eq0 c = sym (quote_none c.args.words.now c.if-words-eq0.true)
+pub returns-then-is_empty : goal.returns-then-is_empty
+returns-then-is_empty c = sym (quote_none c.args.words.now (search rules))
 
 pub returns-then-words-ne34 : goal.returns-then-words-ne34
 returns-then-words-ne34 c = sym (quote_other c.args.words.now c.if-words-ne34.true)

@@ -1,25 +1,14 @@
--- `script::words::reach` meets its contract. The invariant: what is left of the bytes says how far it is still.
-use native.Mathlib.Omega.{arith}
-use Rattle.script.specs.Laws.Words.{reach_hit, reach_miss, reach-end}
+-- `script::words::reach` meets its contract: what the library's search finds.
+use Rattle.std.proofs.Common.{rules, tests, Option, ℕ, ap, ◌∙◌, eqb, unwrap_or, length}
+use Rattle.std.proofs.lemmas.Iterator.{YieldsList-from_slice}
+use Rattle.std.proofs.lemmas.Iterator.Search.{position_from_yields_List}
+use Rattle.script.specs.Laws.Words.{reach_found}
 use Rattle.script.proofs.words.reach.Goals as goal
 
-pub returns-then-bytes-i : goal.returns-then-bytes-i
-returns-then-bytes-i c =
-    let c2 = c in
-    let loop-test = c2.loop-i-test in
-    let c3 = c2 in
-    let loop = c3.loop-i in
-    let args = c3.args in
-    let a = args in omega (arith, reach_hit a.b a.bytes.now loop.i loop-test.true c.if-bytes-i.true)
-
-pub loop-i-preserved : goal.loop-i-preserved
-loop-i-preserved c =
-    let c2 = c in
-    let loop-test = c2.loop-i-test in
-    let c3 = c2 in
-    let loop = c3.loop-i in
-    let args = c3.args in
-    let a = args in omega (arith, reach_miss a.b a.bytes.now loop.i loop-test.true c.if-bytes-i.false)
-
 pub returns : goal.returns
-returns c = let a = c.args in omega (arith, reach-end a.b a.bytes.now c.loop-i.i c.loop-i-test.false)
+returns c =
+    let l = c.args.bytes.now in
+    c.unwrap_or.ensures
+    ∙ ap (λ (o : Option ℕ). unwrap_or o (length l)) (position_from_yields_List (λ x. eqb x c.args.b) _ _ c.position.result c.position.ensures.ran
+    (YieldsList-from_slice _ c.iter.ensures.rest) (λ x b q k. search (rules, tests)))
+    ∙ reach_found c.args.b l

@@ -6,6 +6,3 @@ use Rattle.script.proofs.words.skipped.Given as goal
 
 abbrev pub invariant-loop-i : goal.invariant-loop-i
 invariant-loop-i l = skipped l.k l.bytes ≡ skipped (l.k - l.i) l.rest
-
-abbrev pub decreases-loop-i : goal.decreases-loop-i
-decreases-loop-i l = l.k - l.i
