@@ -2,16 +2,16 @@
 // settled waits in its own slot: its depth, where it fails to, and the mask of the tags that go through it.
 #![tactic(auto)]
 
-ghost use Rattle.std.specs.Prelude.{◌≡◌, List, ◌*◌, ◌<◌, ◌≤◌, length};
-ghost use Rattle.matching.specs.Words.{Lawful, Word};
-ghost use Rattle.tagset.specs.Answer.{cut_at};
+ghost use Rattle.std.specs.Prelude.{◌≡◌, ◌*◌, ◌<◌, ◌≤◌, length};
+ghost use Rattle.matching.specs.Words.{Lawful};
+ghost use Rattle.tagset.specs.Cutting.{words_of};
 ghost use Rattle.bitmap.specs.Levels.{by_level};
 ghost use Rattle.bitmap.specs.Slots.{built};
 ghost use Rattle.bitmap_growing.specs.Growing.{Begun, Growing};
 
 use bitmap_maps::masks::all_tags;
-use machines::planting::clear;
 use settling::settle;
+use tagset::Words;
 
 mod settling;
 mod sowing;
@@ -21,35 +21,26 @@ fn begin(tags: usize, table: &mut [u16])
     requires { (18 < length table.old) × (tags ≤ 16) }
     ensures { Begun tags table.new (length table.old) }
 {
-    clear(table);
+    table.fill(0);
     table[18] = all_tags(tags);
 }
 
 // The n states, each in its turn.
-fn grow(letters: &[u8], from: &[usize], to: &[usize], table: &mut [u16], s: usize, n: usize)
-    requires { let ts = cut_at letters.now from.now to.now in (length ts ≡ length from.now) × (n ≡ length (by_level ts)) × (Growing ts s table.old 0 1) }
-    ensures { let ts = cut_at letters.now from.now to.now in table.new ≡ built s ts }
+fn grow(words: &Words, table: &mut [u16], s: usize, n: usize)
+    requires { let ts = words_of words.now in (n ≡ length (by_level ts)) × (Growing ts s table.old 0 1) }
+    ensures { table.new ≡ built s (words_of words.now) }
 {
-    let mut k: usize = 1;
-    let mut q: usize = 0;
-    while q < n {
-        k = settle(letters, from, to, table, s, q, k);
-        q += 1;
+    let mut k = 1;
+    for q in 0..n {
+        k = settle(words, table, s, q, k);
     }
 }
 
 // The table of a set with n states, in just s slots, whatever stood there.
-pub fn make_bitmap(
-    letters: &[u8],
-    from: &[usize],
-    to: &[usize],
-    table: &mut [u16],
-    s: usize,
-    n: usize,
-)
-    requires { let ts = cut_at letters.now from.now to.now in (length ts ≡ length from.now) × (Lawful ts) × (n ≡ length (by_level ts)) × (n ≤ s) × (s * 19 ≡ length table.old) }
-    ensures { let ts = cut_at letters.now from.now to.now in table.new ≡ built s ts }
+pub fn make_bitmap(words: &Words, table: &mut [u16], s: usize, n: usize)
+    requires { let ts = words_of words.now in (Lawful ts) × (n ≡ length (by_level ts)) × (n ≤ s) × (s * 19 ≡ length table.old) }
+    ensures { table.new ≡ built s (words_of words.now) }
 {
-    begin(from.len(), table);
-    grow(letters, from, to, table, s, n);
+    begin(words.count(), table);
+    grow(words, table, s, n);
 }

@@ -1,17 +1,16 @@
 // A state's turn: its map, its first child and its vector into its slot, and its children behind the states placed before.
-ghost use Rattle.std.specs.Prelude.{◌≡◌, List, ◌+◌, ◌*◌, ◌<◌, ◌≤◌, length};
-ghost use Rattle.matching.specs.Words.{Word};
-ghost use Rattle.tagset.specs.Answer.{cut_at};
+ghost use Rattle.std.specs.Prelude.{◌≡◌, ◌+◌, ◌*◌, ◌<◌, ◌≤◌, length};
+ghost use Rattle.tagset.specs.Cutting.{words_of};
 ghost use Rattle.bitmap.specs.Levels.{by_level};
 ghost use Rattle.bitmap.specs.Steps.{ones_over};
 ghost use Rattle.bitmap_growing.specs.Growing.{Closable, Growing, closed, first_behind, inherits};
 
-use super::sowing::sow;
+use super::sowing::{Turn, sow};
 use bitmap::steps::{number, vector_of};
 use bitmap_maps::counting::children;
 use bitmap_maps::laying::lay_map;
 use bitmap_maps::own::own_tags;
-use passing::places::wide;
+use tagset::Words;
 
 // The vector of the state that q fails to; none for the start state.
 fn inherited(table: &[u16], q: usize, f: usize) -> u16
@@ -45,24 +44,20 @@ fn close(table: &mut [u16], q: usize, k: usize, f: usize, own: u16) -> usize
 }
 
 // State q, whose turn it is, with k states placed; how many are then.
-pub fn settle(
-    letters: &[u8],
-    from: &[usize],
-    to: &[usize],
-    table: &mut [u16],
-    s: usize,
-    q: usize,
-    k: usize,
-) -> usize
-    requires { let ts = cut_at letters.now from.now to.now in (length ts ≡ length from.now) × (q < length (by_level ts)) × (Growing ts s table.old q k) }
-    ensures { let ts = cut_at letters.now from.now to.now in Growing ts s table.new (q + 1) result }
+pub fn settle(words: &Words, table: &mut [u16], s: usize, q: usize, k: usize) -> usize
+    requires { let ts = words_of words.now in (q < length (by_level ts)) × (Growing ts s table.old q k) }
+    ensures { Growing (words_of words.now) s table.new (q + 1) result }
 {
-    let d = wide(number(table, q, 0));
-    let f = wide(number(table, q, 17));
-    let mask = number(table, q, 18);
-    lay_map(letters, from, to, table, q, d, mask);
-    let own = own_tags(letters, from, to, d, mask);
-    let n = close(table, q, k, f, own);
-    sow(letters, from, to, table, s, q, f, d, mask, k);
+    let turn = Turn {
+        state: q,
+        placed: k,
+        depth: usize::from(number(table, q, 0)),
+        fail: usize::from(number(table, q, 17)),
+        mask: number(table, q, 18),
+    };
+    lay_map(words, table, q, turn.depth, turn.mask);
+    let own = own_tags(words, turn.depth, turn.mask);
+    let n = close(table, q, k, turn.fail, own);
+    sow(words, table, s, turn);
     k + n
 }

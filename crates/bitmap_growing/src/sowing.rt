@@ -1,14 +1,24 @@
 // The children of a settled state, sown tag by tag: each tag that goes on from it marks the child on its next byte.
-ghost use Rattle.std.specs.Prelude.{◌≡◌, List, ◌+◌, ◌*◌, ◌<◌, ◌≤◌, ◌^◌, length};
-ghost use Rattle.matching.specs.Words.{Word};
-ghost use Rattle.tagset.specs.Answer.{cut_at};
+ghost use Rattle.std.specs.Prelude.{◌≡◌, ◌+◌, ◌*◌, ◌<◌, ◌≤◌, ◌^◌, length};
+ghost use Rattle.tagset.specs.Cutting.{words_of};
 ghost use Rattle.bitmap.specs.Steps.{step, vector_at};
 ghost use Rattle.bitmap_growing.specs.Growing.{Found, Growing, Sowable, Sowing, fail_to, kids, placed, sown_by};
 
 use bitmap::Step;
 use bitmap::steps::{next_state, ones_below};
 use bitmap_maps::masks::goes_through;
-use tagset::tag_bytes;
+use tagset::Words;
+
+// The state whose turn it is, and how many states were placed before it was settled; and what its slot said while it waited: its depth, the
+// state that it fails to, and the mask of the tags that go through it.
+#[derive(Clone, Copy)]
+pub struct Turn {
+    pub state: usize,
+    pub placed: usize,
+    pub depth: usize,
+    pub fail: usize,
+    pub mask: u16,
+}
 
 // Where the child of state q on a byte fails to, where q itself fails to f.
 fn failing(table: &[u16], s: usize, q: usize, f: usize, c: u8) -> usize
@@ -36,62 +46,37 @@ fn place(table: &mut [u16], r: usize, d: usize, f: usize, u: usize)
     table[at + 18] = mask;
 }
 
-// The child of state q on a byte, marked by tag u.
-fn sow_one(table: &mut [u16], s: usize, q: usize, f: usize, d: usize, k: usize, c: u8, u: usize)
-    requires { Sowable table.old s q f d k c u }
-    ensures { table.new ≡ sown_by table.old s q f d k c u }
+// The child on a byte of the state whose turn it is, marked by tag u.
+fn sow_one(table: &mut [u16], s: usize, turn: Turn, c: u8, u: usize)
+    requires { Sowable table.old s turn.state turn.fail turn.depth turn.placed c u }
+    ensures { table.new ≡ sown_by table.old s turn.state turn.fail turn.depth turn.placed c u }
 {
-    let r = k + ones_below(table, q, c);
-    let x = failing(table, s, q, f, c);
-    place(table, r, d + 1, x, u);
+    let r = turn.placed + ones_below(table, turn.state, c);
+    let x = failing(table, s, turn.state, turn.fail, c);
+    place(table, r, turn.depth + 1, x, u);
 }
 
-// Tag u, where it goes on from state q.
-fn sow_tag(
-    letters: &[u8],
-    from: &[usize],
-    to: &[usize],
-    table: &mut [u16],
-    s: usize,
-    q: usize,
-    f: usize,
-    d: usize,
-    mask: u16,
-    k: usize,
-    u: usize,
-)
-    requires { let ts = cut_at letters.now from.now to.now in (u < length ts) × (Found ts q d f mask) × (Sowing ts s table.old q k u) }
-    ensures { let ts = cut_at letters.now from.now to.now in Sowing ts s table.new q k (u + 1) }
+// Tag u, where it goes on from that state.
+fn sow_tag(words: &Words, table: &mut [u16], s: usize, turn: Turn, u: usize)
+    requires { let ts = words_of words.now in (u < length ts) × (Found ts turn.state turn.depth turn.fail turn.mask) × (Sowing ts s table.old turn.state turn.placed u) }
+    ensures { Sowing (words_of words.now) s table.new turn.state turn.placed (u + 1) }
 {
-    if !goes_through(mask, u) {
+    if !goes_through(turn.mask, u) {
         return;
     }
-    let tag = tag_bytes(letters, from, to, u);
-    if tag.len() <= d {
+    let tag = words.tag(u);
+    if tag.len() <= turn.depth {
         return;
     }
-    sow_one(table, s, q, f, d, k, tag[d], u);
+    sow_one(table, s, turn, tag[turn.depth], u);
 }
 
-// All tags: the children of state q, behind the k states placed before it was settled.
-pub fn sow(
-    letters: &[u8],
-    from: &[usize],
-    to: &[usize],
-    table: &mut [u16],
-    s: usize,
-    q: usize,
-    f: usize,
-    d: usize,
-    mask: u16,
-    k: usize,
-)
-    requires { let ts = cut_at letters.now from.now to.now in (length ts ≡ length from.now) × (Found ts q d f mask) × (Sowing ts s table.old q k 0) }
-    ensures { let ts = cut_at letters.now from.now to.now in Growing ts s table.new (q + 1) (k + kids ts q) }
+// All tags: the children of that state, behind the states placed before it was settled.
+pub fn sow(words: &Words, table: &mut [u16], s: usize, turn: Turn)
+    requires { let ts = words_of words.now in (Found ts turn.state turn.depth turn.fail turn.mask) × (Sowing ts s table.old turn.state turn.placed 0) }
+    ensures { let ts = words_of words.now in Growing ts s table.new (turn.state + 1) (turn.placed + kids ts turn.state) }
 {
-    let mut u: usize = 0;
-    while u < from.len() {
-        sow_tag(letters, from, to, table, s, q, f, d, mask, k, u);
-        u += 1;
+    for u in 0..words.count() {
+        sow_tag(words, table, s, turn, u);
     }
 }

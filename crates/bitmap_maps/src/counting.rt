@@ -10,11 +10,9 @@ pub fn children(table: &[u16], q: usize) -> usize
     ensures { (result ≡ ones_over table.now q 0 16) × (result ≤ 256) }
 {
     let at = q * 19;
-    let mut sum: usize = 0;
-    let mut j: usize = 0;
-    while j < 16 {
+    let mut sum = 0;
+    for j in 0..16 {
         sum += ones_of(table[at + j]);
-        j += 1;
     }
     sum
 }

@@ -12,8 +12,7 @@ use Rattle.matching.specs.Words.{Below, Lawful, Word}
 use Rattle.tagset.specs.Answer.{cut_at}
 use Rattle.tagset.specs.Grammar.{bad_set, set_of}
 use Rattle.tagset.specs.Laws.Exact.{accepted_iff}
-use Rattle.tagset.specs.Laws.Lent.{GoodRead, lent-from, lent-to, lent-words}
-use Rattle.tagset.specs.Laws.Places.{cut_at-length}
+use Rattle.tagset.specs.Laws.Lent.{GoodRead, lent-words}
 use Rattle.tagset.specs.Refusals.{Accepted}
 use Rattle.tagset.specs.declared.SetFault.{SetFault}
 use Rattle.tagset.specs.declared.Places.{Places}
@@ -78,15 +77,8 @@ module _ (bytes run : List ℕ) where
         subst Lawful (sym (lent-words g.lent))
         (map-lawful bytes small (words_of g.tags) (subst (Accepted map_kinds bytes) x ((accepted_iff map_kinds bytes g.tags).0 g.good)))
 
-    pub read-fit : Below 256 bytes → Fit (length (take p.count p.from)) cut
-    read-fit small =
-        let l = read-lawful small in
-        let even = sym (lent-from g.lent) ∙ lent-to g.lent in
-        record {
-          many = cut_at-length bytes (take p.count p.from) (take p.count p.to) even;
-          few = l.few;
-          short = l.short;
-        }
+    pub read-fit : Below 256 bytes → Fit cut
+    read-fit small = let l = read-lawful small in record { few = l.few; short = l.short }
 
     pub good-answer : (answer : Built) → answer ≡ map_built_tags cut (length run) → answer ≡ map_built_of bytes (length run)
     unfolding map_built_of

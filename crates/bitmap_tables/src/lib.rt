@@ -1,9 +1,9 @@
 // Building a bitmap table from the bytes of a set (docs/RULES.md, 2 and 3).
 #![tactic(auto)]
 
-ghost use Rattle.std.specs.Prelude.{◌≡◌, List, length};
-ghost use Rattle.matching.specs.Words.{Lawful, Word};
-ghost use Rattle.tagset.specs.Answer.{cut_at};
+ghost use Rattle.std.specs.Prelude.{◌≡◌, length};
+ghost use Rattle.matching.specs.Words.{Lawful};
+ghost use Rattle.tagset.specs.Cutting.{words_of};
 ghost use Rattle.machines.specs.Rows.{Fit};
 ghost use Rattle.bitmap_tables.specs.Building.{map_built_of, map_built_tags, map_table_of, map_table_tags};
 
@@ -12,25 +12,25 @@ use bitmap_growing::make_bitmap;
 use kinds::Takes;
 use machines::count_states;
 use tables::Built;
-use tagset::read_set;
+use tagset::{Words, read_set};
 
 // The machine's name in a refusal.
 const BITMAP: usize = 253;
 
 // The tags' table, where there is a slot for each state.
-fn build_tags(set: &[u8], from: &[usize], to: &[usize], table: &mut [u16]) -> Built
-    requires { let ts = cut_at set.now from.now to.now in (Fit (length from.now) ts) × (Lawful ts) }
-    ensures answer { let ts = cut_at set.now from.now to.now in result ≡ map_built_tags ts (length table.old) }
-    ensures left { let ts = cut_at set.now from.now to.now in table.new ≡ map_table_tags ts table.old }
+fn build_tags(words: &Words, table: &mut [u16]) -> Built
+    requires { let ts = words_of words.now in (Fit ts) × (Lawful ts) }
+    ensures answer { result ≡ map_built_tags (words_of words.now) (length table.old) }
+    ensures left { table.new ≡ map_table_tags (words_of words.now) table.old }
 {
     let s = map_slots(table.len());
-    let n = count_states(set, from, to);
+    let n = count_states(words);
     if s < n {
         return Built::Table(BITMAP, n);
     }
     let end = s * 19;
-    make_bitmap(set, from, to, &mut table[..end], s, n);
-    Built::Tags(from.len())
+    make_bitmap(words, &mut table[..end], s, n);
+    Built::Tags(words.count())
 }
 
 // The bitmap table of a set of exact tags: its faults, then its slots.
@@ -45,5 +45,10 @@ pub fn build_bitmap(set: &[u8], table: &mut [u16]) -> Built
     let count = places.count;
     let from = places.from;
     let to = places.to;
-    build_tags(set, &from[..count], &to[..count], table)
+    let words = Words {
+        letters: set,
+        from: &from[..count],
+        to: &to[..count],
+    };
+    build_tags(&words, table)
 }

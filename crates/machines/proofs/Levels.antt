@@ -14,10 +14,11 @@ use lib.Seq.{get_or-set_other, get_or-set_same, get_or-take, length-take-le, tak
 use borrow.Author.Tests.{eq-eqb, le-leb, ne_eqb}
 use Rattle.machines.proofs.Cells.{cell_col, cell-fits}
 use Rattle.machines.proofs.Growing.{begins-known}
-use Rattle.machines.proofs.Heads.{Front, front-among, front_of, state-front}
+use Rattle.machines.proofs.Heads.{Front, front-among, front_in, state-front}
 use Rattle.machines.proofs.Making.{Cell, cell-child, cells-all, done_all, done-slot, first-low, root_done, states-is}
 use Rattle.machines.specs.Fronts.{known}
-use Rattle.machines.specs.Rows.{Done, Filled, Level, Made, Place, Sown, cell}
+use Rattle.machines.specs.Rows.{Done, Filled, Level, Made, Place, Sown, Started, cell, front_of, no_walk}
+use Rattle.machines.specs.declared.filling.Walk.{Walk}
 use Rattle.matching.specs.Laws.Links.{next-child}
 use Rattle.matching.specs.Laws.Machine.{longest-among, longest-length, longest_nil, next-longest}
 use Rattle.matching.proofs.Laws.Prefixes.{index_of_nil, tree}
@@ -28,23 +29,23 @@ use Rattle.matching.specs.Words.{Word, among, index_of}
 -- ---- the levels
 
 module _ (ts : List Word) (m : ℕ) where
-  pub level-start : (at fail l : List ℕ) (z : ℕ) → Sown (prefixes ts) m l → m < length l → z ≡ vector ts [] → ((u : ℕ) → u < length ts → get_or at u 0 ≡ 0)
-      → ((u : ℕ) → u < length ts → get_or fail u 0 ≡ 0) → length at ≡ 16 → length fail ≡ 16 → Level ts m 0 0 at fail (set l m z)
-  level-start at fail l z S room e a f ra rf =
+  pub level-start : (walks : List Walk) (l : List ℕ) (z : ℕ) → Sown (prefixes ts) m l → m < length l → z ≡ vector ts [] → Started ts walks
+      → Level ts m 0 0 walks (set l m z)
+  level-start walks l z S room e W =
       record {
         cells = λ q c hq hc. inr (other (cell m q c) (λ h. off q c hc h) ∙ S.kids q c (rw (states-is ts) hq) hc);
         rows = λ v h k. rw (nil v k, index_of_nil ts) (root_done ts m z l S room e);
         fresh = λ u h k. absurd (omega arith);
+        knows = λ u h. ap (λ (w : Walk). w.front) (W.each u h);
         gone = λ u h k. absurd (omega arith);
         here = λ u h k n.
             record {
-              state = a u k ∙ sym (index_of_nil ts);
-              failed = f u k ∙ sym (ap (λ (w : Word). index_of w (prefixes ts)) (longest_nil (prefixes ts)) ∙ index_of_nil ts);
+              state = ap (λ (w : Walk). w.at) (W.each u k) ∙ sym (index_of_nil ts);
+              failed = ap (λ (w : Walk). w.fail) (W.each u k) ∙ sym (ap (λ (w : Word). index_of w (prefixes ts)) (longest_nil (prefixes ts)) ∙ index_of_nil ts);
             };
         blank = λ j h. other j (λ i. omega (arith, cell-fits m 0 m (states ts) (first-low ts) (le_refl m), zero-mul (m + 1)))
             ∙ S.blank j (rw (states-is ts) h);
-        room_a = ra;
-        room_f = rf;
+        room = W.room;
       }
     where
       nil : (v : Word) → length v ≤ 0 → v ≡ []
@@ -57,17 +58,17 @@ module _ (ts : List Word) (m : ℕ) where
       off : (q c : ℕ) → c < m → cell m q c ≡ m → ⊥
       off q c hc h = omega (arith, cell_col m q 0 c m (omega arith) (le_refl m) (h ∙ omega (arith, zero-mul (m + 1))))
 
-  pub level_skip : (d t : ℕ) (at fail l : List ℕ) → Level ts m d t at fail l → length (get_or ts t []) ≤ d → Level ts m d (t + 1) at fail l
-  level_skip d t at fail l L h =
+  pub level_skip : (d t : ℕ) (walks : List Walk) (l : List ℕ) → Level ts m d t walks l → length (get_or ts t []) ≤ d → Level ts m d (t + 1) walks l
+  level_skip d t walks l L h =
       record {
         cells = L.cells;
         rows = L.rows;
         fresh = λ u k n. L.fresh u (less u k n) n;
+        knows = L.knows;
         gone = λ u k n. L.gone u (less u k n) n;
         here = λ u k n o. L.here u (omega arith) n o;
         blank = L.blank;
-        room_a = L.room_a;
-        room_f = L.room_f;
+        room = L.room;
       }
     where
       less : (u : ℕ) → u < t + 1 → d < length (get_or ts u []) → u < t
@@ -79,17 +80,17 @@ module _ (ts : List Word) (m : ℕ) where
               let e : u ≡ t = omega arith in
               absurd (omega (arith, ap (λ (x : ℕ). length (get_or ts x [])) e))
 
-  pub level-next : (d t : ℕ) (at fail l : List ℕ) → Level ts m d t at fail l → length ts ≤ t → Level ts m (d + 1) 0 at fail l
-  level-next d t at fail l L h =
+  pub level-next : (d t : ℕ) (walks : List Walk) (l : List ℕ) → Level ts m d t walks l → length ts ≤ t → Level ts m (d + 1) 0 walks l
+  level-next d t walks l L h =
       record {
         cells = L.cells;
         rows = λ v a k. row v a k (dec_le (length v) d);
         fresh = λ u k n. absurd (omega arith);
+        knows = L.knows;
         gone = λ u k n. absurd (omega arith);
         here = λ u k n o. L.gone u (omega arith) (omega arith);
         blank = L.blank;
-        room_a = L.room_a;
-        room_f = L.room_f;
+        room = L.room;
       }
     where
       row : (v : Word) → among v (prefixes ts) ≡ true → length v ≤ d + 1 → Dec (length v ≤ d) → Done ts m (index_of v (prefixes ts)) l
@@ -100,8 +101,8 @@ module _ (ts : List Word) (m : ℕ) where
           subst (λ (x : Word). Done ts m (index_of x (prefixes ts)) l) (ap (λ (n : ℕ). take n (get_or ts s.tag [])) e ∙ s.is)
           (L.fresh s.tag (omega (arith, s.low)) (omega (arith, s.long)))
 
-  pub level-end : (d t : ℕ) (at fail l : List ℕ) → Level ts m d t at fail l → ((u : ℕ) → length (get_or ts u []) ≤ d) → Filled ts m l
-  level-end d t at fail l L short =
+  pub level-end : (d t : ℕ) (walks : List Walk) (l : List ℕ) → Level ts m d t walks l → ((u : ℕ) → length (get_or ts u []) ≤ d) → Filled ts m l
+  level-end d t walks l L short =
       record {
         done = λ q h.
             let low : q < length (prefixes ts) = rw (states-is ts) h in
@@ -117,6 +118,10 @@ module _ (ts : List Word) (m : ℕ) where
 
 -- ---- tag t goes one letter on
 
+-- its walk, then
+abbrev pub gone_on : List Walk → ℕ → ℕ → ℕ → Walk
+gone_on walks t q x = record { front = (get_or walks t no_walk).front; at = q; fail = x }
+
 tail_snoc : (w : Word) (c : ℕ) → 0 < length w → tail (w ++ c ∷ []) ≡ tail w ++ c ∷ []
 tail_snoc [] c h = absurd (omega arith)
 tail_snoc (x ∷ w) c h = refl
@@ -125,13 +130,13 @@ tail_less : (w : Word) → length (tail w) ≤ length w - 1
 tail_less [] = omega arith
 tail_less (x ∷ w) = omega arith
 
-module _ {ts : List Word} {m d t : ℕ} {at fail l : List ℕ} (L : Level ts m d t at fail l) (ht : t < length ts) (w : Word) (ew : w ≡ get_or ts t [])
+module _ {ts : List Word} {m d t : ℕ} {walks : List Walk} {l : List ℕ} (L : Level ts m d t walks l) (ht : t < length ts) (w : Word) (ew : w ≡ get_or ts t [])
     (hd : d < length w)
     (c : ℕ) (hc : c ≡ get_or w d 0) (low : c < m) where
   deep : d < length (get_or ts t [])
   deep = rw ew at hd
 
-  place : Place (prefixes ts) (get_or ts t []) d (get_or at t 0) (get_or fail t 0)
+  place : Place (prefixes ts) (get_or ts t []) d (get_or walks t no_walk)
   place = L.here t (le_refl t) ht (omega (arith, deep))
 
   front : take (d + 1) (get_or ts t []) ≡ take d (get_or ts t []) ++ c ∷ []
@@ -145,23 +150,23 @@ module _ {ts : List Word} {m d t : ℕ} {at fail l : List ℕ} (L : Level ts m d
   there : among (take (d + 1) (get_or ts t [])) (prefixes ts) ≡ true
   there = front-among ts t (d + 1) ht
 
-  pub at_low : get_or at t 0 < states ts
+  pub at_low : (get_or walks t no_walk).at < states ts
   at_low = rw (place.state, ← states-is ts) (index_of_lt (take d (get_or ts t [])) (prefixes ts) (front-among ts t d ht))
 
-  pub fail-low : get_or fail t 0 < states ts
+  pub fail-low : (get_or walks t no_walk).fail < states ts
   fail-low = rw (place.failed, ← states-is ts) (index_of_lt _ (prefixes ts) (longest-among (prefixes ts) (tail (take d (get_or ts t []))) (tree ts).root))
 
-  this : get_or (prefixes ts) (get_or at t 0) [] ≡ take d (get_or ts t [])
+  this : get_or (prefixes ts) ((get_or walks t no_walk).at) [] ≡ take d (get_or ts t [])
   this = ap (λ (n : ℕ). get_or (prefixes ts) n []) place.state ∙ get_d_index_of (take d (get_or ts t [])) (prefixes ts) (front-among ts t d ht)
 
-  child-there : among (get_or (prefixes ts) (get_or at t 0) [] ++ c ∷ []) (prefixes ts) ≡ true
+  child-there : among (get_or (prefixes ts) ((get_or walks t no_walk).at) [] ++ c ∷ []) (prefixes ts) ≡ true
   child-there = rw (this, ← front) there
 
-  module _ (q x : ℕ) (eq : q ≡ get_or l (cell m (get_or at t 0) c) 0) (ex : x ≡ cond (eqb d 0) 0 (get_or l (cell m (get_or fail t 0) c) 0)) where
+  module _ (q x : ℕ) (eq : q ≡ get_or l (cell m ((get_or walks t no_walk).at) c) 0) (ex : x ≡ cond (eqb d 0) 0 (get_or l (cell m ((get_or walks t no_walk).fail) c) 0)) where
     state-next : q ≡ index_of (take (d + 1) (get_or ts t [])) (prefixes ts)
     state-next =
-        eq ∙ cell-child ts (get_or at t 0) c child-there _ (L.cells (get_or at t 0) c at_low low)
-        ∙ next-child (prefixes ts) (get_or at t 0) c child-there
+        eq ∙ cell-child ts ((get_or walks t no_walk).at) c child-there _ (L.cells ((get_or walks t no_walk).at) c at_low low)
+        ∙ next-child (prefixes ts) ((get_or walks t no_walk).at) c child-there
         ∙ ap (λ (v : Word). index_of v (prefixes ts)) (ap (λ (v : Word). v ++ c ∷ []) this ∙ sym front)
 
     fail-next : x ≡ index_of (longest (prefixes ts) (tail (take (d + 1) (get_or ts t [])))) (prefixes ts)
@@ -193,17 +198,17 @@ module _ {ts : List Word} {m d t : ℕ} {at fail l : List ℕ} (L : Level ts m d
         → ((n : ℕ) → Done ts m n l → Done ts m n l')
         → Done ts m (index_of (take (d + 1) (get_or ts t [])) (prefixes ts)) l'
         → ((j : ℕ) → states ts * (m + 1) ≤ j → get_or l' j 0 ≡ 0)
-        → Level ts m d (t + 1) (set at t q) (set fail t x) l'
+        → Level ts m d (t + 1) (set walks t (gone_on walks t q x)) l'
     moved l' few cells stays new blank =
         record {
           cells = cells;
           rows = λ v h k. stays (index_of v (prefixes ts)) (L.rows v h k);
           fresh = λ u h k. fresh_at u k (dec_lt u t) h;
           gone = λ u h k. gone_at u k (dec_lt u t) h;
-          here = λ u h k n. rw (get_or-set_other at t u q 0 (λ e. omega arith), get_or-set_other fail t u x 0 (λ e. omega arith)) (L.here u (omega arith) k n);
+          knows = λ u h. knows_at u (ℕ_discrete u t) h;
+          here = λ u h k n. rw (get_or-set_other walks t u (gone_on walks t q x) no_walk (λ e. omega arith)) (L.here u (omega arith) k n);
           blank = blank;
-          room_a = rw (length-set at t q) L.room_a;
-          room_f = rw (length-set fail t x) L.room_f;
+          room = rw (length-set walks t (gone_on walks t q x)) L.room;
         }
       where
         fresh_at : (u : ℕ) → d < length (get_or ts u []) → Dec (u < t) → u < t + 1 → Done ts m (index_of (take (d + 1) (get_or ts u [])) (prefixes ts)) l'
@@ -212,23 +217,29 @@ module _ {ts : List Word} {m d t : ℕ} {at fail l : List ℕ} (L : Level ts m d
             let e : t ≡ u = omega arith in
             subst (λ (n : ℕ). Done ts m (index_of (take (d + 1) (get_or ts n [])) (prefixes ts)) l') e new
 
+        same : get_or (set walks t (gone_on walks t q x)) t no_walk ≡ gone_on walks t q x
+        same = get_or-set_same walks t (gone_on walks t q x) no_walk (omega (arith, L.room))
+
+        knows_at : (u : ℕ) → Dec (u ≡ t) → u < length ts → (get_or (set walks t (gone_on walks t q x)) u no_walk).front ≡ front_of ts u
+        knows_at u (yes e) h = rw (e, same) (L.knows t ht)
+        knows_at u (no n) h = rw (get_or-set_other walks t u (gone_on walks t q x) no_walk n) (L.knows u h)
+
         gone_at : (u : ℕ) → d < length (get_or ts u []) → Dec (u < t) → u < t + 1
-            → Place (prefixes ts) (get_or ts u []) (d + 1) (get_or (set at t q) u 0) (get_or (set fail t x) u 0)
-        gone_at u k (yes j) h = rw (get_or-set_other at t u q 0 (λ e. omega arith), get_or-set_other fail t u x 0 (λ e. omega arith)) (L.gone u j k)
+            → Place (prefixes ts) (get_or ts u []) (d + 1) (get_or (set walks t (gone_on walks t q x)) u no_walk)
+        gone_at u k (yes j) h = rw (get_or-set_other walks t u (gone_on walks t q x) no_walk (λ e. omega arith)) (L.gone u j k)
         gone_at u k (no j) h =
             let e : t ≡ u = omega arith in
-            subst (λ (n : ℕ). Place (prefixes ts) (get_or ts n []) (d + 1) (get_or (set at t q) n 0) (get_or (set fail t x) n 0)) e
-            (rw (get_or-set_same at t q 0 (omega (arith, L.room_a)), get_or-set_same fail t x 0 (omega (arith, L.room_f)))
-            (record { state = state-next; failed = fail-next }))
+            subst (λ (n : ℕ). Place (prefixes ts) (get_or ts n []) (d + 1) (get_or (set walks t (gone_on walks t q x)) n no_walk)) e
+            (rw same (record { state = state-next; failed = fail-next }))
 
     module _ (few : length ts ≤ 16) where
       -- the slot was made by a tag that has this front too
-      pub level-known : d < known (take t ts) (get_or ts t []) → Level ts m d (t + 1) (set at t q) (set fail t x) l
+      pub level-known : d < known (take t ts) (get_or ts t []) → Level ts m d (t + 1) (set walks t (gone_on walks t q x)) l
       level-known k = moved l few L.cells (λ n D. D) made L.blank
         where
           earlier : Front (take t ts) (take (d + 1) (get_or ts t []))
           earlier =
-              front_of (take t ts) (take (d + 1) (get_or ts t []))
+              front_in (take t ts) (take (d + 1) (get_or ts t []))
               (begins-known (d + 1) (take t ts) (get_or ts t []) (omega arith) (omega (arith, deep))
               ∙ le-leb (d + 1) (known (take t ts) (get_or ts t [])) (omega arith))
 
@@ -244,7 +255,7 @@ module _ {ts : List Word} {m d t : ℕ} {at fail l : List ℕ} (L : Level ts m d
               subst (λ (v : Word). Done ts m (index_of v (prefixes ts)) l) e (L.fresh u h (omega arith))
 
       -- the slot is made now
-      pub level-made : (z : ℕ) (l' : List ℕ) → z ≡ vector ts (take (d + 1) w) → Made m q x z l l' → Level ts m d (t + 1) (set at t q) (set fail t x) l'
+      pub level-made : (z : ℕ) (l' : List ℕ) → z ≡ vector ts (take (d + 1) w) → Made m q x z l l' → Level ts m d (t + 1) (set walks t (gone_on walks t q x)) l'
       level-made z l' ez M =
           moved l' few
           (λ p a hp ha. cells-all ts m q x l l' z M p a ha new (L.cells p a hp ha))

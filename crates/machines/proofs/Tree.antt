@@ -9,7 +9,7 @@ use native.Mathlib.Nat.{suc-mul}
 use native.Mathlib.Numerals.{add-one}
 use native.Mathlib.Omega.{arith}
 use lib.Dec.{eqb}
-use lib.ListN.{get_or, length, length-append, set, take}
+use lib.ListN.{get_or, get_or-eq_default, get_or-replicate, length, length-append, length-replicate, replicate, set, take}
 use lib.Seq.{get_or-set_other, get_or-set_same, take_all, take-suc}
 use borrow.Author.Tests.{eq-eqb, ne_eqb}
 use Rattle.machines.proofs.Cells.{cell_col, cell-fits, cell_row, cell-small}
@@ -158,7 +158,7 @@ pub record Here (m q c k len : ℕ) : Type 0 where
   pub room : cell m q c < len
   pub few : k ≤ 513
 
-module _ {places : ℕ} {ts : List Word} {m t count : ℕ} {l₀ : List ℕ} (p : Planting places ts m t count l₀) (ht : t < length ts) (w : Word)
+module _ {ts : List Word} {m t count : ℕ} {l₀ : List ℕ} (p : Planting ts m t count l₀) (ht : t < length ts) (w : Word)
     (ew : w ≡ get_or ts t [])
     {i k q : ℕ} {l : List ℕ} (long : length l ≡ length l₀) (path : Path (take t ts) w m i k q l) where
   within : i ≤ length w → k ≤ states ts
@@ -197,9 +197,9 @@ module _ {places : ℕ} {ts : List Word} {m t count : ℕ} {l₀ : List ℕ} (p 
 pub roomy-same : {ts : List Word} {m a b : ℕ} → Roomy ts m a → b ≡ a → Roomy ts m b
 roomy-same r e = record { low = r.low; small = r.small; room = rw e r.room }
 
-pub plant_again : {places : ℕ} {ts : List Word} {m t₀ t count₀ count : ℕ} {l₀ l : List ℕ} → Planting places ts m t₀ count₀ l₀ → length l ≡ length l₀
-    → Planted (take t ts) m count l → Planting places ts m t count l
-plant_again {places} {ts} {m} p e q =
+pub plant_again : {ts : List Word} {m t₀ t count₀ count : ℕ} {l₀ l : List ℕ} → Planting ts m t₀ count₀ l₀ → length l ≡ length l₀
+    → Planted (take t ts) m count l → Planting ts m t count l
+plant_again {ts} {m} p e q =
     record { fit = p.fit; roomy = roomy-same p.roomy e; planted = q }
 
 pub plant_all : (ts : List Word) (t : ℕ) {m count : ℕ} {l : List ℕ} → length ts ≤ t → Planted (take t ts) m count l → Planted ts m (states ts) l
@@ -223,6 +223,13 @@ plant_none m l z =
               (c ∷ []),
         ))
 
-pub plant_first : {places : ℕ} {ts : List Word} {m len : ℕ} {l : List ℕ} → Fit places ts → Roomy ts m len → length l ≡ len → ((j : ℕ) → get_or l j 0 ≡ 0)
-    → Planting places ts m 0 1 l
-plant_first {places} {ts} {m} {len} {l} f r e z = record { fit = f; roomy = roomy-same r e; planted = plant_none m l z }
+pub all-zero : {l : List ℕ} (n : ℕ) → l ≡ replicate n 0 → (j : ℕ) → get_or l j 0 ≡ 0
+all-zero {l} n e j = go (dec_lt j n)
+  where
+    go : Dec (j < n) → get_or l j 0 ≡ 0
+    go (yes h) = rw e (get_or-replicate n j 0 0 h)
+    go (no h) = rw e (get_or-eq_default (replicate n 0) 0 {n = j} (omega (arith, length-replicate {A = ℕ} n 0)))
+
+pub plant_first : {ts : List Word} {m len : ℕ} {l : List ℕ} → Fit ts → Roomy ts m len → length l ≡ len → ((j : ℕ) → get_or l j 0 ≡ 0)
+    → Planting ts m 0 1 l
+plant_first {ts} {m} {len} {l} f r e z = record { fit = f; roomy = roomy-same r e; planted = plant_none m l z }

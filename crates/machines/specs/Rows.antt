@@ -2,6 +2,7 @@
 use Rattle.std.specs.Prelude.{◌*◌, ◌+◌, ◌<◌, ◌≤◌, ℕ, cond, true, ◌⊎◌, ◌≡◌, eqb, get_or, length, set, take}
 use mathlib.Core.List.{List, [], tail}
 use Rattle.machines.specs.Fronts.{known}
+use Rattle.machines.specs.declared.filling.Walk.{Walk}
 use Rattle.matching.specs.Laws.Links.{child}
 use Rattle.matching.specs.Machine.{longest, next, prefixes, states, vector}
 use Rattle.matching.specs.Words.{AllBelow, AllShort, Word, among, index_of}
@@ -11,9 +12,8 @@ use Rattle.matching.specs.Limits.{longest_tag, most_tags}
 abbrev pub cell : ℕ → ℕ → ℕ → ℕ
 cell m q c = q * (m + 1) + c
 
--- what the code asks of the tags of a machine: as many as there are places of tags, at most 16, of at most 32 letters
-pub record Fit (places : ℕ) (ts : List Word) : Type 0 where
-  pub many : length ts ≡ places
+-- what the code asks of the tags of a machine: at most 16, of at most 32 letters
+pub record Fit (ts : List Word) : Type 0 where
   pub few : length ts ≤ most_tags
   pub short : AllShort longest_tag ts
 
@@ -44,8 +44,8 @@ pub record Planted (ts : List Word) (m count : ℕ) (l : List ℕ) : Type 0 wher
   pub sown : Sown (prefixes ts) m l
 
 -- the first t tags are planted
-pub record Planting (places : ℕ) (ts : List Word) (m t count : ℕ) (l : List ℕ) : Type 0 where
-  pub fit : Fit places ts
+pub record Planting (ts : List Word) (m t count : ℕ) (l : List ℕ) : Type 0 where
+  pub fit : Fit ts
   pub roomy : Roomy ts m (length l)
   pub planted : Planted (take t ts) m count l
 
@@ -73,27 +73,37 @@ pub record Filled (ts : List Word) (m : ℕ) (l : List ℕ) : Type 0 where
   pub done : (q : ℕ) → q < states ts → Done ts m q l
   pub blank : (j : ℕ) → states ts * (m + 1) ≤ j → get_or l j 0 ≡ 0
 
--- a is the state of the first d letters of w, and f the state it fails to
-pub record Place (ps : List Word) (w : Word) (d a f : ℕ) : Type 0 where
-  pub state : a ≡ index_of (take d w) ps
-  pub failed : f ≡ index_of (longest ps (tail (take d w))) ps
+-- a tag at the start state, and each of the tags there, with what it shares with those before it
+abbrev pub no_walk : Walk
+no_walk = record { front = 0; at = 0; fail = 0 }
+
+abbrev pub front_of : List Word → ℕ → ℕ
+front_of ts u = known (take u ts) (get_or ts u [])
+
+pub record Started (ts : List Word) (walks : List Walk) : Type 0 where
+  pub each : (u : ℕ) → u < length ts → get_or walks u no_walk ≡ record { front = front_of ts u; at = 0; fail = 0 }
+  pub room : length walks ≡ most_tags
+
+-- a walk is at the state of the first d letters of w, and knows the state that this one fails to
+pub record Place (ps : List Word) (w : Word) (d : ℕ) (walk : Walk) : Type 0 where
+  pub state : walk.at ≡ index_of (take d w) ps
+  pub failed : walk.fail ≡ index_of (longest ps (tail (take d w))) ps
 
 -- the slots of the words of at most d letters are made, and those of d + 1 letters that a tag before t begins with; in the others a
--- next is still a child; at and fail hold the place of each tag
-pub record Level (ts : List Word) (m d t : ℕ) (at fail l : List ℕ) : Type 0 where
+-- next is still a child; each tag's walk knows what it shares with those before it, and where it is
+pub record Level (ts : List Word) (m d t : ℕ) (walks : List Walk) (l : List ℕ) : Type 0 where
   pub cells : (q c : ℕ) → q < states ts → c < m
       → (get_or l (cell m q c) 0 ≡ next (prefixes ts) q c) ⊎ (get_or l (cell m q c) 0 ≡ child (prefixes ts) q c)
   pub rows : (v : Word) → among v (prefixes ts) ≡ true → length v ≤ d → Done ts m (index_of v (prefixes ts)) l
   pub fresh : (u : ℕ) → u < t → d < length (get_or ts u []) → Done ts m (index_of (take (d + 1) (get_or ts u [])) (prefixes ts)) l
-  pub gone : (u : ℕ) → u < t → d < length (get_or ts u []) → Place (prefixes ts) (get_or ts u []) (d + 1) (get_or at u 0) (get_or fail u 0)
-  pub here : (u : ℕ) → t ≤ u → u < length ts → d ≤ length (get_or ts u []) → Place (prefixes ts) (get_or ts u []) d (get_or at u 0) (get_or fail u 0)
+  pub knows : (u : ℕ) → u < length ts → (get_or walks u no_walk).front ≡ front_of ts u
+  pub gone : (u : ℕ) → u < t → d < length (get_or ts u []) → Place (prefixes ts) (get_or ts u []) (d + 1) (get_or walks u no_walk)
+  pub here : (u : ℕ) → t ≤ u → u < length ts → d ≤ length (get_or ts u []) → Place (prefixes ts) (get_or ts u []) d (get_or walks u no_walk)
   pub blank : (j : ℕ) → states ts * (m + 1) ≤ j → get_or l j 0 ≡ 0
-  pub room_a : length at ≡ most_tags
-  pub room_f : length fail ≡ most_tags
+  pub room : length walks ≡ most_tags
 
--- a level on its way, with what each tag shares with those before it
-pub record Filling (places : ℕ) (ts : List Word) (m d t : ℕ) (fronts at fail l : List ℕ) : Type 0 where
-  pub fit : Fit places ts
+-- a level on its way
+pub record Filling (ts : List Word) (m d t : ℕ) (walks : List Walk) (l : List ℕ) : Type 0 where
+  pub fit : Fit ts
   pub roomy : Roomy ts m (length l)
-  pub knows : (u : ℕ) → u < length ts → get_or fronts u 0 ≡ known (take u ts) (get_or ts u [])
-  pub level : Level ts m d t at fail l
+  pub level : Level ts m d t walks l

@@ -1,15 +1,42 @@
 // The slots of a machine from its tree, in place and level by level: where a state has no child, its next is that of the state it fails
 // to, whose word is shorter. By number it would not do: a state may fail to one that is numbered after it.
-ghost use Rattle.std.specs.Prelude.{◌≡◌, cond, List, ◌+◌, ◌<◌, ◌≤◌, eqb, length, get_or};
-ghost use Rattle.matching.specs.Words.{Word};
+ghost use Rattle.std.specs.Prelude.{◌≡◌, cond, ◌+◌, ◌<◌, ◌≤◌, eqb, length, get_or};
 ghost use Rattle.matching.specs.Machine.{states};
-ghost use Rattle.tagset.specs.Answer.{cut_at};
-ghost use Rattle.machines.specs.Rows.{cell, pick_of, Made, Filling, Level, Planted, Fit, Roomy, Filled};
+ghost use Rattle.tagset.specs.Cutting.{words_of};
+ghost use Rattle.machines.specs.Rows.{cell, pick_of, Made, Started, Filling, Level, Planted, Fit, Roomy, Filled};
 
-use super::counting::known_fronts;
-use super::planting::{clear, plant};
-use super::words::{vector_of, wide, wider};
-use tagset::tag_bytes;
+use super::counting::known_front;
+use super::words::vector_of;
+use tagset::Words;
+
+// A tag on its way down the tree: how many letters it shares with a tag before it, the state of the letters that it has gone, and the
+// state that this one fails to.
+#[derive(Clone, Copy)]
+struct Walk {
+    front: usize,
+    at: usize,
+    fail: usize,
+}
+
+// The tags before their first letters.
+fn start(words: &Words) -> [Walk; 16]
+    requires { length (words_of words.now) ≤ 16 }
+    ensures { Started (words_of words.now) result }
+{
+    let mut walks = [Walk {
+        front: 0,
+        at: 0,
+        fail: 0,
+    }; 16];
+    for t in 0..words.count() {
+        walks[t] = Walk {
+            front: known_front(words, t),
+            at: 0,
+            fail: 0,
+        };
+    }
+    walks
+}
 
 fn pick(a: u16, b: u16) -> u16
     ensures { result ≡ pick_of a b }
@@ -25,15 +52,10 @@ fn make_slot(q: usize, x: usize, m: usize, vector: u16, part: &mut [u16])
     let width = m + 1;
     let a = q * width;
     let b = x * width;
-    let mut c = 0;
-    while c < m {
-        let i = a + c;
-        let j = b + c;
-        part[i] = pick(part[i], part[j]);
-        c += 1;
+    for c in 0..m {
+        part[a + c] = pick(part[a + c], part[b + c]);
     }
-    let i = a + m;
-    part[i] = vector;
+    part[a + m] = vector;
 }
 
 fn next_of(part: &[u16], q: usize, c: usize, m: usize) -> usize
@@ -41,8 +63,7 @@ fn next_of(part: &[u16], q: usize, c: usize, m: usize) -> usize
     ensures { result ≡ get_or part.now (cell m q c) 0 }
 {
     let width = m + 1;
-    let i = q * width + c;
-    wider(part[i])
+    usize::from(part[q * width + c])
 }
 
 // The state to which a state of d + 1 letters fails, c the last of them and f where the state of the others fails to.
@@ -56,73 +77,49 @@ fn failing(part: &[u16], f: usize, d: usize, c: usize, m: usize) -> usize
     next_of(part, f, c, m)
 }
 
-// The slot of the first d + 1 letters of tag t, unless a tag before it has these too; `at` and `fail` go on to that state.
-fn deepen(
-    letters: &[u8],
-    from: &[usize],
-    to: &[usize],
-    t: usize,
-    d: usize,
-    m: usize,
-    fronts: &[usize; 16],
-    at: &mut [usize; 16],
-    fail: &mut [usize; 16],
-    part: &mut [u16],
-)
-    requires { let ts = cut_at letters.now from.now to.now in (t < length ts) × Filling (length from.now) ts m d t fronts.now at.old fail.old part.old }
-    ensures { let ts = cut_at letters.now from.now to.now in Level ts m d (t + 1) at.new fail.new part.new }
+// The slot of the first d + 1 letters of tag t, unless a tag before it has these too; its walk goes on to that state.
+fn deepen(words: &Words, t: usize, d: usize, m: usize, walks: &mut [Walk; 16], part: &mut [u16])
+    requires { let ts = words_of words.now in (t < length ts) × Filling ts m d t walks.old part.old }
+    ensures { Level (words_of words.now) m d (t + 1) walks.new part.new }
 {
-    let tag = tag_bytes(letters, from, to, t);
+    let tag = words.tag(t);
     if tag.len() <= d {
         return;
     }
-    let c = wide(tag[d]);
-    let q = next_of(part, at[t], c, m);
-    let x = failing(part, fail[t], d, c, m);
-    at[t] = q;
-    fail[t] = x;
-    if d < fronts[t] {
+    let walk = walks[t];
+    let c = usize::from(tag[d]);
+    let q = next_of(part, walk.at, c, m);
+    let x = failing(part, walk.fail, d, c, m);
+    walks[t] = Walk {
+        front: walk.front,
+        at: q,
+        fail: x,
+    };
+    if d < walk.front {
         return;
     }
-    let end = d + 1;
-    let vector = vector_of(&tag[..end], letters, from, to);
+    let vector = vector_of(&tag[..d + 1], words);
     make_slot(q, x, m, vector, part);
 }
 
 // The slots of the words of d + 1 letters.
-fn level(
-    letters: &[u8],
-    from: &[usize],
-    to: &[usize],
-    d: usize,
-    m: usize,
-    fronts: &[usize; 16],
-    at: &mut [usize; 16],
-    fail: &mut [usize; 16],
-    part: &mut [u16],
-)
-    requires { let ts = cut_at letters.now from.now to.now in Filling (length from.now) ts m d 0 fronts.now at.old fail.old part.old }
-    ensures { let ts = cut_at letters.now from.now to.now in Level ts m (d + 1) 0 at.new fail.new part.new }
+fn level(words: &Words, d: usize, m: usize, walks: &mut [Walk; 16], part: &mut [u16])
+    requires { Filling (words_of words.now) m d 0 walks.old part.old }
+    ensures { Level (words_of words.now) m (d + 1) 0 walks.new part.new }
 {
-    let mut t = 0;
-    while t < from.len() {
-        deepen(letters, from, to, t, d, m, fronts, at, fail, part);
-        t += 1;
+    for t in 0..words.count() {
+        deepen(words, t, d, m, walks, part);
     }
 }
 
 // All slots. The start state's nexts are its children as they stand.
-pub fn fill(letters: &[u8], from: &[usize], to: &[usize], m: usize, part: &mut [u16])
-    requires { let ts = cut_at letters.now from.now to.now in (Fit (length from.now) ts) × (Roomy ts m (length part.old)) × (Planted ts m (states ts) part.old) }
-    ensures { let ts = cut_at letters.now from.now to.now in Filled ts m part.new }
+pub fn fill(words: &Words, m: usize, part: &mut [u16])
+    requires { let ts = words_of words.now in (Fit ts) × (Roomy ts m (length part.old)) × (Planted ts m (states ts) part.old) }
+    ensures { Filled (words_of words.now) m part.new }
 {
-    let fronts = known_fronts(letters, from, to);
-    part[m] = vector_of(&letters[..0], letters, from, to);
-    let mut at = [0usize; 16];
-    let mut fail = [0usize; 16];
-    let mut d = 0;
-    while d < 32 {
-        level(letters, from, to, d, m, &fronts, &mut at, &mut fail, part);
-        d += 1;
+    let mut walks = start(words);
+    part[m] = vector_of(&words.letters[..0], words);
+    for d in 0..32 {
+        level(words, d, m, &mut walks, part);
     }
 }

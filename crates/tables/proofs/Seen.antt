@@ -114,11 +114,10 @@ module _ {part : Part} (shaped : Shaped part) where
           ap (λ (l : List ℕ). own_words l own) (spelled ∙ ap (λ (f : ℕ → ℕ). map f bytes) (fun_ext letter_slice))
           ∙ cut-map (slice part.bits m) bytes (own_begins own) (own_ends own)
 
-      pub seen-fit : Fit (length (own_begins own)) (own_words (take (length bytes) out) own)
+      pub seen-fit : Fit (own_words (take (length bytes) out) own)
       seen-fit =
-          subst (Fit (length (own_begins own))) (sym seen)
+          subst Fit (sym seen)
           (record {
-            many = reduced-length (slice part.bits m) words ∙ tagged.many ∙ lent-from tagged;
             few = rw (reduced-length (slice part.bits m) words) tagged.few;
             short = reduced-short 32 (slice part.bits m) words tagged.short;
           })

@@ -13,9 +13,10 @@ ghost use Rattle.tables.specs.Shape.{Held, Marked, Shaped, Tagged, as_part, coun
 
 use super::{Built, Part};
 use choosing::{Chosen, choose, deal_out};
-use machines::{count_states, larger, make_slots, spell};
+use machines::{count_states, make_slots, spell};
 use matching::slots;
-use tagset::{Places, read_as};
+use std::cmp::Ord;
+use tagset::{Places, Words, read_as};
 
 // The states that machine m needs.
 fn states_of(bytes: &[u8], own: Chosen, part: Part, m: usize) -> usize
@@ -28,7 +29,12 @@ fn states_of(bytes: &[u8], own: Chosen, part: Part, m: usize) -> usize
     let count = own.count;
     let from = own.from;
     let to = own.to;
-    count_states(&letters[..n], &from[..count], &to[..count])
+    let words = Words {
+        letters: &letters[..n],
+        from: &from[..count],
+        to: &to[..count],
+    };
+    count_states(&words)
 }
 
 // The slots of machine m, with vectors over the part's own tags.
@@ -43,13 +49,12 @@ fn make_machine(bytes: &[u8], own: Chosen, part: Part, m: usize, run: &mut [u16]
     let count = own.count;
     let from = own.from;
     let to = own.to;
-    make_slots(
-        &letters[..n],
-        &from[..count],
-        &to[..count],
-        part.letters,
-        run,
-    );
+    let words = Words {
+        letters: &letters[..n],
+        from: &from[..count],
+        to: &to[..count],
+    };
+    make_slots(&words, part.letters, run);
 }
 
 // The slots of machine m, with vectors over all tags, whose kinds these are.
@@ -115,7 +120,7 @@ fn most_states(bytes: &[u8], own: Chosen, part: Part) -> usize
     let mut m = part.machines;
     while 0 < m {
         m -= 1;
-        most = larger(states_of(bytes, own, part, m), most);
+        most = states_of(bytes, own, part, m).max(most);
     }
     most
 }

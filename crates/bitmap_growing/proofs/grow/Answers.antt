@@ -4,5 +4,4 @@ use Rattle.bitmap_growing.specs.Laws.Settling.{all_grown}
 use Rattle.bitmap_growing.proofs.grow.Goals as goal
 
 pub returns : goal.returns
-returns c =
-    all_grown c.loop-q.invariant.2 (omega (arith, c.loop-q-test.false, c.requires.1))
+returns c = all_grown c.loop-q.invariant (omega arith)

@@ -16,16 +16,16 @@ pub slice_bounds-from-end : goal.slice_bounds-from-end
 slice_bounds-from-end c =
     (taken-good ExactAlone whole_kinds c.args.set.now _ c.in-Ok.ensures).lent.fits_from
 
-pub slice_bounds-build_tags-end : goal.slice_bounds-build_tags-end
-slice_bounds-build_tags-end c =
+pub slice_bounds-words-end : goal.slice_bounds-words-end
+slice_bounds-words-end c =
     lent-from (taken-good ExactAlone whole_kinds c.args.set.now _ c.in-Ok.ensures).lent
 
 pub slice_bounds-to-end : goal.slice_bounds-to-end
 slice_bounds-to-end c =
     (taken-good ExactAlone whole_kinds c.args.set.now _ c.in-Ok.ensures).lent.fits_to
 
-pub slice_bounds-build_tags-end-2 : goal.slice_bounds-build_tags-end-2
-slice_bounds-build_tags-end-2 c =
+pub slice_bounds-words-end-2 : goal.slice_bounds-words-end-2
+slice_bounds-words-end-2 c =
     lent-to (taken-good ExactAlone whole_kinds c.args.set.now _ c.in-Ok.ensures).lent
 
 pub build_tags-requires : goal.build_tags-requires

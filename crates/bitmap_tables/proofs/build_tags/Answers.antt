@@ -1,4 +1,5 @@
 -- Short of slots nothing is written; else the slots are made, and what stands behind them is left.
+use mathlib.Core.Path.{sym}
 use Rattle.bitmap_tables.proofs.Answers.{done-answer, done-table, short-answer, short-table, slots_lent, states_are}
 use Rattle.bitmap_tables.proofs.build_tags.Goals as goal
 
@@ -15,7 +16,6 @@ make_bitmap-requires c =
     let t = c.args.table.now in
     let s = c.map_slots-s in
     let n = c.count_states-n in (
-      p.0.many,
       p.1,
       states_are p.1 t s.result s.ensures n.result n.ensures,
       c.if-s-n.false,
@@ -27,4 +27,7 @@ returns c =
     let p = c.requires in
     let t = c.args.table.now in
     let s = c.map_slots-s in
-    let n = c.count_states-n in record { answer = done-answer p.1 t s.result s.ensures n.result n.ensures c.if-s-n.false _ p.0.many; left = done-table p.1 t s.result s.ensures n.result n.ensures c.if-s-n.false _ c.make_bitmap.ensures }
+    let n = c.count_states-n in record {
+      answer = done-answer p.1 t s.result s.ensures n.result n.ensures c.if-s-n.false _ (sym c.count.ensures);
+      left = done-table p.1 t s.result s.ensures n.result n.ensures c.if-s-n.false _ c.make_bitmap.ensures;
+    }

@@ -1,9 +1,7 @@
--- `tables::filling::make_slots` meets its contract.
-use Rattle.machines.proofs.Tree.{plant_first}
+-- `machines::make_slots` meets its contract.
+use Rattle.machines.proofs.Tree.{all-zero, plant_first}
 use Rattle.machines.proofs.make_slots.Goals as goal
 
 pub plant-requires : goal.plant-requires
 plant-requires c =
-    let clear = c.clear in
-    let asked = c.requires in
-    plant_first asked.0 asked.1 clear.auto.part clear.ensures
+    plant_first c.requires.0 c.requires.1 c.fill.ensures.len (all-zero _ (c.fill.ensures.after (λ y h. h)))

@@ -5,34 +5,29 @@ use Rattle.bitmap_growing.specs.Laws.Settling.{turn_closable, turn_done, turn_fo
 use Rattle.bitmap_growing.proofs.settling.settle.Goals as goal
 
 pub lay_map-requires : goal.lay_map-requires
-lay_map-requires c =
-    let p = c.requires in turn_unlaid p.2 p.1 _ p.0
+lay_map-requires c = turn_unlaid c.requires.1 c.requires.0
 
 pub close-n-requires : goal.close-n-requires
 close-n-requires c =
     let p = c.requires in
-    let o = turn_found p.2 p.1 _ _ _ (c.wide-d.ensures ∙ c.number.ensures) (c.wide-f.ensures ∙ c.number-2.ensures) c.number-mask.ensures in
-    turn_closable p.2 p.1 o (c.lay_map.ensures _ o.waits) (c.own_tags-own.ensures _ o.waits)
+    let o = turn_found p.1 p.0 _ _ _ (c.from.ensures ∙ c.number.ensures) (c.from-2.ensures ∙ c.number-2.ensures) c.number-3.ensures in
+    turn_closable p.1 p.0 o (c.lay_map.ensures _ o.waits) (c.own_tags-own.ensures _ o.waits)
 
 pub sow-requires : goal.sow-requires
 sow-requires c =
     let p = c.requires in
-    let o =
-    turn_found p.2 p.1 _ _ _ (c.wide-d.ensures ∙ c.number.ensures) (c.wide-f.ensures ∙ c.number-2.ensures) c.number-mask.ensures in
-    (p.0, o, turn_sowing p.2 p.1 o (c.lay_map.ensures _ o.waits) (c.own_tags-own.ensures _ o.waits) _ c.close-n.ensures.2)
+    let o = turn_found p.1 p.0 _ _ _ (c.from.ensures ∙ c.number.ensures) (c.from-2.ensures ∙ c.number-2.ensures) c.number-3.ensures in
+    (o, turn_sowing p.1 p.0 o (c.lay_map.ensures _ o.waits) (c.own_tags-own.ensures _ o.waits) _ c.close-n.ensures.2)
 
 pub overflow_add-result : goal.overflow_add-result
 overflow_add-result c =
     let p = c.requires in
-    let o =
-    turn_found p.2 p.1 _ _ _ (c.wide-d.ensures ∙ c.number.ensures) (c.wide-f.ensures ∙ c.number-2.ensures) c.number-mask.ensures in
-    let h = turn_closable p.2 p.1 o (c.lay_map.ensures _ o.waits) (c.own_tags-own.ensures _ o.waits) in
+    let o = turn_found p.1 p.0 _ _ _ (c.from.ensures ∙ c.number.ensures) (c.from-2.ensures ∙ c.number-2.ensures) c.number-3.ensures in
+    let h = turn_closable p.1 p.0 o (c.lay_map.ensures _ o.waits) (c.own_tags-own.ensures _ o.waits) in
     omega (arith, h.few, c.close-n.ensures.1)
 
 pub returns : goal.returns
 returns c =
     let p = c.requires in
-    let o =
-    turn_found p.2 p.1 _ _ _ (c.wide-d.ensures ∙ c.number.ensures) (c.wide-f.ensures ∙ c.number-2.ensures) c.number-mask.ensures in
-    turn_done p.2 p.1 o (c.lay_map.ensures _ o.waits) (c.own_tags-own.ensures _ o.waits) c.close-n.result c.close-n.ensures.0
-    _ c.sow.ensures
+    let o = turn_found p.1 p.0 _ _ _ (c.from.ensures ∙ c.number.ensures) (c.from-2.ensures ∙ c.number-2.ensures) c.number-3.ensures in
+    turn_done p.1 p.0 o (c.lay_map.ensures _ o.waits) (c.own_tags-own.ensures _ o.waits) c.close-n.result c.close-n.ensures.0 _ c.sow.ensures

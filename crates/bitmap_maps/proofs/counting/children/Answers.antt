@@ -9,13 +9,9 @@ unfolding number_at
 loop-j-preserved c =
     let a = c.args in
     let l = c.loop-j in
-    let j = c.loop-j-test.true in
     let found = c.ones_of-sum in
-    summed_more a.table.now a.q l.sum l.j l.invariant j (number_at a.table.now a.q l.j) found.result refl
-    found.ensures.0 found.ensures.1
+    summed_more a.table.now a.q l.sum l.j l.invariant c.loop-j-test.true (number_at a.table.now a.q l.j) found.result refl found.ensures.0
+    found.ensures.1
 
 pub returns : goal.returns
-returns c =
-    let a = c.args in
-    let l = c.loop-j in
-    summed_all a.table.now a.q l.sum l.j l.invariant c.loop-j-test.false
+returns c = summed_all c.args.table.now c.args.q c.loop-j.sum c.loop-j.j c.loop-j.invariant c.loop-j-test.false

@@ -1,10 +1,6 @@
 -- The ones of the words before j are in the sum.
-use Prim.Native.Nat.{◌-◌}
 use Rattle.bitmap_maps.specs.Laws.Counting.{Summed}
 use Rattle.bitmap_maps.proofs.counting.children.Given as goal
 
 abbrev pub invariant-loop-j : goal.invariant-loop-j
 invariant-loop-j l = Summed l.table l.q l.sum l.j
-
-abbrev pub decreases-loop-j : goal.decreases-loop-j
-decreases-loop-j l = 16 - l.j

@@ -1,35 +1,18 @@
--- `tables::counting::known_front` meets its contract. The most that is shared with a tag before `i`, and with those from `i` on.
-use Prim.Native.Nat.{◌+◌, max, ℕ}
-use mathlib.Core.List.{[]}
-use mathlib.Core.Path.{◌∙◌, ap, sym}
-use native.Mathlib.Omega.{arith}
-use lib.ListN.{drop, get_or, take}
+-- `machines::counting::known_front` meets its contract. The most that is shared with a tag before `i`, and with those from `i` on.
+use mathlib.Core.Path.{◌∙◌, sym}
+use Rattle.std.proofs.Common.{rules}
 use Rattle.machines.proofs.Sharing.{known-end, known_more}
-use Rattle.machines.specs.Fronts.{known}
-use Rattle.tagset.specs.Answer.{cut_at}
+use Rattle.tagset.specs.Cutting.{words_of}
 use Rattle.machines.proofs.counting.known_front.Goals as goal
 
 pub loop-i-preserved : goal.loop-i-preserved
 loop-i-preserved c =
-    let shared-front = c.shared_front in
-    let tag-bytes2 = c.tag_bytes-earlier in
-    let loop-test = c.loop-i-test in
     let loop = c.loop-i in
-    let tag-bytes = c.tag_bytes-tag in
-    let args = c.args in
-    let asked = c.requires in
-    let ts = cut_at args.letters.now args.from.now args.to.now in (
-      omega arith,
-      loop.invariant.1
-          ∙ known_more ts args.t asked loop.i loop.most shared-front.result tag-bytes.result.now tag-bytes2.result.now
-          loop-test.true tag-bytes.ensures tag-bytes2.ensures shared-front.ensures
-          ∙ ap (λ (n : ℕ). max n (known (drop (loop.i + 1) (take args.t ts)) (get_or ts args.t []))) (sym c.larger-most.ensures),
-    )
+    loop.invariant
+    ∙ known_more (words_of c.args.words.now) c.args.t c.requires loop.i loop.most c.max-most.result c.shared_front.result c.tag-tag.result.now
+    c.tag.result.now c.loop-i-test.true c.tag-tag.ensures c.tag.ensures c.shared_front.ensures (search rules)
 
 pub returns : goal.returns
 returns c =
     let loop = c.loop-i in
-    let args = c.args in
-    let asked = c.requires in
-    let ts = cut_at args.letters.now args.from.now args.to.now in
-    sym (loop.invariant.1 ∙ known-end ts args.t asked loop.i loop.most c.loop-i-test.false)
+    sym (loop.invariant ∙ known-end (words_of c.args.words.now) c.args.t c.requires loop.i loop.most c.loop-i-test.false)

@@ -1,55 +1,27 @@
--- `tables::filling::deepen` meets its contract. The tag has no letter here; or its slot is made before; or it is made now.
+-- `machines::filling::deepen` meets its contract. The tag has no letter here; or its slot is made before; or it is made now.
 use Rattle.machines.proofs.Deepening.{deepen_known, deepen_made, fail_asks, next_asks, slot_asks}
 use Rattle.machines.proofs.filling.deepen.Goals as goal
 
 pub next_of-q-requires : goal.next_of-q-requires
 next_of-q-requires c =
-    let wide = c.wide-c in
-    let if1 = c.if-tag-d in
-    let tag-bytes = c.tag_bytes-tag in
-    let asked = c.requires in
-    next_asks asked.1 asked.0 tag-bytes.result.now tag-bytes.ensures if1.false wide.result wide.ensures
+    next_asks c.requires.1 c.requires.0 c.tag-tag.result.now c.tag-tag.ensures c.if-tag-d.false c.from-c.result c.from-c.ensures
 
 pub failing-x-requires : goal.failing-x-requires
 failing-x-requires c =
-    let wide = c.wide-c in
-    let if1 = c.if-tag-d in
-    let tag-bytes = c.tag_bytes-tag in
-    let asked = c.requires in
-    fail_asks asked.1 asked.0 tag-bytes.result.now tag-bytes.ensures if1.false wide.result wide.ensures
+    fail_asks c.requires.1 c.requires.0 c.tag-tag.result.now c.tag-tag.ensures c.if-tag-d.false c.from-c.result c.from-c.ensures
 
-pub returns-then-d-fronts : goal.returns-then-d-fronts
-returns-then-d-fronts c =
-    let failing = c.failing-x in
-    let next_of = c.next_of-q in
-    let wide = c.wide-c in
-    let if1 = c.if-tag-d in
-    let tag-bytes = c.tag_bytes-tag in
-    let asked = c.requires in
-    deepen_known asked.1 asked.0 tag-bytes.result.now tag-bytes.ensures if1.false wide.result wide.ensures
-    next_of.result failing.result next_of.ensures failing.ensures c.if-d-fronts.true
+pub returns-then-d-walk : goal.returns-then-d-walk
+returns-then-d-walk c =
+    deepen_known c.requires.1 c.requires.0 c.tag-tag.result.now c.tag-tag.ensures c.if-tag-d.false c.from-c.result c.from-c.ensures
+    c.next_of-q.result c.failing-x.result c.next_of-q.ensures c.failing-x.ensures c.if-d-walk.true
 
 pub make_slot-requires : goal.make_slot-requires
 make_slot-requires c =
-    let failing = c.failing-x in
-    let next_of = c.next_of-q in
-    let wide = c.wide-c in
-    let if1 = c.if-tag-d in
-    let tag-bytes = c.tag_bytes-tag in
-    let asked = c.requires in
-    slot_asks asked.1 asked.0 tag-bytes.result.now tag-bytes.ensures if1.false wide.result wide.ensures
-    next_of.result failing.result next_of.ensures failing.ensures
+    slot_asks c.requires.1 c.requires.0 c.tag-tag.result.now c.tag-tag.ensures c.if-tag-d.false c.from-c.result c.from-c.ensures
+    c.next_of-q.result c.failing-x.result c.next_of-q.ensures c.failing-x.ensures
 
 pub returns : goal.returns
 returns c =
-    let make-slot = c.make_slot in
-    let vector-of = c.vector_of-vector in
-    let failing = c.failing-x in
-    let next_of = c.next_of-q in
-    let wide = c.wide-c in
-    let if1 = c.if-tag-d in
-    let tag-bytes = c.tag_bytes-tag in
-    let asked = c.requires in
-    deepen_made asked.1 asked.0 tag-bytes.result.now tag-bytes.ensures if1.false wide.result wide.ensures
-    next_of.result failing.result next_of.ensures failing.ensures vector-of.result _ vector-of.ensures
-    make-slot.ensures
+    deepen_made c.requires.1 c.requires.0 c.tag-tag.result.now c.tag-tag.ensures c.if-tag-d.false c.from-c.result c.from-c.ensures
+    c.next_of-q.result c.failing-x.result c.next_of-q.ensures c.failing-x.ensures c.vector_of-vector.result _ c.vector_of-vector.ensures
+    c.make_slot.ensures

@@ -1,13 +1,7 @@
--- `tables::filling::level` meets its contract. The tags before `t` have gone on.
-use Prim.Native.Nat.{◌-◌, ◌≤◌}
-use mathlib.Core.Path.{◌≡◌}
-use lib.ListN.{length}
+-- `machines::filling::level` meets its contract. The tags before `t` have gone on.
 use Rattle.machines.specs.Rows.{Level}
-use Rattle.tagset.specs.Answer.{cut_at}
+use Rattle.tagset.specs.Cutting.{words_of}
 use Rattle.machines.proofs.filling.level.Given as goal
 
 abbrev pub invariant-loop-t : goal.invariant-loop-t
-invariant-loop-t l = (l.t ≤ length l.from) × (length l.part ≡ length l.initial.part) × Level (cut_at l.letters l.from l.to) l.m l.d l.t l.at l.fail l.part
-
-abbrev pub decreases-loop-t : goal.decreases-loop-t
-decreases-loop-t l = length l.from - l.t
+invariant-loop-t l = Level (words_of l.words) l.m l.d l.t l.walks l.part

@@ -1,18 +1,14 @@
--- `machines::words::tag_ends` meets its contract: the last `i` letters of the word are those of the tag.
-use mathlib.Core.Path.{sym}
-use Rattle.machines.proofs.Ends.{last_all, last_differ}
-use Rattle.matching.specs.Laws.Words.{ends-short}
+-- `machines::words::tag_ends` meets its contract.
+use Rattle.std.proofs.lemmas.Bool.Decides.{Decides-eqb}
+use Rattle.std.proofs.lemmas.Slice.Eq.{ends_is}
+use Rattle.matching.specs.Laws.Bools.{both_ways}
+use Rattle.matching.specs.Laws.Words.{ends_append, ends-split}
+use Rattle.matching.specs.Words.{ends}
 use Rattle.machines.proofs.words.tag_ends.Goals as goal
-
-pub returns-then-word-tag : goal.returns-then-word-tag
-returns-then-word-tag c = sym (ends-short c.args.tag.now c.args.word.now c.if-word-tag.true)
-
-pub returns-then-word-i : goal.returns-then-word-i
-returns-then-word-i c =
-    let args = c.args in
-    last_differ args.word.now args.tag.now c.loop-i.i c.if-word-tag.false c.loop-i-test.true c.if-word-i.true
 
 pub returns : goal.returns
 returns c =
-    let args = c.args in
-    last_all args.word.now args.tag.now c.loop-i.i c.if-word-tag.false c.loop-i-test.false c.loop-i.invariant.0 c.loop-i.invariant.1
+    let word = c.args.word.now in
+    let tag = c.args.tag.now in
+    let e = ends_is Decides-eqb word tag c.ends_with.result c.ends_with.ensures.value in
+    both_ways c.ends_with.result (ends tag word) (λ h. rw (e.0 h) (ends_append _ tag)) (λ h. let s = ends-split tag word h in e.1 s.0 s.1)
