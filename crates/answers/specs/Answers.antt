@@ -12,7 +12,7 @@ use Rattle.desk.specs.declared.TakeAnswer.{TakeAnswer}
 use Rattle.numbers.specs.Answers.{answer_of, ending_number, ending_values, moved_values}
 use Rattle.numbers.specs.declared.Answer.{Answer}
 use Rattle.numbers.specs.declared.Said.{Said}
-use Rattle.reading.specs.declared.Ending.{Ending}
+use Rattle.reading.specs.Outside.{Ending}
 use Rattle.tables.specs.Building.{built_number, built_values}
 use Rattle.tables.specs.declared.Built.{Built}
 use Rattle.output.specs.Decimal.{decimal_of}

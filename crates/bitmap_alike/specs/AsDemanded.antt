@@ -12,7 +12,7 @@ use Rattle.bitmap_alike.specs.Laws.Alone.{lawful, own-prefix, reads_so, row_from
 use Rattle.bitmap_alike.specs.Readings.{MapAsBuilt, MapReads, MapRowDone, map_in_turn}
 use Rattle.matching.specs.Stepping.{OutcomeOf}
 use Rattle.reading.specs.Outside.{read_to}
-use Rattle.bitmap_reading.specs.Reading.{Standing}
+use Rattle.bitmap_reading.specs.declared.Standing.{Standing}
 use Rattle.bitmap.specs.Laws.Built.{level-first, level_tree}
 
 module _ (set run : List ℕ) (ts : List Word) (b : MapAsBuilt set run ts) where

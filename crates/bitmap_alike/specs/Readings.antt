@@ -16,7 +16,7 @@ use Rattle.history.specs.Readings.{Row, Turn}
 use Rattle.bitmap.specs.Levels.{by_level}
 use Rattle.bitmap.specs.Moves.{moves_in}
 use Rattle.bitmap_reading.specs.Outside.{read_map_of}
-use Rattle.bitmap_reading.specs.Reading.{Standing}
+use Rattle.bitmap_reading.specs.declared.Standing.{Standing}
 use Rattle.bitmap_tables.specs.Building.{map_built_of, map_kinds}
 use Rattle.matching.specs.Tags.{exact}
 

@@ -1,21 +1,20 @@
 -- WHAT A READ OVER ANY RUN OF NUMBERS PROMISES: when it is refused, exactly; that a refused one changes nothing; and what every one keeps.
-use Rattle.std.specs.Prelude.{◌*◌, ◌+◌, ◌/◌, ◌<◌, ◌≤◌, ℕ, Bool, List, [], ◌↔◌, ◌≡◌, refl, ltb, get_or}
+use Rattle.std.specs.Prelude.{Err, ◌*◌, ◌+◌, ◌/◌, ◌<◌, ◌≤◌, ℕ, Bool, List, [], ◌↔◌, ◌≡◌, refl, ltb, get_or}
 use Rattle.std.proofs.Common.{◌∙◌, ap, subst, arith}
 use Rattle.std.proofs.Math.ListN.{length}
 use borrow.Author.Tests.{le-ltb, lt-ltb, ltb-false, ltb-true}
 use Rattle.matching.specs.Refusal.{first_of}
 use Rattle.matching.specs.Stepping.{OutcomeOf, goes_to, is_damaged}
 use Rattle.matching.specs.Words.{Word}
-use Rattle.reading.specs.Laws.Outside.{KeptBy, by_grounds, by_keeps, by-long_iff, by_number, by-place_iff, number_by}
-use Rattle.reading.specs.Outside.{ReadAt, list_by, read_to, refused_read}
+use Rattle.reading.specs.Laws.Outside.{KeptBy, answer-number, answer-refused, by_grounds, by_keeps, by-long_iff, by_number, by-place_iff}
+use Rattle.reading.specs.Outside.{Ending, ReadAt, list_by, read_to, refused_read}
 use Rattle.reading.specs.Refusals.{RefusedWith, ending_number, read_grounds}
-use Rattle.reading.specs.declared.Ending.{Ending}
-use Rattle.reading.specs.declared.Ending.TheVariants.{Refused}
 use Rattle.reading.specs.declared.ReadRefusal.{ReadRefusal}
 use Rattle.reading.specs.declared.ReadRefusal.TheVariants.{Long, Place}
 use Rattle.bitmap.specs.Slots.{slots_of}
 use Rattle.bitmap_reading.specs.Outside.{map_by, read_map_of}
-use Rattle.bitmap_reading.specs.Reading.{Standing, landed, map_step, read_map}
+use Rattle.bitmap_reading.specs.Reading.{landed, map_step, read_map}
+use Rattle.bitmap_reading.specs.declared.Standing.{Standing}
 use Rattle.matching.specs.Laws.Stepping.{Rising, Why, read_by-ordered, went}
 use Rattle.matching.specs.Laws.AnyTable.{ones_of_rising}
 use Rattle.matching.specs.Occurrence.{Ordered}
@@ -26,19 +25,12 @@ use Rattle.bitmap.specs.declared.Step.TheVariants.{To, Wrong}
 use Rattle.bitmap.specs.Ways.{Way}
 use Rattle.bitmap.specs.Laws.Ways.{way_iff}
 
--- the answer names the refusal
-map-refused_iff : (place : ℕ) (r : ReadAt Standing) (why : ReadRefusal) → ((map_by place r).ending ≡ Refused why) ↔ (r ≡ refused_read why)
-map-refused_iff place (refused_read w) why = (λ e. cc, λ e. cc)
-map-refused_iff place (read_to o) why =
-    (λ e. let z : ◌≡◌ {A = ℕ} 0 1 = cc in absurd (omega arith), λ e. let z : ◌≡◌ {A = ℕ} 0 1 = cc in absurd (omega arith))
-
-map-number : (place : ℕ) (r : ReadAt Standing) → ending_number (map_by place r).ending ≡ number_by r
-map-number place (refused_read why) = refl
-map-number place (read_to o) = refl
-
 module _ (table : List ℕ) (place count : ℕ) (piece : Word) (len : ℕ) where
   abbrev slots : ℕ
   slots = slots_of (length table)
+
+  abbrev from : Standing
+  from = record { state = place; moves = 0 }
 
   abbrev answer : ReadAt Standing
   answer = read_map_of table place count piece len
@@ -50,8 +42,8 @@ module _ (table : List ℕ) (place count : ℕ) (piece : Word) (len : ℕ) where
   pub map-place_iff : RefusedWith ending 15 [] ↔ (slots ≤ place)
   unfolding read_map_of
   map-place_iff = (
-    λ w. ltb-false place slots ((by-place_iff read sound long).0 ((map-refused_iff place answer Place).0 ((by_number Place ending).0 w))),
-    λ h. (by_number Place ending).1 ((map-refused_iff place answer Place).1 ((by-place_iff read sound long).1 (le-ltb place slots h))),
+    λ w. ltb-false place slots ((by-place_iff read sound long).0 ((answer-refused (λ p. p) from answer Place).0 ((by_number Place ending).0 w))),
+    λ h. (by_number Place ending).1 ((answer-refused (λ p. p) from answer Place).1 ((by-place_iff read sound long).1 (le-ltb place slots h))),
   )
     where
       read : OutcomeOf Standing
@@ -68,10 +60,10 @@ module _ (table : List ℕ) (place count : ℕ) (piece : Word) (len : ℕ) where
   unfolding read_map_of
   map-long_iff = (
     λ w.
-        let e = (by-long_iff read sound long).0 ((map-refused_iff place answer Long).0 ((by_number Long ending).0 w)) in
+        let e = (by-long_iff read sound long).0 ((answer-refused (λ p. p) from answer Long).0 ((by_number Long ending).0 w)) in
         (ltb-true place slots e.0, ltb-true 4294967295 (count + length piece) e.1),
     λ h. (by_number Long ending).1
-        ((map-refused_iff place answer Long).1 ((by-long_iff read sound long).1 (lt-ltb place slots h.0, lt-ltb 4294967295 (count + length piece) h.1))),
+        ((answer-refused (λ p. p) from answer Long).1 ((by-long_iff read sound long).1 (lt-ltb place slots h.0, lt-ltb 4294967295 (count + length piece) h.1))),
   )
     where
       read : OutcomeOf Standing
@@ -87,7 +79,7 @@ module _ (table : List ℕ) (place count : ℕ) (piece : Word) (len : ℕ) where
   pub map_refusals : ending_number ending ≡ first_of (read_grounds (ltb place slots) (ltb 4294967295 (count + length piece)))
   unfolding read_map_of
   map_refusals =
-      map-number place answer ∙ by_grounds (read_map slots table place count (len / 2) piece) (ltb place slots) (ltb 4294967295 (count + length piece))
+      answer-number (λ p. p) from answer ∙ by_grounds (read_map slots table place count (len / 2) piece) (ltb place slots) (ltb 4294967295 (count + length piece))
 
 -- what every read keeps: it takes no more than the piece, writes no more than the room, keeps the list's length and the room that it does not use; with
 -- 0 taken the place, the list and the moves are what they were; and it stops ALL only if the piece is taken
@@ -99,9 +91,9 @@ map_keeps table place count piece list =
     (ltb 4294967295 (count + length piece))
 
 -- REFUSED, NOTHING CHANGES: nothing is taken and nothing written, no move is told of, and place and list are what they were
-pub map-refused-same : (place : ℕ) (list : List ℕ) (r : ReadAt Standing) (why : ReadRefusal) → (map_by place r).ending ≡ Refused why
-    → (map_by place r ≡ record { taken = 0; place = place; records = 0; moves = 0; ending = Refused why }) × (list_by list r ≡ list)
-map-refused-same place list (refused_read w) why e = (ap (λ (x : Ending). record { taken = 0; place = place; records = 0; moves = 0; ending = x }) e, refl)
+pub map-refused-same : (place : ℕ) (list : List ℕ) (r : ReadAt Standing) (why : ReadRefusal) → (map_by place r).ending ≡ Err why
+    → (map_by place r ≡ record { taken = 0; place = record { state = place; moves = 0 }; records = 0; ending = Err why }) × (list_by list r ≡ list)
+map-refused-same place list (refused_read w) why e = (ap (λ (x : Ending). record { taken = 0; place = record { state = place; moves = 0 }; records = 0; ending = x }) e, refl)
 map-refused-same place list (read_to o) why e = absurd (let z : ◌≡◌ {A = ℕ} 0 1 = cc in omega arith)
 
 -- an odd last number is never used
@@ -113,14 +105,14 @@ map_odd_kept table place count piece list i h = let k = map_keeps table place co
 -- record and no move is told of
 pub map_idle : (table : List ℕ) (place count : ℕ) (piece : Word) (list : List ℕ)
     → (map_by place (read_map_of table place count piece (length list))).taken ≡ 0
-    → ((map_by place (read_map_of table place count piece (length list))).place ≡ place)
+    → ((map_by place (read_map_of table place count piece (length list))).place.state ≡ place)
     × ((map_by place (read_map_of table place count piece (length list))).records ≡ 0)
-    × ((map_by place (read_map_of table place count piece (length list))).moves ≡ 0)
+    × ((map_by place (read_map_of table place count piece (length list))).place.moves ≡ 0)
     × (list_by list (read_map_of table place count piece (length list)) ≡ list)
 map_idle table place count piece list e = go _ (map_keeps table place count piece list) e
   where
     go : (r : ReadAt Standing) → KeptBy (record { state = place; moves = 0 }) piece list r → (map_by place r).taken ≡ 0
-        → ((map_by place r).place ≡ place) × ((map_by place r).records ≡ 0) × ((map_by place r).moves ≡ 0) × (list_by list r ≡ list)
+        → ((map_by place r).place.state ≡ place) × ((map_by place r).records ≡ 0) × ((map_by place r).place.moves ≡ 0) × (list_by list r ≡ list)
     go (refused_read why) k e = (refl, refl, refl, refl)
     go (read_to o) k e = let i = k.idle e in (ap (λ (x : Standing). x.state) i.0, i.1, ap (λ (x : Standing). x.moves) i.0, i.2)
 

@@ -2,11 +2,11 @@
 use Rattle.std.specs.Prelude.{◌+◌, ◌/◌, ℕ, List, ◌≡◌, ltb, length}
 use Rattle.matching.specs.Limits.{largest}
 use Rattle.matching.specs.Words.{Word}
-use Rattle.reading.specs.Outside.{ReadAt, list_by, read_by, read_to, refused_read}
-use Rattle.reading.specs.declared.Ending.TheVariants.{Refused, Stopped}
+use Rattle.reading.specs.Outside.{ReadAt, answer_by, list_by, read_by}
+use Rattle.reading.specs.declared.Answer.{Answer}
 use Rattle.bitmap.specs.Slots.{slots_of}
-use Rattle.bitmap_reading.specs.Reading.{Standing, read_map}
-use Rattle.bitmap_reading.specs.declared.MapAnswer.{MapAnswer}
+use Rattle.bitmap_reading.specs.Reading.{read_map}
+use Rattle.bitmap_reading.specs.declared.Standing.{Standing}
 
 -- PLACE if the state is not below s, then LONG if the bytes taken and the piece pass the largest count; else it is read,
 -- into a list of so many numbers, two a record
@@ -16,17 +16,10 @@ read_map_of table place count piece len =
     (ltb place (slots_of (length table)))
     (ltb largest (count + length piece))
 
--- the answer
-abbrev pub map_by : ℕ → ReadAt Standing → MapAnswer
-map_by place (refused_read why) = record { taken = 0; place = place; records = 0; moves = 0; ending = Refused why }
-map_by place (read_to r) = record {
-  taken = r.taken;
-  place = r.place.state;
-  records = length r.found;
-  moves = r.place.moves;
-  ending = Stopped r.stop;
-}
+-- the answer: a refused read makes no move
+abbrev pub map_by : ℕ → ReadAt Standing → Answer Standing
+map_by place = answer_by (λ p. p) (record { state = place; moves = 0 })
 
 -- a call's answer, and the list after it, by what the reading comes to
-abbrev pub MapTells : MapAnswer → (place : ℕ) (before after : List ℕ) → ReadAt Standing → Type 0
+abbrev pub MapTells : Answer Standing → (place : ℕ) (before after : List ℕ) → ReadAt Standing → Type 0
 MapTells r place before after x = (r ≡ map_by place x) × (after ≡ list_by before x)

@@ -3,14 +3,10 @@ use Rattle.std.specs.Prelude.{◌+◌, ℕ, List}
 use Rattle.matching.specs.Reading.{ones_of}
 use Rattle.matching.specs.Stepping.{OutcomeOf, Step, Stepped, goes_to, is_damaged, read_by}
 use Rattle.matching.specs.Words.{Word}
+use Rattle.bitmap_reading.specs.declared.Standing.{Standing}
 use Rattle.bitmap.specs.Steps as bitmap
 use Rattle.bitmap.specs.declared.Step as one
 use Rattle.bitmap.specs.declared.Step.TheVariants.{To, Wrong}
-
--- where a reading stands: its place, which is one state, and the failure moves made since it began
-pub record Standing : Type 0 where
-  pub state : ℕ
-  pub moves : ℕ
 
 -- where a byte leads, with the tags of the state that it comes to: the ones of its vector
 abbrev pub landed : List ℕ → ℕ → one.Step → Stepped Standing

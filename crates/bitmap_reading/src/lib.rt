@@ -9,54 +9,43 @@ ghost use Rattle.bitmap_reading.specs.Outside.{MapTells, read_map_of};
 
 use crate::walks::on_bitmap;
 use bitmap::map_slots;
-use passing::places::wide;
-use reading::Ending;
-use reading::refusals::{Verdict, judge, too_long};
+use reading::Answer;
+use reading::refusals::{judge, too_long};
 
-// What a read gives: the number of bytes taken, the new place, the number of records written, the failure moves of the bytes taken,
-// and how it ended. A refused read takes nothing, writes nothing and stays where it was.
-#[derive(Drop)]
-pub struct MapAnswer {
-    pub taken: usize,
-    pub place: u16,
-    pub records: usize,
+// Where a reading stands: its state, and the failure moves of the bytes taken since it began.
+#[derive(Clone, Copy)]
+pub struct Standing {
+    pub state: u16,
     pub moves: usize,
-    pub ending: Ending,
 }
 
-// A read outside the desk.
+// A read outside the desk, from a state. A refused read makes no move.
 pub fn read_bitmap(
     table: &[u16],
     place: u16,
     count: u32,
     piece: &[u8],
     list: &mut [u32],
-) -> MapAnswer
+) -> Answer<Standing>
     ensures { MapTells result place list.old list.new
         (read_map_of table.now place count piece.now (length list.old)) }
 {
     let s = map_slots(table.len());
-    let start = wide(place);
+    let start = usize::from(place);
     let sound = start < s;
     let long = too_long(count, piece.len());
-    let verdict = judge(sound, long);
-    if let Verdict::Refuse(why) = verdict {
-        return MapAnswer {
-            taken: 0,
-            place,
-            records: 0,
+    if let Err(why) = judge(sound, long) {
+        let stays = Standing {
+            state: place,
             moves: 0,
-            ending: Ending::Refused(why),
         };
+        return Answer::refused(stays, why);
     }
     let r = on_bitmap(table, s, start, count, piece, list);
-    let at = r.state as u16;
-    let stop = r.stop;
-    MapAnswer {
+    Answer {
         taken: r.taken,
-        place: at,
+        place: r.place,
         records: r.records,
-        moves: r.moves,
-        ending: Ending::Stopped(stop),
+        ending: Ok(r.stop),
     }
 }

@@ -3,34 +3,24 @@ ghost use Rattle.std.specs.Prelude.{◌≡◌, ◌+◌, ◌*◌, ◌/◌, ◌<�
 ghost use Rattle.bitmap_reading.specs.Reading.{read_map};
 ghost use Rattle.bitmap_reading.specs.Walks.{WalkedMap};
 
+use crate::Standing;
 use crate::rows::{pass, row_for};
 use bitmap::Step;
 use bitmap::steps::{next_state, vector_of};
 use matching::Stop;
-use reading::records::{Emit, put_all};
+use reading::records::put_all;
+use reading::went::Went;
 
 // A piece of so many bytes is long enough for a row of state 0.
 const LONG: usize = 256;
 
-// What reading comes to: the bytes taken, the state then, the records written, the failure moves of the bytes taken, and why it stopped.
-#[derive(Drop)]
-pub struct WentMap {
-    pub taken: usize,
-    pub state: usize,
-    pub records: usize,
-    pub moves: usize,
-    pub stop: Stop,
-}
-
-fn stopped_at(taken: usize, state: usize, records: usize, moves: usize, stop: Stop) -> WentMap
-    ensures { result ≡ record { taken = taken; state = state; records = records; moves = moves; stop = stop } }
+fn standing(q: usize, moves: usize) -> Standing
+    requires { q < 65536 }
+    ensures { result ≡ record { state = q; moves = moves } }
 {
-    WentMap {
-        taken,
-        state,
-        records,
+    Standing {
+        state: q as u16,
         moves,
-        stop,
     }
 }
 
@@ -49,7 +39,7 @@ pub fn on_bitmap(
     count: u32,
     piece: &[u8],
     list: &mut [u32],
-) -> WentMap
+) -> Went<Standing>
     requires { (s * 19 ≤ length table.now) × ((s ≤ 513) × ((start < s) × (count + length piece.now < 2 ^ 32))) }
     ensures { WalkedMap s result list.old list.new
         (read_map s table.now start count (length list.old / 2) piece.now) }
@@ -62,11 +52,11 @@ pub fn on_bitmap(
     let mut moves: usize = 0;
     while i < piece.len() {
         let Step::To(n, m) = next_state(table, s, q, piece[i]) else {
-            return stopped_at(i, q, w, moves, Stop::Damaged);
+            return Went::stopped(i, standing(q, moves), w, Stop::Damaged);
         };
         let hits = vector_of(table, n);
-        let Emit::Written(x) = put_all(list, w, count + (i as u32) + 1, hits) else {
-            return stopped_at(i, q, w, moves, Stop::Full);
+        let Some(x) = put_all(list, w, count + (i as u32) + 1, hits) else {
+            return Went::stopped(i, standing(q, moves), w, Stop::Full);
         };
         q = n;
         w = x;
@@ -79,5 +69,5 @@ pub fn on_bitmap(
             moves = p.moves;
         }
     }
-    stopped_at(i, q, w, moves, Stop::All)
+    Went::stopped(i, standing(q, moves), w, Stop::All)
 }

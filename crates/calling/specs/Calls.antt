@@ -11,9 +11,8 @@ use Rattle.desk.specs.State.{state_of}
 use Rattle.desk.specs.declared.Desk.{Desk}
 use Rattle.reading.specs.Outside.{read_of, split_by, whole_by, list_by}
 use Rattle.bitmap_reading.specs.Outside.{map_by, read_map_of}
-use Rattle.bitmap_reading.specs.declared.MapAnswer.{MapAnswer}
-use Rattle.reading.specs.declared.SplitAnswer.{SplitAnswer}
-use Rattle.reading.specs.declared.WholeAnswer.{WholeAnswer}
+use Rattle.bitmap_reading.specs.declared.Standing.{Standing}
+use Rattle.reading.specs.declared.Answer.{Answer}
 use Rattle.script.specs.Calls.{CallOf, passed_over, not_acall, call_set, call_lend, call_replace, call_open, call_feed, call_close, call_state, call_take}
 use Rattle.script.specs.Calls.{call_show, call_build, call_read, call_poke, call_peek}
 use Rattle.script.specs.declared.Layout.{Layout}
@@ -121,14 +120,14 @@ build_on h layout = answered (with_lent h (tables_by layout h.bytes (lent_tables
 abbrev pub sevens : ℕ → List ℕ
 sevens room = replicate room 7
 
-abbrev pub split_text : SplitAnswer → List ℕ → List ℕ
+abbrev pub split_text : Answer (List ℕ) → List ℕ → List ℕ
 split_text r list = read_lines r.taken r.ending r.records r.place list
 
-abbrev pub whole_text : WholeAnswer → List ℕ → List ℕ
+abbrev pub whole_text : Answer ℕ → List ℕ → List ℕ
 whole_text r list = read_lines r.taken r.ending r.records (r.place ∷ []) list
 
-abbrev pub map_text : MapAnswer → List ℕ → List ℕ
-map_text r list = map_lines r.taken r.ending r.records r.moves (r.place ∷ []) list
+abbrev pub map_text : Answer Standing → List ℕ → List ℕ
+map_text r list = map_lines r.taken r.ending r.records r.place.moves (r.place.state ∷ []) list
 
 abbrev pub read_text : Lent → Layout → ℕ → ℕ → List ℕ → List ℕ → List ℕ
 read_text l Split count room place piece =

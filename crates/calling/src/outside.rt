@@ -74,9 +74,7 @@ fn read_split(
 {
     fill(list);
     let r = reading::read_split(first, second, place, count, piece, list);
-    let after = r.place;
-    let ending = r.ending;
-    answers::read_lines(out, used, r.taken, ending, r.records, &after, list)
+    answers::read_lines(out, used, r.taken, r.ending, r.records, &r.place, list)
 }
 
 fn read_whole(
@@ -93,9 +91,7 @@ fn read_whole(
 {
     fill(list);
     let r = reading::read_whole(table, place, count, piece, list);
-    let after = [r.place];
-    let ending = r.ending;
-    answers::read_lines(out, used, r.taken, ending, r.records, &after, list)
+    answers::read_lines(out, used, r.taken, r.ending, r.records, &[r.place], list)
 }
 
 fn read_bitmap(
@@ -112,9 +108,17 @@ fn read_bitmap(
 {
     fill(list);
     let r = bitmap_reading::read_bitmap(table, place, count, piece, list);
-    let after = [r.place];
-    let ending = r.ending;
-    answers::map_lines(out, used, r.taken, ending, r.records, r.moves, &after, list)
+    let at = r.place;
+    answers::map_lines(
+        out,
+        used,
+        r.taken,
+        r.ending,
+        r.records,
+        at.moves,
+        &[at.state],
+        list,
+    )
 }
 
 fn read_by(

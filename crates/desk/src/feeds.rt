@@ -7,7 +7,6 @@ ghost use Rattle.desk.specs.Layout.{lent};
 
 use crate::{Advance, Desk, FeedAnswer, Feeding, Ticket, scan, shared};
 use matching::Stop;
-use reading::Ending;
 
 pub fn damaged(desk: Desk) -> Feeding
     ensures { (result.desk ≡ desk) × (result.answer ≡ FeedAnswer.Fed (advance 0 0 Stop.Damaged)) }
@@ -38,8 +37,7 @@ pub fn read_on(
     let scan = scan::read_for(first, second, place, t.taken, piece, room);
     let read = scan.read;
     let list = scan.list;
-    let ending = read.ending;
-    let Ending::Stopped(stop) = ending else {
+    let Ok(stop) = read.ending else {
         return damaged(desk);
     };
     let serial = t.serial;

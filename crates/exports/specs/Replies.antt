@@ -21,8 +21,8 @@ use Rattle.numbers.specs.Answers.{close_answer, feed_answer, moved_answer, open_
 use Rattle.numbers.specs.declared.Answer.{Answer}
 use Rattle.reading.specs.Outside.{ReadAt, ReadOf, list_by, split_by, whole_by}
 use Rattle.bitmap_reading.specs.Outside.{map_by}
-use Rattle.bitmap_reading.specs.Reading.{Standing}
-use Rattle.bitmap_reading.specs.declared.MapAnswer.{MapAnswer}
+use Rattle.bitmap_reading.specs.declared.Standing.{Standing}
+use Rattle.reading.specs.declared.Answer.{Answer as Read}
 
 -- ---- of the desk
 
@@ -67,8 +67,8 @@ abbrev pub WholeTold : WholeReply → (place : ℕ) (before after : List ℕ) �
 WholeTold r place before after x = (r.answer ≡ whole_said (whole_by place x)) × (r.place ≡ (whole_by place x).place) × (after ≡ list_by before x)
 
 -- with the failure moves of the bytes taken
-abbrev pub map_said : MapAnswer → Answer
-map_said r = moved_answer r.taken r.records r.moves r.ending
+abbrev pub map_said : Read Standing → Answer
+map_said r = moved_answer r.taken r.records r.place.moves r.ending
 
 abbrev pub MapTold : MapReply → (place : ℕ) (before after : List ℕ) → ReadAt Standing → Type 0
-MapTold r place before after x = (r.answer ≡ map_said (map_by place x)) × (r.place ≡ (map_by place x).place) × (after ≡ list_by before x)
+MapTold r place before after x = (r.answer ≡ map_said (map_by place x)) × (r.place ≡ (map_by place x).place.state) × (after ≡ list_by before x)

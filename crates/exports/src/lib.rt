@@ -320,8 +320,7 @@ pub extern "C" fn sleet_read_split(
     let start = *place;
     let r = reading::read_split(first, second, start, count, piece, list);
     let after = r.place;
-    let ending = r.ending;
-    let answer = numbers::of_read(r.taken, r.records, ending).answer;
+    let answer = numbers::of_read(r.taken, r.records, r.ending).answer;
     SplitReply {
         answer,
         place: after,
@@ -340,8 +339,7 @@ pub extern "C" fn sleet_read_whole(
         (read_of whole_layout (table.now ∷ []) (place ∷ []) count piece.now (length list.old)) }
 {
     let r = reading::read_whole(table, place, count, piece, list);
-    let ending = r.ending;
-    let answer = numbers::of_read(r.taken, r.records, ending).answer;
+    let answer = numbers::of_read(r.taken, r.records, r.ending).answer;
     WholeReply {
         answer,
         place: r.place,
@@ -360,10 +358,9 @@ pub extern "C" fn sleet_read_bitmap(
         (read_map_of table.now place count piece.now (length list.old)) }
 {
     let r = bitmap_reading::read_bitmap(table, place, count, piece, list);
-    let ending = r.ending;
-    let answer = numbers::of_map_read(r.taken, r.records, r.moves, ending).answer;
+    let answer = numbers::of_map_read(r.taken, r.records, r.place.moves, r.ending).answer;
     MapReply {
         answer,
-        place: r.place,
+        place: r.place.state,
     }
 }

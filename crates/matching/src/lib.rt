@@ -6,7 +6,7 @@ ghost use Rattle.std.specs.Prelude.{◌≡◌, ◌^◌, ◌<◌, ◌≤◌};
 ghost use Rattle.matching.specs.Table.{slots_in};
 
 // All bytes were taken; or the next byte's matches don't all fit; or a next number is no state's.
-#[derive(Drop)]
+#[derive(Clone, Copy, PartialEq, Eq, Debug)]
 pub enum Stop {
     All,
     Full,

@@ -1,6 +1,5 @@
 -- Answers as numbers, for C and Rust: the number of a refusal in the rules' table and what is returned with it; or 0 and what the call gives.
-use Rattle.reading.specs.declared.Ending.TheVariants as E
-use Rattle.std.specs.Prelude.{ℕ, List, [], ◌∷◌, get_or, length}
+use Rattle.std.specs.Prelude.{Err, Ok, ℕ, List, [], ◌∷◌, get_or, length}
 use Rattle.desk.specs.Numbers.{close_number, close_values, feed_number, feed_values, open_number, open_values, replace_number, replace_values}
 use Rattle.desk.specs.Numbers.{state_values, stop_number, take_number, take_values}
 use Rattle.desk.specs.declared.CloseAnswer.{CloseAnswer}
@@ -11,10 +10,8 @@ use Rattle.desk.specs.declared.StateAnswer.{StateAnswer}
 use Rattle.desk.specs.declared.TakeAnswer.{TakeAnswer}
 use Rattle.numbers.specs.declared.Answer.{Answer}
 use Rattle.numbers.specs.declared.Said.{Said}
-use Rattle.reading.specs.Outside.{read_number, read_values}
-use Rattle.reading.specs.declared.Ending.{Ending}
-use Rattle.reading.specs.declared.SplitAnswer.{SplitAnswer}
-use Rattle.reading.specs.declared.WholeAnswer.{WholeAnswer}
+use Rattle.reading.specs.Outside.{Ending, read_number, read_values}
+use Rattle.reading.specs.declared.Answer.{Answer as Read}
 use Rattle.tables.specs.Building.{built_number, built_values, needed_number, needed_values}
 use Rattle.tables.specs.declared.Built.{Built}
 use Rattle.tables.specs.declared.Needed.{Needed}
@@ -66,12 +63,12 @@ state_answer r = answer_of 0 (state_values r)
 
 -- a read outside: the bytes taken, why it stopped, the records written, and what else its layout tells
 abbrev pub ending_number : Ending → ℕ
-ending_number (E.Stopped stop) = 0
-ending_number (E.Refused why) = read_number why
+ending_number (Ok stop) = 0
+ending_number (Err why) = read_number why
 
 abbrev pub ending_with : List ℕ → ℕ → ℕ → Ending → List ℕ
-ending_with more count records (E.Stopped stop) = count ∷ stop_number stop ∷ records ∷ more
-ending_with more count records (E.Refused why) = read_values why
+ending_with more count records (Ok stop) = count ∷ stop_number stop ∷ records ∷ more
+ending_with more count records (Err why) = read_values why
 
 -- over a split or a whole-byte table nothing else; over a bitmap table the failure moves of the bytes taken
 abbrev pub ending_values : ℕ → ℕ → Ending → List ℕ
@@ -86,8 +83,8 @@ read_answer count records ending = answer_of (ending_number ending) (ending_valu
 abbrev pub moved_answer : ℕ → ℕ → ℕ → Ending → Answer
 moved_answer count records moves ending = answer_of (ending_number ending) (moved_values count records moves ending)
 
-abbrev pub split_said : SplitAnswer → Answer
+abbrev pub split_said : Read (List ℕ) → Answer
 split_said r = read_answer r.taken r.records r.ending
 
-abbrev pub whole_said : WholeAnswer → Answer
+abbrev pub whole_said : Read ℕ → Answer
 whole_said r = read_answer r.taken r.records r.ending

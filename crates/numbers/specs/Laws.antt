@@ -12,8 +12,8 @@ use Rattle.desk.specs.declared.ReplaceAnswer.{ReplaceAnswer}
 use Rattle.desk.specs.declared.ReplaceAnswer.TheVariants as R
 use Rattle.desk.specs.declared.TakeAnswer.{TakeAnswer}
 use Rattle.desk.specs.declared.TakeAnswer.TheVariants as K
-use Rattle.reading.specs.declared.Ending.{Ending}
-use Rattle.reading.specs.declared.Ending.TheVariants as E
+use Rattle.reading.specs.Outside.{Ending}
+use Rattle.std.specs.Prelude.{Err, Ok}
 use Rattle.tables.specs.Building.{built_number, built_values}
 use Rattle.tables.specs.declared.Built.{Built}
 use Rattle.tables.specs.declared.Built.TheVariants as B
@@ -73,5 +73,5 @@ take-few (K.Taken oldest) h = absurd (omega (arith, h))
 take-few K.Nothing h = refl
 
 pub ending-few : (more : List ℕ) (taken records : ℕ) (r : Ending) → Few (ending_number r) (ending_with more taken records r)
-ending-few more taken records (E.Stopped stop) h = absurd (omega (arith, h))
-ending-few more taken records (E.Refused why) h = refl
+ending-few more taken records (Ok stop) h = absurd (omega (arith, h))
+ending-few more taken records (Err why) h = refl

@@ -228,8 +228,8 @@ pub fn of_read(taken: usize, records: usize, ending: Ending) -> Said
     ensures { result ≡ said_of (ending_number ending) (ending_values taken records ending) }
 {
     match ending {
-        Ending::Stopped(stop) => of_stopped(taken, records, stop),
-        Ending::Refused(why) => of_refusal(why),
+        Ok(stop) => of_stopped(taken, records, stop),
+        Err(why) => of_refusal(why),
     }
 }
 
@@ -238,7 +238,7 @@ pub fn of_map_read(taken: usize, records: usize, moves: usize, ending: Ending) -
     ensures { result ≡ said_of (ending_number ending) (moved_values taken records moves ending) }
 {
     match ending {
-        Ending::Stopped(stop) => of_moved(taken, records, moves, stop),
-        Ending::Refused(why) => of_refusal(why),
+        Ok(stop) => of_moved(taken, records, moves, stop),
+        Err(why) => of_refusal(why),
     }
 }

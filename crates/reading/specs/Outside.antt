@@ -1,15 +1,14 @@
 -- A read outside the desk: over any tables, from any place and count, into a lent list of numbers.
-use Rattle.std.specs.Prelude.{ℕ, ◌+◌, ◌/◌, Bool, cond, true, false, List, [], ◌∷◌, ◌++◌, ltb, length, get_or, drop, replicate, ◌≡◌}
+use Rattle.std.specs.Prelude.{ℕ, ◌+◌, ◌/◌, Result, Ok, Err, Bool, cond, true, false, List, [], ◌∷◌, ◌++◌, ltb, length, get_or, drop, replicate, ◌≡◌}
 use Rattle.matching.specs.Words.{Word}
 use Rattle.matching.specs.Occurrence.{flat}
 use Rattle.matching.specs.Limits.{largest}
 use Rattle.matching.specs.Parts.{Layout, Runs, lengths, place_below, read_in, slots_over}
 use Rattle.matching.specs.Stepping.{OutcomeOf}
+use Rattle.matching.specs.declared.Stop.{Stop}
 use Rattle.reading.specs.declared.ReadRefusal.{ReadRefusal}
 use Rattle.reading.specs.declared.ReadRefusal.TheVariants.{Place, Long}
-use Rattle.reading.specs.declared.Ending.TheVariants.{Stopped, Refused}
-use Rattle.reading.specs.declared.SplitAnswer.{SplitAnswer}
-use Rattle.reading.specs.declared.WholeAnswer.{WholeAnswer}
+use Rattle.reading.specs.declared.Answer.{Answer}
 
 -- a read is refused, or it comes to an outcome, whose place is of type P
 pub data ReadAt (P : Type 0) : Type 0 where
@@ -50,14 +49,21 @@ abbrev pub list_by : {P : Type 0} → List ℕ → ReadAt P → List ℕ
 list_by list (refused_read why) = list
 list_by list (read_to r) = flat r.found ++ drop (length (flat r.found)) list
 
--- the answers
-abbrev pub split_by : List ℕ → ReadOf → SplitAnswer
-split_by place (refused_read why) = record { taken = 0; place = place; records = 0; ending = Refused why }
-split_by place (read_to r) = record { taken = r.taken; place = r.place; records = length r.found; ending = Stopped r.stop }
+-- how a read ended
+abbrev pub Ending : Type 0
+Ending = Result Stop ReadRefusal
 
-abbrev pub whole_by : ℕ → ReadOf → WholeAnswer
-whole_by place (refused_read why) = record { taken = 0; place = place; records = 0; ending = Refused why }
-whole_by place (read_to r) = record { taken = r.taken; place = get_or r.place 0 0; records = length r.found; ending = Stopped r.stop }
+-- the answer of a read from a place of the caller's, of type Q, which is `at` of the reading's
+abbrev pub answer_by : {P Q : Type 0} → (P → Q) → Q → ReadAt P → Answer Q
+answer_by at place (refused_read why) = record { taken = 0; place = place; records = 0; ending = Err why }
+answer_by at place (read_to r) = record { taken = r.taken; place = at r.place; records = length r.found; ending = Ok r.stop }
+
+-- the answers
+abbrev pub split_by : List ℕ → ReadOf → Answer (List ℕ)
+split_by = answer_by (λ p. p)
+
+abbrev pub whole_by : ℕ → ReadOf → Answer ℕ
+whole_by = answer_by (λ p. get_or p 0 0)
 
 -- the number of a refusal in the table of refusals, and what is returned with it: nothing
 abbrev pub read_number : ReadRefusal → ℕ
@@ -68,8 +74,8 @@ abbrev pub read_values : ReadRefusal → List ℕ
 read_values why = []
 
 -- a call's answer, and the list after it, by what the reading comes to
-abbrev pub SplitTells : SplitAnswer → (place before after : List ℕ) → ReadOf → Type 0
+abbrev pub SplitTells : Answer (List ℕ) → (place before after : List ℕ) → ReadOf → Type 0
 SplitTells r place before after x = (r ≡ split_by place x) × (after ≡ list_by before x)
 
-abbrev pub WholeTells : WholeAnswer → (place : ℕ) (before after : List ℕ) → ReadOf → Type 0
+abbrev pub WholeTells : Answer ℕ → (place : ℕ) (before after : List ℕ) → ReadOf → Type 0
 WholeTells r place before after x = (r ≡ whole_by place x) × (after ≡ list_by before x)

@@ -1,9 +1,7 @@
 -- One byte's records in the list.
-use Rattle.std.specs.Prelude.{◌*◌, ◌+◌, ◌-◌, ◌/◌, suc, zero, ℕ, Bool, cond, false, true, List, [], ◌∷◌, leb, length}
+use Rattle.std.specs.Prelude.{Option, Some, None, ◌*◌, ◌+◌, ◌-◌, ◌/◌, suc, zero, ℕ, Bool, cond, false, true, List, [], ◌∷◌, leb, length}
 use Rattle.std.proofs.lemmas.List.Edits.{sets}
 use Rattle.matching.specs.Occurrence.{flat, occur_at}
-use Rattle.reading.specs.declared.records.Emit.{Emit}
-use Rattle.reading.specs.declared.records.Emit.TheVariants.{NoRoom, Written}
 
 -- the tag, if its bit is set
 abbrev pub tag_if : ℕ → ℕ → List ℕ
@@ -14,12 +12,12 @@ tag_if (suc bit) tag = tag ∷ []
 abbrev pub fits_in : List ℕ → ℕ → List ℕ → Bool
 fits_in l w tags = leb (length tags) (length l / 2 - w)
 
-abbrev pub emit_by : Bool → ℕ → Emit
-emit_by true w = Written w
-emit_by false w = NoRoom
+abbrev pub emit_by : Bool → ℕ → Option ℕ
+emit_by true w = Some w
+emit_by false w = None
 
--- whether they are written, with the number of records then, and the list then
-abbrev pub emit_of : List ℕ → ℕ → List ℕ → Emit
+-- the number of records once they are written, nothing where they are not, and the list then
+abbrev pub emit_of : List ℕ → ℕ → List ℕ → Option ℕ
 emit_of l w tags = emit_by (fits_in l w tags) (w + length tags)
 
 abbrev pub emitted : List ℕ → ℕ → ℕ → List ℕ → List ℕ

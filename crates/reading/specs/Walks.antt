@@ -8,15 +8,17 @@ use Rattle.matching.specs.Stepping.{OutcomeOf, Step, read_by}
 use Rattle.matching.specs.declared.Stop.TheVariants.{All}
 use Rattle.passing.specs.Quiet.{ahead}
 use Rattle.blocks.specs.Parts.{Fits, clean}
-use Rattle.reading.specs.declared.split.Went.{Went}
-use Rattle.reading.specs.declared.walks.WentOne.{WentOne}
+use Rattle.reading.specs.declared.went.Went.{Went}
 
--- an outcome as the loops answer it
-abbrev pub went_of : Outcome → Went
-went_of r = record { taken = r.taken; place = r.place; records = length r.found; stop = r.stop }
+-- an outcome as the loops answer it, their place `at` of its own
+abbrev pub went_by : {P Q : Type 0} → (P → Q) → OutcomeOf P → Went Q
+went_by at r = record { taken = r.taken; place = at r.place; records = length r.found; stop = r.stop }
 
-abbrev pub went_one_of : Outcome → WentOne
-went_one_of r = record { taken = r.taken; state = get_or r.place 0 0; records = length r.found; stop = r.stop }
+abbrev pub went_of : Outcome → Went (List ℕ)
+went_of = went_by (λ p. p)
+
+abbrev pub went_one_of : Outcome → Went ℕ
+went_one_of = went_by (λ p. get_or p 0 0)
 
 -- the list after it: the records at its front, and the rest as it was
 abbrev pub list_of : {P : Type 0} → List ℕ → OutcomeOf P → List ℕ
@@ -45,18 +47,18 @@ pub record Blockwise (runs : Runs) (slots : List ℕ) (awake : List Bool) (start
   pub forgets : hits ≡ clean
 
 -- what the reading of a block answers, behind the first `from` records of the list l₀, which became l, by its outcome
-abbrev pub BlockTells : Went → (from : ℕ) (l₀ l : List ℕ) → Outcome → Type 0
+abbrev pub BlockTells : Went (List ℕ) → (from : ℕ) (l₀ l : List ℕ) → Outcome → Type 0
 BlockTells r from l₀ l o =
     (r ≡ record { taken = o.taken; place = o.place; records = from + length o.found; stop = o.stop }) × (l ≡ sets l₀ (2 * from) (flat o.found))
 
 -- and while all is taken, nothing stays noted
-pub record BlockRead (r : Went) (from : ℕ) (l₀ l hits : List ℕ) (o : Outcome) : Type 0 where
+pub record BlockRead (r : Went (List ℕ)) (from : ℕ) (l₀ l hits : List ℕ) (o : Outcome) : Type 0 where
   pub tells : BlockTells r from l₀ l o
   pub forgets : r.stop ≡ All → hits ≡ clean
 
 -- what a walk answers, and the list after it, by the outcome of the reading
-abbrev pub Walked : Went → (before after : List ℕ) → Outcome → Type 0
+abbrev pub Walked : Went (List ℕ) → (before after : List ℕ) → Outcome → Type 0
 Walked r before after x = (r ≡ went_of x) × (after ≡ list_of before x)
 
-abbrev pub WalkedOne : WentOne → (before after : List ℕ) → Outcome → Type 0
+abbrev pub WalkedOne : Went ℕ → (before after : List ℕ) → Outcome → Type 0
 WalkedOne r before after x = (r ≡ went_one_of x) × (after ≡ list_of before x)

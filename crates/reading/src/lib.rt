@@ -6,49 +6,50 @@ pub mod records;
 pub mod refusals;
 mod split;
 mod walks;
+pub mod went;
 
-ghost use Rattle.std.specs.Prelude.{[], ◌∷◌, length};
+ghost use Rattle.std.specs.Prelude.{◌≡◌, Err, [], ◌∷◌, length};
 ghost use Rattle.matching.specs.Parts.{split_layout, whole_layout};
 ghost use Rattle.reading.specs.Outside.{SplitTells, WholeTells, read_of};
 
-use crate::refusals::{Verdict, judge, too_long};
+use crate::refusals::{judge, too_long};
 use crate::split::on_split;
 use crate::walks::on_whole;
 use blocks::start::{all_states, slots_of};
 use matching::{Stop, slots};
-use passing::places::{narrowed, wide, widened};
+use passing::places::{narrowed, widened};
 
 // Why a read outside the desk is refused.
-#[derive(Drop)]
+#[derive(Clone, Copy, PartialEq, Eq, Debug)]
 pub enum ReadRefusal {
     Place,
     Long,
 }
 
 // How a read ended.
-#[derive(Drop)]
-pub enum Ending {
-    Stopped(Stop),
-    Refused(ReadRefusal),
-}
+pub type Ending = Result<Stop, ReadRefusal>;
 
-// What a read over split tables gives: the number of bytes taken, the new place, the number of records written, and how it ended.
+// What a read gives: the number of bytes taken, the new place, the number of records written, and why it stopped or is refused.
 // A refused read takes nothing, writes nothing and stays where it was.
-#[derive(Drop)]
-pub struct SplitAnswer {
+#[derive(Clone, Copy)]
+pub struct Answer<P> {
     pub taken: usize,
-    pub place: [u16; 16],
+    pub place: P,
     pub records: usize,
     pub ending: Ending,
 }
 
-// The same over a whole-byte table, whose place is one number.
-#[derive(Drop)]
-pub struct WholeAnswer {
-    pub taken: usize,
-    pub place: u16,
-    pub records: usize,
-    pub ending: Ending,
+impl<P> Answer<P> {
+    pub fn refused(place: P, why: ReadRefusal) -> Answer<P>
+        ensures { result ≡ record { taken = 0; place = place; records = 0; ending = Err why } }
+    {
+        Answer {
+            taken: 0,
+            place,
+            records: 0,
+            ending: Err(why),
+        }
+    }
 }
 
 // Over the two tables of the split layout: eight machines of one bit each.
@@ -59,7 +60,7 @@ pub fn read_split(
     count: u32,
     piece: &[u8],
     list: &mut [u32],
-) -> SplitAnswer
+) -> Answer<[u16; 16]>
     ensures { SplitTells result place list.old list.new
         (read_of split_layout (first.now ∷ second.now ∷ []) place count piece.now (length list.old)) }
 {
@@ -67,57 +68,41 @@ pub fn read_split(
     let start = widened(place);
     let sound = all_states(s, start);
     let long = too_long(count, piece.len());
-    let verdict = judge(sound, long);
-    if let Verdict::Refuse(why) = verdict {
-        return SplitAnswer {
-            taken: 0,
-            place,
-            records: 0,
-            ending: Ending::Refused(why),
-        };
+    if let Err(why) = judge(sound, long) {
+        return Answer::refused(place, why);
     }
     let r = on_split(first, second, s, start, count, piece, list);
-    let at = r.place;
-    let stop = r.stop;
-    SplitAnswer {
+    Answer {
         taken: r.taken,
-        place: narrowed(at),
+        place: narrowed(r.place),
         records: r.records,
-        ending: Ending::Stopped(stop),
+        ending: Ok(r.stop),
     }
 }
 
-// Over a whole-byte table.
+// Over a whole-byte table, whose place is one number.
 pub fn read_whole(
     table: &[u16],
     place: u16,
     count: u32,
     piece: &[u8],
     list: &mut [u32],
-) -> WholeAnswer
+) -> Answer<u16>
     ensures { WholeTells result place list.old list.new
         (read_of whole_layout (table.now ∷ []) (place ∷ []) count piece.now (length list.old)) }
 {
     let s = slots(table.len(), 8, 1);
-    let start = wide(place);
+    let start = usize::from(place);
     let sound = start < s;
     let long = too_long(count, piece.len());
-    let verdict = judge(sound, long);
-    if let Verdict::Refuse(why) = verdict {
-        return WholeAnswer {
-            taken: 0,
-            place,
-            records: 0,
-            ending: Ending::Refused(why),
-        };
+    if let Err(why) = judge(sound, long) {
+        return Answer::refused(place, why);
     }
     let r = on_whole(table, s, start, count, piece, list);
-    let at = r.state as u16;
-    let stop = r.stop;
-    WholeAnswer {
+    Answer {
         taken: r.taken,
-        place: at,
+        place: r.place as u16,
         records: r.records,
-        ending: Ending::Stopped(stop),
+        ending: Ok(r.stop),
     }
 }

@@ -4,7 +4,7 @@ ghost use Rattle.blocks.specs.Noting.{tag_rows};
 ghost use Rattle.blocks.specs.Parts.{clean};
 ghost use Rattle.reading.specs.Noted.{WroteTo};
 
-use crate::records::{Emit, put_all};
+use crate::records::put_all;
 
 // The bytes whose records are written, and how many records there are then.
 #[derive(Drop)]
@@ -22,7 +22,7 @@ fn write_rows(hits: &[u16; 256], end: usize, count: u32, list: &mut [u32], from:
     let mut w = from;
     let mut i: usize = 0;
     while i < end {
-        let Emit::Written(x) = put_all(list, w, count + (i as u32) + 1, hits[i]) else {
+        let Some(x) = put_all(list, w, count + (i as u32) + 1, hits[i]) else {
             return Wrote { at: i, records: w };
         };
         w = x;

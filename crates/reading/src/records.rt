@@ -5,13 +5,6 @@ ghost use Rattle.matching.specs.Occurrence.{flat, occur_at};
 ghost use Rattle.matching.specs.Reading.{ones_of};
 ghost use Rattle.reading.specs.Records.{tag_if, emit_of, emitted};
 
-// Whether a byte's records were written, and how many records there are then.
-#[derive(Drop)]
-pub enum Emit {
-    Written(usize),
-    NoRoom,
-}
-
 // Writes the record (end, tag) as record w, if the bit is set. Gives the number of records then.
 fn put_bit(list: &mut [u32], w: usize, end: u32, tag: u32, bit: u16) -> usize
     requires { 2 * (w + length (tag_if bit tag)) ≤ length list.old }
@@ -43,16 +36,17 @@ fn put(list: &mut [u32], from: usize, end: u32, hits: u16) -> usize
     w
 }
 
-pub fn put_all(list: &mut [u32], w: usize, end: u32, hits: u16) -> Emit
+// Gives the number of records then, or nothing where they find no room.
+pub fn put_all(list: &mut [u32], w: usize, end: u32, hits: u16) -> Option<usize>
     requires { 2 * w ≤ length list.old }
     ensures { (result ≡ emit_of list.old w (ones_of 0 16 hits)) × (list.new ≡ emitted list.old w end (ones_of 0 16 hits)) }
 {
     if hits == 0 {
-        return Emit::Written(w);
+        return Some(w);
     }
     let count = u16::count_ones(hits) as usize;
     if list.len() / 2 - w < count {
-        return Emit::NoRoom;
+        return None;
     }
-    Emit::Written(put(list, w, end, hits))
+    Some(put(list, w, end, hits))
 }

@@ -6,29 +6,10 @@ ghost use Rattle.blocks.specs.Parts.{SplitFits, Stands, clean};
 ghost use Rattle.reading.specs.Walks.{BlockRead, Walked};
 
 use crate::noted::write_noted;
+use crate::went::Went;
 use blocks::block::{Known, MOST, walk_block};
 use blocks::start::{known_of, starts_of};
 use matching::Stop;
-
-// What reading comes to: the bytes taken, the place then, the records written, and why it stopped.
-#[derive(Drop)]
-pub struct Went {
-    pub taken: usize,
-    pub place: [usize; 16],
-    pub records: usize,
-    pub stop: Stop,
-}
-
-fn stopped(taken: usize, place: [usize; 16], records: usize, stop: Stop) -> Went
-    ensures { result ≡ record { taken = taken; place = place; records = records; stop = stop } }
-{
-    Went {
-        taken,
-        place,
-        records,
-        stop,
-    }
-}
 
 // Blocks are sized so that a list which fills costs no long walk that is thrown away. What is answered does not hang on their sizes.
 const FEW: usize = 4;
@@ -87,7 +68,7 @@ fn read_block(
     list: &mut [u32],
     from: usize,
     hits: &mut [u16; 256],
-) -> Went
+) -> Went<[usize; 16]>
     requires split_fits { SplitFits first.now second.now known starts.now start }
     requires block_len_bound { (length block.now ≤ 256) × ((count + length block.now < 2 ^ 32) × ((2 * from ≤ length list.old) × (hits.old ≡ clean))) }
     ensures { BlockRead result from list.old list.new hits.new
@@ -98,16 +79,15 @@ fn read_block(
     let wrote = write_noted(all.loud, hits, end, count, list, from);
     let at = wrote.at;
     if block.len() <= at {
-        let place = all.place;
-        return stopped(at, place, wrote.records, Stop::All);
+        return Went::stopped(at, all.place, wrote.records, Stop::All);
     }
     let taken = &block[0..at];
     let again = walk_block(first, second, known, starts, start, taken, hits);
     let place = again.place;
     if at < end {
-        return stopped(at, place, wrote.records, Stop::Full);
+        return Went::stopped(at, place, wrote.records, Stop::Full);
     }
-    stopped(at, place, wrote.records, Stop::Damaged)
+    Went::stopped(at, place, wrote.records, Stop::Damaged)
 }
 
 // A block after another.
@@ -121,7 +101,7 @@ fn on_blocks(
     piece: &[u8],
     list: &mut [u32],
     hits: &mut [u16; 256],
-) -> Went
+) -> Went<[usize; 16]>
     requires split_fits { SplitFits first.now second.now known starts.now start }
     requires piece_bound { (count + length piece.now < 2 ^ 32) × (hits.old ≡ clean) }
     ensures { Walked result list.old list.new
@@ -136,17 +116,15 @@ fn on_blocks(
         let block = &piece[i..to];
         let seen = count + (i as u32);
         let r = read_block(first, second, known, starts, at, seen, block, list, w, hits);
-        let place = r.place;
-        let stop = r.stop;
-        at = place;
+        at = r.place;
         size = next_size(size, w, r.records, list.len());
         w = r.records;
         i += r.taken;
-        let Stop::All = stop else {
-            return stopped(i, at, w, stop);
+        let Stop::All = r.stop else {
+            return Went::stopped(i, at, w, r.stop);
         };
     }
-    stopped(i, at, w, Stop::All)
+    Went::stopped(i, at, w, Stop::All)
 }
 
 // Starts are made for the parts that are awake.
@@ -158,7 +136,7 @@ pub fn on_split(
     count: u32,
     piece: &[u8],
     list: &mut [u32],
-) -> Went
+) -> Went<[usize; 16]>
     requires { (Stands split_layout (first.now ∷ second.now ∷ []) slots start) × (count + length piece.now < 2 ^ 32) }
     ensures { Walked result list.old list.new
         (read_in split_layout (first.now ∷ second.now ∷ []) start count (length list.old / 2) piece.now) }

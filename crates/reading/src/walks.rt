@@ -4,29 +4,10 @@ ghost use Rattle.std.specs.Prelude.{◌≡◌, [], ◌∷◌, ◌+◌, ◌*◌, 
 ghost use Rattle.matching.specs.Reading.{read};
 ghost use Rattle.reading.specs.Walks.{WalkedOne};
 
-use crate::records::{Emit, put_all};
+use crate::records::put_all;
+use crate::went::Went;
 use matching::Stop;
 use passing::whole::{next_of, pass_whole, vector_of};
-
-// What reading comes to: the bytes taken, the state then, the records written, and why it stopped.
-#[derive(Drop)]
-pub struct WentOne {
-    pub taken: usize,
-    pub state: usize,
-    pub records: usize,
-    pub stop: Stop,
-}
-
-fn stopped_one(taken: usize, state: usize, records: usize, stop: Stop) -> WentOne
-    ensures { result ≡ record { taken = taken; state = state; records = records; stop = stop } }
-{
-    WentOne {
-        taken,
-        state,
-        records,
-        stop,
-    }
-}
 
 // Over a whole-byte table.
 pub fn on_whole(
@@ -36,7 +17,7 @@ pub fn on_whole(
     count: u32,
     piece: &[u8],
     list: &mut [u32],
-) -> WentOne
+) -> Went<usize>
     requires { (s * 257 ≤ length table.now) × ((start < s) × (count + length piece.now < 2 ^ 32)) }
     ensures { WalkedOne result list.old list.new
         (read 8 s table.now (start ∷ []) count (length list.old / 2) piece.now) }
@@ -47,18 +28,14 @@ pub fn on_whole(
     while i < piece.len() {
         let n = next_of(table, q, piece[i]);
         if s <= n {
-            return stopped_one(i, q, w, Stop::Damaged);
+            return Went::stopped(i, q, w, Stop::Damaged);
         }
         let hits = vector_of(table, n);
-        match put_all(list, w, count + (i as u32) + 1, hits) {
-            Emit::Written(x) => {
-                w = x;
-            }
-            Emit::NoRoom => {
-                return stopped_one(i, q, w, Stop::Full);
-            }
-        }
+        let Some(x) = put_all(list, w, count + (i as u32) + 1, hits) else {
+            return Went::stopped(i, q, w, Stop::Full);
+        };
         q = n;
+        w = x;
         i += 1;
         if hits == 0 {
             let p = pass_whole(table, s, q, piece, i);
@@ -66,5 +43,5 @@ pub fn on_whole(
             i = p.at;
         }
     }
-    stopped_one(i, q, w, Stop::All)
+    Went::stopped(i, q, w, Stop::All)
 }

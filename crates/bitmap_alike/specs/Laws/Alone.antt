@@ -22,7 +22,8 @@ use Rattle.bitmap.specs.Moves.{moves_in}
 use Rattle.bitmap.specs.Slots.{slots_of}
 use Rattle.bitmap_reading.specs.Laws.Readings.{MapDone, map-done}
 use Rattle.bitmap_reading.specs.Outside.{read_map_of}
-use Rattle.bitmap_reading.specs.Reading.{Standing, read_map}
+use Rattle.bitmap_reading.specs.Reading.{read_map}
+use Rattle.bitmap_reading.specs.declared.Standing.{Standing}
 use Rattle.bitmap_tables.specs.Building.{map_kinds, map_table_of, words_of}
 use Rattle.bitmap_alike.specs.Readings.{AsTags, MapAsBuilt, MapReads, MapRow, MapRowDone, is_long, is_read, map_in_turn, map_row_then, on_map_turn}
 use Rattle.bitmap_tables.specs.Refusals.{MapBuilds}

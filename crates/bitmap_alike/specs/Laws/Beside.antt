@@ -30,7 +30,7 @@ use Rattle.history.specs.Readings.{AsBuilt, Row, Turn, TurnsOfBytes, in_turn, ro
 use Rattle.bitmap.specs.Laws.Built.{level-first, level_tree, same_word}
 use Rattle.bitmap.specs.Levels.{by_level}
 use Rattle.bitmap_reading.specs.Outside.{read_map_of}
-use Rattle.bitmap_reading.specs.Reading.{Standing}
+use Rattle.bitmap_reading.specs.declared.Standing.{Standing}
 use Rattle.bitmap_tables.specs.Building.{map_table_of}
 use Rattle.bitmap_alike.specs.Readings.{AlikeReads, AlikeToWhole, MapAsBuilt, MapRow, SamePrefix, both_long, both_read, map_in_turn, map_row_then}
 use Rattle.bitmap_alike.specs.Laws.Alone.{MapRowBy, lawful, map-read-is, map_row_by, map_row_long, map_row_read, map_row_after, map_turn, read_done}

@@ -1,23 +1,20 @@
 -- What comes before the loop and after it.
-use Rattle.std.specs.Prelude.{◌+◌, ◌/◌, ℕ, false, true, List, ◌≡◌, refl, ltb}
+use Rattle.std.specs.Prelude.{◌+◌, ◌/◌, ℕ, false, true, List, ◌≡◌, ltb}
 use Rattle.std.proofs.Common.{◌∙◌, ap, arith, length-append, length-drop}
 use Rattle.std.proofs.Math.ListN.{length}
 use Rattle.matching.specs.Laws.Stepping.{went}
 use Rattle.matching.specs.Refusal.{first_of}
 use Rattle.matching.specs.Stepping as stepping
-use Rattle.matching.specs.Stepping.{OutcomeOf}
+use Rattle.bitmap_reading.specs.declared.Standing.{Standing}
 use Rattle.reading.specs.Laws.Answers.{first-refused}
 use Rattle.reading.specs.Laws.Records.{flat-length}
-use Rattle.reading.specs.Outside.{ReadAt, list_by, read_number, read_to, refused_read}
+use Rattle.reading.specs.Outside.{read_number, read_to, refused_read}
 use Rattle.reading.specs.Refusals.{read_grounds}
 use Rattle.reading.specs.Walks.{list_of}
-use Rattle.reading.specs.declared.Ending.TheVariants.{Stopped}
 use Rattle.reading.specs.declared.ReadRefusal.{ReadRefusal}
 use Rattle.bitmap.specs.Slots.{slots_of}
-use Rattle.bitmap_reading.specs.Outside.{map_by, read_map_of}
-use Rattle.bitmap_reading.specs.Reading.{Standing, map_step, read_map}
-use Rattle.bitmap_reading.specs.Walks.{went_map_of}
-use Rattle.bitmap_reading.specs.declared.walks.WentMap.{WentMap}
+use Rattle.bitmap_reading.specs.Outside.{read_map_of}
+use Rattle.bitmap_reading.specs.Reading.{map_step, read_map}
 
 module _ (table : List ℕ) (place count : ℕ) (piece : List ℕ) (len s : ℕ) (e : s ≡ slots_of (length table)) where
   pub map-refused : (why : ReadRefusal) → read_number why ≡ first_of (read_grounds (ltb place s) (ltb 4294967295 (count + length piece)))
@@ -29,12 +26,6 @@ module _ (table : List ℕ) (place count : ℕ) (piece : List ℕ) (len s : ℕ)
       → read_map_of table place count piece len ≡ read_to (read_map s table place count (len / 2) piece)
   unfolding read_map_of
   map-reads b h = rw (← e, b, h)
-
-pub map-answer : (r : ReadAt Standing) (o : OutcomeOf Standing) (place : ℕ) (went : WentMap) (l l' : List ℕ)
-    → r ≡ read_to o → went ≡ went_map_of o → l' ≡ list_of l o
-    → (record { taken = went.taken; place = went.state; records = went.records; moves = went.moves; ending = Stopped went.stop } ≡ map_by place r)
-    × (l' ≡ list_by l r)
-map-answer r o place went l l' er ew el = rw (er, ew, el) (refl, refl)
 
 -- the list keeps its length
 pub map-list-long : (s : ℕ) (table : List ℕ) (place count : ℕ) (piece l l' : List ℕ) → l' ≡ list_of l (read_map s table place count (length l / 2) piece)

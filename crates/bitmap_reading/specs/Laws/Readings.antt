@@ -23,7 +23,8 @@ use Rattle.bitmap.specs.Moves.{moves_in, moves_on}
 use Rattle.bitmap.specs.Steps.{step, vector_at}
 use Rattle.bitmap.specs.declared.Step.TheVariants.{To}
 use Rattle.bitmap_reading.specs.Laws.Steps.{map-goes}
-use Rattle.bitmap_reading.specs.Reading.{Standing, map_step, read_map}
+use Rattle.bitmap_reading.specs.Reading.{map_step, read_map}
+use Rattle.bitmap_reading.specs.declared.Standing.{Standing}
 
 module _ (ts : List Word) (lawful : Lawful ts) (s : ℕ) (table : List ℕ) (held : Holds s ts table) where
   abbrev ps : List Word

@@ -1,5 +1,5 @@
 -- The loop over a piece.
-use Rattle.std.specs.Prelude.{◌+◌, ◌/◌, ◌<◌, ◌≤◌, ℕ, List, ◌≡◌, refl, get_or, length}
+use Rattle.std.specs.Prelude.{None, Some, ◌+◌, ◌/◌, ◌<◌, ◌≤◌, ℕ, List, ◌≡◌, refl, get_or, length}
 use Rattle.std.proofs.Common.{◌∙◌, sym, arith}
 use Rattle.matching.specs.Reading.{ones_of}
 use Rattle.matching.specs.Stepping.{OutcomeOf, goes_to, read_by}
@@ -7,16 +7,16 @@ use Rattle.matching.specs.declared.Stop.{Stop}
 use Rattle.matching.specs.declared.Stop.TheVariants.{All, Damaged, Full}
 use Rattle.reading.specs.Laws.Walks.{Ended, by_all, by_damaged, by-full, by-long, by-pass, by-start, by-took}
 use Rattle.reading.specs.Records.{emit_of, emitted}
-use Rattle.reading.specs.declared.records.Emit.TheVariants.{NoRoom, Written}
 use Rattle.bitmap.specs.Laws.Steps.{sound}
 use Rattle.bitmap.specs.Steps.{step, vector_at}
 use Rattle.bitmap.specs.declared.Step.TheVariants.{To, Wrong}
 use Rattle.bitmap_reading.specs.Laws.Steps.{map-goes, map-wrong}
-use Rattle.bitmap_reading.specs.Reading.{Standing, map_step, read_map}
+use Rattle.bitmap_reading.specs.Reading.{map_step, read_map}
+use Rattle.bitmap_reading.specs.declared.Standing.{Standing}
 use Rattle.bitmap_reading.specs.Rows.{PassedTo}
 use Rattle.bitmap_reading.specs.Walks.{GoingMap, WalkedMap}
 use Rattle.bitmap_reading.specs.declared.rows.Came.{Came}
-use Rattle.bitmap_reading.specs.declared.walks.WentMap.{WentMap}
+use Rattle.reading.specs.declared.went.Went.{Went}
 
 module _ (s : ℕ) (table : List ℕ) (count : ℕ) (piece l₀ : List ℕ) (start : ℕ) where
   abbrev first : Standing
@@ -28,7 +28,7 @@ module _ (s : ℕ) (table : List ℕ) (count : ℕ) (piece l₀ : List ℕ) (sta
   -- the code's answer
   right : (l : List ℕ) (q moves : ℕ) (why : Stop) (w i : ℕ) → q < s
       → Ended (read_by (map_step s table) first count (length l₀ / 2) piece) l₀ l (record { state = q; moves = moves }) why w i
-      → (r : WentMap) → r ≡ record { taken = i; state = q; records = w; moves = moves; stop = why } → WalkedMap s r l₀ l whole
+      → (r : Went Standing) → r ≡ record { taken = i; place = record { state = q; moves = moves }; records = w; stop = why } → WalkedMap s r l₀ l whole
   unfolding read_map
   right l q moves why w i h e r er = record {
     is = er ∙ rw (e.taken, e.place_is, e.stop, e.records);
@@ -53,12 +53,12 @@ module _ (s : ℕ) (table : List ℕ) (count : ℕ) (piece l₀ : List ℕ) (sta
       few = p.few;
     }
 
-    pub map-all : length piece ≤ i → (r : WentMap) → r ≡ record { taken = i; state = q; records = w; moves = moves; stop = All } → WalkedMap s r l₀ l whole
+    pub map-all : length piece ≤ i → (r : Went Standing) → r ≡ record { taken = i; place = record { state = q; moves = moves }; records = w; stop = All } → WalkedMap s r l₀ l whole
     map-all more = right l q moves All w i g.below (by_all (map_step s table) count piece l₀ first l here w i g.going more)
 
     module _ (less : i < length piece) where
-      pub map_damaged : step s table q (get_or piece i 0) ≡ Wrong → (r : WentMap)
-          → r ≡ record { taken = i; state = q; records = w; moves = moves; stop = Damaged } → WalkedMap s r l₀ l whole
+      pub map_damaged : step s table q (get_or piece i 0) ≡ Wrong → (r : Went Standing)
+          → r ≡ record { taken = i; place = record { state = q; moves = moves }; records = w; stop = Damaged } → WalkedMap s r l₀ l whole
       map_damaged e = right l q moves Damaged w i g.below
           (by_damaged (map_step s table) count piece l₀ first l here w i g.going less (map-wrong s table q moves (get_or piece i 0) e))
 
@@ -67,12 +67,12 @@ module _ (s : ℕ) (table : List ℕ) (count : ℕ) (piece l₀ : List ℕ) (sta
         leads : map_step s table here (get_or piece i 0) ≡ goes_to (record { state = n; moves = moves + m }) (ones_of 0 16 hits)
         leads = map-goes s table q moves (get_or piece i 0) n m e ∙ rw (← v) refl
 
-        pub map-full : NoRoom ≡ emit_of l w (ones_of 0 16 hits) → (l' : List ℕ) → l' ≡ emitted l w (count + i + 1) (ones_of 0 16 hits) → (r : WentMap)
-            → r ≡ record { taken = i; state = q; records = w; moves = moves; stop = Full } → WalkedMap s r l₀ l' whole
+        pub map-full : None ≡ emit_of l w (ones_of 0 16 hits) → (l' : List ℕ) → l' ≡ emitted l w (count + i + 1) (ones_of 0 16 hits) → (r : Went Standing)
+            → r ≡ record { taken = i; place = record { state = q; moves = moves }; records = w; stop = Full } → WalkedMap s r l₀ l' whole
         map-full none l' el = right l' q moves Full w i g.below
             (by-full (map_step s table) count piece l₀ first l here w i g.going less _ (ones_of 0 16 hits) leads none l' el)
 
-        pub map-took : s ≤ 513 → (x : ℕ) → Written x ≡ emit_of l w (ones_of 0 16 hits) → (l' : List ℕ)
+        pub map-took : s ≤ 513 → (x : ℕ) → Some x ≡ emit_of l w (ones_of 0 16 hits) → (l' : List ℕ)
             → l' ≡ emitted l w (count + i + 1) (ones_of 0 16 hits)
             → GoingMap s table count piece l₀ start l' n x (i + 1) (moves + m)
         map-took small x some l' el =

@@ -13,11 +13,10 @@ use Rattle.matching.specs.Refusal.{first_of}
 use Rattle.matching.specs.Table.{slots_in}
 use Rattle.matching.specs.Words.{Word}
 use Rattle.reading.specs.Laws.Answers.{whole_below}
-use Rattle.reading.specs.Outside.{ReadOf, own_slots, read_of, read_to, refused_read, slots_for, split_by, table_of, whole_by}
+use Rattle.reading.specs.Outside.{Ending, ReadOf, own_slots, read_of, slots_for, split_by, table_of, whole_by}
 use Rattle.reading.specs.Refusals.{RefusedWith, ending_number, read_grounds}
-use Rattle.reading.specs.declared.Ending.{Ending}
 use Rattle.reading.specs.declared.ReadRefusal.TheVariants.{Long, Place}
-use Rattle.reading.specs.Laws.Outside.{place_iff, long_iff, number_by, by_grounds, split-refused, whole-refused, by_number}
+use Rattle.reading.specs.Laws.Outside.{place_iff, long_iff, number_by, by_grounds, answer-number, split-refused, whole-refused, by_number}
 
 -- ---- when it is refused
 
@@ -27,14 +26,6 @@ pub read_refusals : (layout : Layout) (runs : Runs) (place : List ℕ) (count : 
 unfolding read_of
 read_refusals layout runs place count piece len =
     by_grounds _ (place_below layout (slots_over layout (lengths runs)) place) (ltb 4294967295 (count + length piece))
-
-split-number : (place : List ℕ) (r : ReadOf) → ending_number (split_by place r).ending ≡ number_by r
-split-number place (refused_read why) = refl
-split-number place (read_to o) = refl
-
-whole-number : (place : ℕ) (r : ReadOf) → ending_number (whole_by place r).ending ≡ number_by r
-whole-number place (refused_read why) = refl
-whole-number place (read_to o) = refl
 
 -- SO FOR EACH CALL, in its own answer: 15, with nothing returned, exactly if a state is not below the s of its table; 14 exactly if each is, and the bytes
 -- taken and the piece pass 4,294,967,295
@@ -106,7 +97,7 @@ module _ (first second place : List ℕ) (count : ℕ) (piece : Word) (len : ℕ
   pub split_refusals : ending_number split_ending ≡ first_of
       (read_grounds (place_below split_layout (slots_in 1 8 (length first) ∷ slots_in 1 8 (length second) ∷ []) place) (ltb 4294967295 (count + length piece)))
   unfolding slots_over
-  split_refusals = split-number place split_read ∙ read_refusals split_layout tables place count piece len
+  split_refusals = answer-number (λ p. p) place split_read ∙ read_refusals split_layout tables place count piece len
 
 -- in the whole-byte layout, whose place is one state
 module _ (table : List ℕ) (place count : ℕ) (piece : Word) (len : ℕ) where
@@ -154,5 +145,5 @@ module _ (table : List ℕ) (place count : ℕ) (piece : Word) (len : ℕ) where
   pub whole_refusals : ending_number whole_ending ≡ first_of (read_grounds (ltb place (slots_in 8 1 (length table))) (ltb 4294967295 (count + length piece)))
   unfolding slots_over
   whole_refusals =
-      whole-number place whole_read ∙ read_refusals whole_layout (table ∷ []) (place ∷ []) count piece len
+      answer-number (λ p. get_or p 0 0) place whole_read ∙ read_refusals whole_layout (table ∷ []) (place ∷ []) count piece len
       ∙ ap (λ (b : Bool). first_of (read_grounds b (ltb 4294967295 (count + length piece)))) (whole_below (slots_in 8 1 (length table)) place)

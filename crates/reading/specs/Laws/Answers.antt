@@ -1,5 +1,5 @@
 -- What comes before the loop and after it.
-use Rattle.std.specs.Prelude.{◌+◌, ◌-◌, ◌/◌, ◌<◌, ◌≤◌, suc, ℕ, Bool, ◌&&◌, false, true, List, [], ◌++◌, ◌∷◌, ◌⊎◌, ◌≡◌, ltb, drop, length, replicate, take}
+use Rattle.std.specs.Prelude.{Ok, ◌+◌, ◌-◌, ◌/◌, ◌<◌, ◌≤◌, suc, ℕ, Bool, ◌&&◌, false, true, List, [], ◌++◌, ◌∷◌, ◌⊎◌, ◌≡◌, ltb, drop, length, replicate, take}
 use Rattle.std.proofs.Common.{inl, inr, ◌∙◌, sym, arith, length-drop, get_or-append-add, get_or-drop, get_or-take, length-take-le, lt-ltb, ltb-false, ltb-true}
 use Rattle.std.proofs.Math.Path.{refl, subst}
 use Rattle.std.proofs.Math.Decide.{dec_lt}
@@ -10,19 +10,17 @@ use Rattle.matching.proofs.Laws.Parts.{kept_in, one-part-read}
 use Rattle.matching.specs.Laws.Stepping.{went}
 use Rattle.matching.specs.Limits.{most_slots}
 use Rattle.matching.specs.Parts.{Layout, Part, Runs, lengths, part, place_below, read_in, slots_over, whole_layout, width}
-use Rattle.matching.specs.Reading.{Outcome, all_below, read}
+use Rattle.matching.specs.Reading.{all_below, read}
 use Rattle.matching.specs.Table.{slots_in}
 use Rattle.matching.specs.Refusal.{first_of}
 use Rattle.matching.specs.Stepping.{OutcomeOf}
 use Rattle.passing.specs.Laws.Below.{below_get}
-use Rattle.reading.specs.Outside.{ReadOf, list_by, own_slots, read_by, read_number, read_of, read_to, refused_read, split_by, whole_by}
+use Rattle.reading.specs.Outside.{ReadAt, answer_by, list_by, own_slots, read_by, read_number, read_of, read_to, refused_read}
 use Rattle.reading.specs.Refusals.{read_grounds}
-use Rattle.reading.specs.Walks.{list_of, went_of, went_one_of}
-use Rattle.reading.specs.declared.Ending.TheVariants.{Stopped}
+use Rattle.reading.specs.Walks.{list_of, went_by}
 use Rattle.reading.specs.declared.ReadRefusal.{ReadRefusal}
 use Rattle.reading.specs.declared.ReadRefusal.TheVariants.{Long, Place}
-use Rattle.reading.specs.declared.split.Went.{Went}
-use Rattle.reading.specs.declared.walks.WentOne.{WentOne}
+use Rattle.reading.specs.declared.went.Went.{Went}
 
 -- the sum passes the largest count exactly if the piece is longer than what is left of it
 pub long_same : (count len : ℕ) → count ≤ 4294967295 → ltb (4294967295 - count) len ≡ ltb 4294967295 (count + len)
@@ -210,11 +208,7 @@ states-fit layout runs place count room piece w b i l =
       own-few layout (lengths runs) i,
     )
 
-pub split-read : (r : ReadOf) (o : Outcome) (place : List ℕ) (went : Went) (at l l' : List ℕ) → r ≡ read_to o → went ≡ went_of o → at ≡ went.place
-    → l' ≡ list_of l o
-    → (record { taken = went.taken; place = at; records = went.records; ending = Stopped went.stop } ≡ split_by place r) × (l' ≡ list_by l r)
-split-read r o place went at l l' er ew ea el = rw (er, ea, ew, el) (refl, refl)
-
-pub whole-read : (r : ReadOf) (o : Outcome) (place : ℕ) (went : WentOne) (l l' : List ℕ) → r ≡ read_to o → went ≡ went_one_of o → l' ≡ list_of l o
-    → (record { taken = went.taken; place = went.state; records = went.records; ending = Stopped went.stop } ≡ whole_by place r) × (l' ≡ list_by l r)
-whole-read r o place went l l' er ew el = rw (er, ew, el) (refl, refl)
+pub answer-read : {P Q : Type 0} (at : P → Q) (place : Q) (r : ReadAt P) (o : OutcomeOf P) (went : Went Q) (here : Q) (l l' : List ℕ)
+    → r ≡ read_to o → went ≡ went_by at o → here ≡ went.place → l' ≡ list_of l o
+    → (record { taken = went.taken; place = here; records = went.records; ending = Ok went.stop } ≡ answer_by at place r) × (l' ≡ list_by l r)
+answer-read at place r o went here l l' er ew eh el = rw (er, eh, ew, el) (refl, refl)

@@ -25,7 +25,7 @@ use Rattle.reading.specs.Laws.Walks.{Ended, by_all, by-block, by-long, by-start,
 use Rattle.reading.specs.Noted.{WroteTo}
 use Rattle.reading.specs.Walks.{BlockRead, BlockTells, Blockwise, GoingBy}
 use Rattle.reading.specs.declared.noted.Wrote.{Wrote}
-use Rattle.reading.specs.declared.split.Went.{Went}
+use Rattle.reading.specs.declared.went.Went.{Went}
 
 module _ (step : Step (List ℕ)) (p : List ℕ) (w : Word) (e : ℕ) (q : List ℕ) (rows : List (List ℕ)) (came : Came step p w e q rows)
     (count : ℕ) (l₀ l : List ℕ) (from : ℕ) (r : Wrote) (wrote : WroteTo rows count l₀ l from r) where
@@ -134,7 +134,7 @@ module _ (runs : Runs) (slots : List ℕ) (awake : List Bool) (starts : List ℕ
     blockwise_end = by_all step count piece l₀ start l place w i g.going
 
     -- one block, which begins at byte i and ends before byte `to`
-    module _ (to : ℕ) (low : i ≤ to) (most : to ≤ length piece) (r : Went) (l' hits' : List ℕ)
+    module _ (to : ℕ) (low : i ≤ to) (most : to ≤ length piece) (r : Went (List ℕ)) (l' hits' : List ℕ)
         (b : BlockRead r w l l' hits' (read_in split_layout runs place (count + i) (length l / 2 - w) (take (to - i) (drop i piece)))) where
       abbrev outcome : Outcome
       outcome = read_in split_layout runs place (count + i) (length l / 2 - w) (take (to - i) (drop i piece))
@@ -150,10 +150,10 @@ module _ (runs : Runs) (slots : List ℕ) (awake : List Bool) (starts : List ℕ
       did = went step (take (to - i) (drop i piece)) place (count + i) (length l / 2 - w)
 
       same_taken : r.taken ≡ outcome.taken
-      same_taken = ap (λ (x : Went). x.taken) b.tells.0
+      same_taken = ap (λ (x : Went (List ℕ)). x.taken) b.tells.0
 
       same_stop : r.stop ≡ outcome.stop
-      same_stop = ap (λ (x : Went). x.stop) b.tells.0
+      same_stop = ap (λ (x : Went (List ℕ)). x.stop) b.tells.0
 
       pub blockwise_part : r.taken ≤ to - i
       blockwise_part = omega (arith, same_taken, did.part, sized)
@@ -164,9 +164,9 @@ module _ (runs : Runs) (slots : List ℕ) (awake : List Bool) (starts : List ℕ
       pub blockwise_more : r.stop ≡ All → Blockwise runs slots awake starts count piece l₀ start l' hits' r.place r.records (i + r.taken)
       unfolding read_in
       blockwise_more e = record {
-        going = subst (λ (x : Went). GoingBy step count piece l₀ start l' x.place x.records (i + x.taken)) (sym b.tells.0)
+        going = subst (λ (x : Went (List ℕ)). GoingBy step count piece l₀ start l' x.place x.records (i + x.taken)) (sym b.tells.0)
             (by-block step count piece l₀ start l place w i g.going (to - i) inner outcome refl l' b.tells.1 (sym same_stop ∙ e));
-        fits = subst (Fits split_layout runs slots awake starts) (sym (ap (λ (x : Went). x.place) b.tells.0))
+        fits = subst (Fits split_layout runs slots awake starts) (sym (ap (λ (x : Went (List ℕ)). x.place) b.tells.0))
             (fits_read split_layout runs slots awake starts place (count + i) (length l / 2 - w) (take (to - i) (drop i piece)) g.fits);
         forgets = b.forgets e;
       }
@@ -175,7 +175,7 @@ module _ (runs : Runs) (slots : List ℕ) (awake : List Bool) (starts : List ℕ
           → Ended (read_in split_layout runs start count (length l₀ / 2) piece) l₀ l' r.place r.stop r.records (i + r.taken)
       unfolding read_in
       blockwise_stops h =
-          subst (λ (x : Went). Ended (read_in split_layout runs start count (length l₀ / 2) piece) l₀ l' x.place x.stop x.records (i + x.taken))
+          subst (λ (x : Went (List ℕ)). Ended (read_in split_layout runs start count (length l₀ / 2) piece) l₀ l' x.place x.stop x.records (i + x.taken))
           (sym b.tells.0)
           (by-stopped step count piece l₀ start l place w i g.going (to - i) inner outcome refl l' b.tells.1 (λ e. h (same_stop ∙ e)))
 

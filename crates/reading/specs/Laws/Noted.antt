@@ -1,5 +1,5 @@
 -- The records of a block, row by row.
-use Rattle.std.specs.Prelude.{◌*◌, ◌+◌, ◌-◌, ◌/◌, ◌<◌, ◌≤◌, suc, ℕ, false, ◌≡◌, get_or, length, replicate}
+use Rattle.std.specs.Prelude.{None, Some, ◌*◌, ◌+◌, ◌-◌, ◌/◌, ◌<◌, ◌≤◌, suc, ℕ, false, ◌≡◌, get_or, length, replicate}
 use Rattle.std.proofs.Common.{zero-le, ◌∙◌, add-zero, add-one, arith, length-append, length-take-le, take-suc, leb-false, leb-true}
 use mathlib.Core.List.{List, [], ◌++◌}
 use Rattle.std.proofs.Math.Path.{ap, refl, sym}
@@ -18,7 +18,6 @@ use Rattle.blocks.specs.Running.{records_of}
 use Rattle.reading.specs.Laws.Records.{flat_append, flat-length, none_of, sets_append, written_of}
 use Rattle.reading.specs.Noted.{Writing, WroteTo}
 use Rattle.reading.specs.Records.{emit_of, emitted, fits_in}
-use Rattle.reading.specs.declared.records.Emit.TheVariants.{NoRoom, Written}
 
 module _ (rows : List (List ℕ)) (count : ℕ) (l₀ : List ℕ) (from : ℕ) where
   pub writing_start : 2 * from ≤ length l₀ → Writing rows count l₀ l₀ from from 0
@@ -45,7 +44,7 @@ module _ (rows : List (List ℕ)) (count : ℕ) (l₀ : List ℕ) (from : ℕ) w
       abbrev tags : List ℕ
       tags = get_or rows i []
 
-      pub writing_more : (x : ℕ) → Written x ≡ emit_of l w tags → (l' : List ℕ) → l' ≡ emitted l w (count + i + 1) tags
+      pub writing_more : (x : ℕ) → Some x ≡ emit_of l w tags → (l' : List ℕ) → l' ≡ emitted l w (count + i + 1) tags
           → Writing rows count l₀ l' from x (i + 1)
       writing_more x some l' el =
           let f = written_of _ _ _ some in
@@ -64,7 +63,7 @@ module _ (rows : List (List ℕ)) (count : ℕ) (l₀ : List ℕ) (from : ℕ) w
             list = el ∙ rw (f.0, e, at, g.list, all, flat_append done new) (sym (sets_append l₀ (flat done) (flat new) (2 * from)));
           }
 
-      pub writing-full : NoRoom ≡ emit_of l w tags → (l' : List ℕ) → l' ≡ emitted l w (count + i + 1) tags
+      pub writing-full : None ≡ emit_of l w tags → (l' : List ℕ) → l' ≡ emitted l w (count + i + 1) tags
           → WroteTo rows count l₀ l' from (record { at = i; records = w })
       writing-full none l' el =
           let b : fits_in l w tags ≡ false = none_of _ _ none in
@@ -94,11 +93,11 @@ module _ (hits : List ℕ) (end : ℕ) (long : length hits ≡ 256) (few : end �
       row : get_or noted i [] ≡ ones_of 0 16 (get_or hits i 0)
       row = rows_at end hits i less (omega (arith, long))
 
-      pub noted_more : (x : ℕ) → Written x ≡ emit_of l w (ones_of 0 16 (get_or hits i 0)) → (l' : List ℕ)
+      pub noted_more : (x : ℕ) → Some x ≡ emit_of l w (ones_of 0 16 (get_or hits i 0)) → (l' : List ℕ)
           → l' ≡ emitted l w (count + i + 1) (ones_of 0 16 (get_or hits i 0)) → Writing noted count l₀ l' from x (i + 1)
       noted_more x some l' el = writing_more noted count l₀ from l w i g inside x (rw row some) l' (rw row el)
 
-      pub noted-full : NoRoom ≡ emit_of l w (ones_of 0 16 (get_or hits i 0)) → (l' : List ℕ) → l' ≡ emitted l w (count + i + 1) (ones_of 0 16 (get_or hits i 0))
+      pub noted-full : None ≡ emit_of l w (ones_of 0 16 (get_or hits i 0)) → (l' : List ℕ) → l' ≡ emitted l w (count + i + 1) (ones_of 0 16 (get_or hits i 0))
           → WroteTo noted count l₀ l' from (record { at = i; records = w })
       noted-full none l' el = writing-full noted count l₀ from l w i g inside (rw row none) l' (rw row el)
 

@@ -1,6 +1,6 @@
 -- What a read outside the desk promises, over ANY tables, place, count, piece and list.
 use Prim.Native.Nat.{◌*◌, ◌+◌, ◌-◌, ◌/◌, ◌<◌, ◌≤◌, zero-le, ℕ}
-use Rattle.std.specs.Prelude.{Bool, false, true, ◌↔◌, ◌⊎◌, ltb}
+use Rattle.std.specs.Prelude.{Err, Ok, Bool, false, true, ◌↔◌, ◌⊎◌, ltb}
 use mathlib.Core.List.{List, [], ◌++◌, ◌∷◌}
 use Rattle.std.proofs.Common.{inl, inr, ◌∙◌, sym, length-append, length-drop, get_or-append-add, get_or-drop, ltb-false, ltb-true}
 use Rattle.std.proofs.Math.Path.{◌≡◌, ap, refl}
@@ -19,10 +19,8 @@ use Rattle.matching.specs.declared.Stop.{Stop}
 use Rattle.matching.specs.declared.Stop.TheVariants.{All}
 use Rattle.reading.specs.Laws.Answers.{NoState, States, below_all, below-not, read_goes, read-long, read-place}
 use Rattle.reading.specs.Laws.Records.{flat-length}
-use Rattle.reading.specs.Outside.{ReadAt, ReadOf, list_by, own_slots, read_by, read_number, read_of, read_to, refused_read, slots_for, split_by, whole_by}
-use Rattle.reading.specs.Refusals.{RefusedWith, read_grounds}
-use Rattle.reading.specs.declared.Ending.{Ending}
-use Rattle.reading.specs.declared.Ending.TheVariants.{Refused, Stopped}
+use Rattle.reading.specs.Outside.{Ending, ReadAt, ReadOf, answer_by, list_by, own_slots, read_by, read_number, read_of, read_to, refused_read, slots_for, split_by, whole_by}
+use Rattle.reading.specs.Refusals.{RefusedWith, ending_number, read_grounds}
 use Rattle.reading.specs.declared.ReadRefusal.{ReadRefusal}
 use Rattle.reading.specs.declared.ReadRefusal.TheVariants.{Long, Place}
 
@@ -131,18 +129,27 @@ by_grounds r true true = refl
 by_grounds r true false = refl
 
 -- the answers name the refusal
-pub split-refused : (place : List ℕ) (r : ReadOf) (why : ReadRefusal) → ((split_by place r).ending ≡ Refused why) ↔ (r ≡ refused_read why)
-split-refused place (refused_read w) why = (λ e. cc, λ e. cc)
-split-refused place (read_to o) why = (λ e. let z : ◌≡◌ {A = ℕ} 0 1 = cc in absurd (omega arith), λ e. let z : ◌≡◌ {A = ℕ} 0 1 = cc in absurd (omega arith))
+pub answer-refused : {P Q : Type 0} (at : P → Q) (place : Q) (r : ReadAt P) (why : ReadRefusal)
+    → ((answer_by at place r).ending ≡ Err why) ↔ (r ≡ refused_read why)
+answer-refused at place (refused_read w) why = (λ e. cc, λ e. cc)
+answer-refused at place (read_to o) why =
+    (λ e. let z : ◌≡◌ {A = ℕ} 0 1 = cc in absurd (omega arith), λ e. let z : ◌≡◌ {A = ℕ} 0 1 = cc in absurd (omega arith))
 
-pub whole-refused : (place : ℕ) (r : ReadOf) (why : ReadRefusal) → ((whole_by place r).ending ≡ Refused why) ↔ (r ≡ refused_read why)
-whole-refused place (refused_read w) why = (λ e. cc, λ e. cc)
-whole-refused place (read_to o) why = (λ e. let z : ◌≡◌ {A = ℕ} 0 1 = cc in absurd (omega arith), λ e. let z : ◌≡◌ {A = ℕ} 0 1 = cc in absurd (omega arith))
+pub split-refused : (place : List ℕ) (r : ReadOf) (why : ReadRefusal) → ((split_by place r).ending ≡ Err why) ↔ (r ≡ refused_read why)
+split-refused = answer-refused (λ p. p)
+
+pub whole-refused : (place : ℕ) (r : ReadOf) (why : ReadRefusal) → ((whole_by place r).ending ≡ Err why) ↔ (r ≡ refused_read why)
+whole-refused = answer-refused (λ p. get_or p 0 0)
+
+-- and their number is that of the read
+pub answer-number : {P Q : Type 0} (at : P → Q) (place : Q) (r : ReadAt P) → ending_number (answer_by at place r).ending ≡ number_by r
+answer-number at place (refused_read why) = refl
+answer-number at place (read_to o) = refl
 
 -- a number is one refusal's
-pub by_number : (why : ReadRefusal) (ending : Ending) → RefusedWith ending (read_number why) [] ↔ (ending ≡ Refused why)
+pub by_number : (why : ReadRefusal) (ending : Ending) → RefusedWith ending (read_number why) [] ↔ (ending ≡ Err why)
 by_number why ending =
-    (λ w. w.refused ∙ ap Refused (same w.why why w.number_is), λ e. record { why = why; refused = e; number_is = refl; values_are = refl })
+    (λ w. w.refused ∙ ap Err (same w.why why w.number_is), λ e. record { why = why; refused = e; number_is = refl; values_are = refl })
   where
     same : (a b : ReadRefusal) → read_number a ≡ read_number b → a ≡ b
     same Place Place e = refl
@@ -166,8 +173,8 @@ records_by (refused_read why) = 0
 records_by (read_to r) = length r.found
 
 abbrev pub ending_by : {P : Type 0} → ReadAt P → Ending
-ending_by (refused_read why) = Refused why
-ending_by (read_to r) = Stopped r.stop
+ending_by (refused_read why) = Err why
+ending_by (read_to r) = Ok r.stop
 
 pub split-is : (place : List ℕ) (r : ReadOf) → split_by place r
     ≡ record { taken = taken_by r; place = place_by place r; records = records_by r; ending = ending_by r }
@@ -186,7 +193,7 @@ pub record KeptBy {P : Type 0} (place : P) (piece : Word) (list : List ℕ) (r :
   pub long : length (list_by list r) ≡ length list
   pub unused : (i : ℕ) → 2 * records_by r ≤ i → get_or (list_by list r) i 0 ≡ get_or list i 0
   pub idle : taken_by r ≡ 0 → (place_by place r ≡ place) × (records_by r ≡ 0) × (list_by list r ≡ list)
-  pub whole : (ending_by r ≡ Stopped All) → taken_by r ≡ length piece
+  pub whole : (ending_by r ≡ Ok All) → taken_by r ≡ length piece
 
 behind : (xs l : List ℕ) (i : ℕ) → length xs ≤ i → length xs ≤ length l → get_or (xs ++ drop (length xs) l) i 0 ≡ get_or l i 0
 behind xs l i h fits =
@@ -225,7 +232,7 @@ module _ {P : Type 0} (place : P) (piece : Word) (list : List ℕ) where
         none [] l e = refl
         none (x ∷ os) l e = let z : ◌≡◌ {A = ℕ} 0 1 = cc in absurd (omega arith)
 
-        stopped-is : (a b : Stop) → Stopped a ≡ Stopped b → a ≡ b
+        stopped-is : (a b : Stop) → ◌≡◌ {A = Ending} (Ok a) (Ok b) → a ≡ b
         stopped-is a b e = cc
 
     -- by any step, refused or not

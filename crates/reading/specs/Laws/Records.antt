@@ -1,5 +1,5 @@
 -- Writing a byte's records.
-use Rattle.std.specs.Prelude.{◌%◌, ◌*◌, ◌+◌, ◌-◌, ◌/◌, ◌<◌, ◌≤◌, suc, zero, ℕ, Bool, cond, false, true, ◌⊎◌, ◌≡◌, refl, set}
+use Rattle.std.specs.Prelude.{None, Some, ◌%◌, ◌*◌, ◌+◌, ◌-◌, ◌/◌, ◌<◌, ◌≤◌, suc, zero, ℕ, Bool, cond, false, true, ◌⊎◌, ◌≡◌, refl, set}
 use Rattle.std.proofs.Common.{zero-le, inl, inr, ◌∙◌, add-suc, add-zero, suc-add, add-one, arith, length-append, le-leb}
 use mathlib.Core.List.{List, [], ◌++◌, ◌∷◌}
 use Rattle.std.proofs.Math.Path.{ap}
@@ -13,7 +13,6 @@ use Rattle.matching.specs.Occurrence.{Occurrence, flat, occur_at}
 use Rattle.matching.specs.Reading.{ones_of}
 use Rattle.passing.specs.Laws.Passing.{ones_none}
 use Rattle.reading.specs.Records.{emit_by, emit_of, emitted, fits_in, tag_if}
-use Rattle.reading.specs.declared.records.Emit.TheVariants.{NoRoom, Written}
 
 pub tag-none : (bit tag : ℕ) → bit ≡ 0 → tag_if bit tag ≡ []
 tag-none bit tag e = rw e
@@ -112,13 +111,13 @@ module _ (l₀ : List ℕ) (from e hits : ℕ) where
 
 module _ (l : List ℕ) (w e hits : ℕ) where
   pub emit_room : length (ones_of 0 16 hits) ≤ length l / 2 - w → (w' : ℕ) (l' : List ℕ) → w' ≡ w + length (ones_of 0 16 hits)
-      → l' ≡ sets l (2 * w) (flat (occur_at e (ones_of 0 16 hits))) → (Written w' ≡ emit_of l w (ones_of 0 16 hits)) × (l' ≡ emitted l w e (ones_of 0 16 hits))
+      → l' ≡ sets l (2 * w) (flat (occur_at e (ones_of 0 16 hits))) → (Some w' ≡ emit_of l w (ones_of 0 16 hits)) × (l' ≡ emitted l w e (ones_of 0 16 hits))
   emit_room r w' l' ew el = (rw (le-leb _ _ r, ew), rw (le-leb _ _ r, el))
 
-  pub emit_none : length l / 2 - w < length (ones_of 0 16 hits) → (NoRoom ≡ emit_of l w (ones_of 0 16 hits)) × (l ≡ emitted l w e (ones_of 0 16 hits))
+  pub emit_none : length l / 2 - w < length (ones_of 0 16 hits) → (None ≡ emit_of l w (ones_of 0 16 hits)) × (l ≡ emitted l w e (ones_of 0 16 hits))
   emit_none r = (rw (lt-leb _ _ r), rw (lt-leb _ _ r))
 
-  pub emit_zero : hits ≡ 0 → (Written w ≡ emit_of l w (ones_of 0 16 hits)) × (l ≡ emitted l w e (ones_of 0 16 hits))
+  pub emit_zero : hits ≡ 0 → (Some w ≡ emit_of l w (ones_of 0 16 hits)) × (l ≡ emitted l w e (ones_of 0 16 hits))
   unfolding flat occur_at
   emit_zero z =
       let n : ones_of 0 16 hits ≡ [] = rw z (ones_none 0 16) in
@@ -126,11 +125,11 @@ module _ (l : List ℕ) (w e hits : ℕ) where
 
 -- ---- what put_all answered
 
-pub written_of : (b : Bool) (x y : ℕ) → Written x ≡ emit_by b y → (b ≡ true) × (x ≡ y)
+pub written_of : (b : Bool) (x y : ℕ) → Some x ≡ emit_by b y → (b ≡ true) × (x ≡ y)
 written_of true x y e = (refl, cc)
 written_of false x y e = let z : ◌≡◌ {A = ℕ} 0 1 = cc in absurd (omega arith)
 
-pub none_of : (b : Bool) (y : ℕ) → NoRoom ≡ emit_by b y → b ≡ false
+pub none_of : (b : Bool) (y : ℕ) → None ≡ emit_by b y → b ≡ false
 none_of true y e = let z : ◌≡◌ {A = ℕ} 0 1 = cc in absurd (omega arith)
 none_of false y e = refl
 

@@ -1,5 +1,5 @@
 -- The loop over a piece: what a byte does to what is left, and how it ends.
-use Rattle.std.specs.Prelude.{◌*◌, ◌+◌, ◌-◌, ◌/◌, ◌<◌, ◌≤◌, suc, ℕ, false, true, ◌≡◌, refl, leb, drop, get_or, take}
+use Rattle.std.specs.Prelude.{None, Some, ◌*◌, ◌+◌, ◌-◌, ◌/◌, ◌<◌, ◌≤◌, suc, ℕ, false, true, ◌≡◌, refl, leb, drop, get_or, take}
 use Rattle.std.proofs.Common.{zero-le, ◌∙◌, subst, add-one, drop_of_length-le, length-append, length-drop, take-append-drop, drop-cons, drop-drop, length-take-le, le-ltb, leb-true}
 use mathlib.Core.List.{List, [], ◌++◌, ◌∷◌, append_assoc, append-nil}
 use Rattle.std.proofs.Math.Path.{ap, sym}
@@ -25,7 +25,6 @@ use Rattle.passing.specs.Quiet.{Passes, PassesBy, ahead}
 use Rattle.reading.specs.Laws.Records.{flat_append, flat-length, none_of, written_of}
 use Rattle.reading.specs.Records.{emit_of, emitted, fits_in}
 use Rattle.reading.specs.Walks.{Going, GoingBy, list_of, went_of, went_one_of}
-use Rattle.reading.specs.declared.records.Emit.TheVariants.{NoRoom, Written}
 
 -- ---- the list
 
@@ -204,14 +203,14 @@ module _ {P : Type 0} (step : Step P) (count : ℕ) (piece l₀ : List ℕ) (sta
 
       -- it leads to a next place, with these tags
       module _ (next : P) (tags : List ℕ) (goes : step place c ≡ goes_to next tags) where
-        pub by-full : NoRoom ≡ emit_of l w tags → (l' : List ℕ) → l' ≡ emitted l w (count + i + 1) tags → Ended all l₀ l' place Full w i
+        pub by-full : None ≡ emit_of l w tags → (l' : List ℕ) → l' ≡ emitted l w (count + i + 1) tags → Ended all l₀ l' place Full w i
         by-full none l' el =
             let b : fits_in l w tags ≡ false = none_of _ _ none in
             let same : l' ≡ l = el ∙ rw b in
             let full : leb (length tags) (length l₀ / 2 - w) ≡ false = rw (← by-long) b in
             rw same (ended Full (rw front (read_by-full step place (count + i) (length l₀ / 2 - w) c rest next tags goes full)))
 
-        pub by-took : (x : ℕ) → Written x ≡ emit_of l w tags → (l' : List ℕ) → l' ≡ emitted l w (count + i + 1) tags
+        pub by-took : (x : ℕ) → Some x ≡ emit_of l w tags → (l' : List ℕ) → l' ≡ emitted l w (count + i + 1) tags
             → GoingBy step count piece l₀ start l' next x (i + 1)
         by-took x some l' el =
             let f = written_of _ _ _ some in
@@ -271,11 +270,11 @@ module _ (n s : ℕ) (table : List ℕ) (count : ℕ) (piece l₀ start : List �
         unfolding flagged
         leads = table_step-goes n s table place (get_or piece i 0) (rw moves at below) ∙ rw (← moves, ← vector)
 
-        pub going-full : NoRoom ≡ emit_of l w tags → (l' : List ℕ) → l' ≡ emitted l w (count + i + 1) tags → Ended whole l₀ l' place Full w i
+        pub going-full : None ≡ emit_of l w tags → (l' : List ℕ) → l' ≡ emitted l w (count + i + 1) tags → Ended whole l₀ l' place Full w i
         unfolding read
         going-full = by-full step count piece l₀ start l place w i g.going less next tags leads
 
-        pub going-took : (x : ℕ) → Written x ≡ emit_of l w tags → (l' : List ℕ) → l' ≡ emitted l w (count + i + 1) tags
+        pub going-took : (x : ℕ) → Some x ≡ emit_of l w tags → (l' : List ℕ) → l' ≡ emitted l w (count + i + 1) tags
             → Going n s table count piece l₀ start l' next x (i + 1)
         going-took x some l' el = record {
           going = by-took step count piece l₀ start l place w i g.going less next tags leads x some l' el;
@@ -295,7 +294,7 @@ split_right o l₀ l place why w i e = (rw (e.taken, e.place_is, e.stop, e.recor
 module _ (s : ℕ) (table : List ℕ) (count : ℕ) (piece l₀ : List ℕ) (start : ℕ) where
   abbrev WholeRight : List ℕ → ℕ → Stop → ℕ → ℕ → Type 0
   WholeRight l q why w i =
-      (record { taken = i; state = q; records = w; stop = why } ≡ went_one_of (read 8 s table (start ∷ []) count (length l₀ / 2) piece))
+      (record { taken = i; place = q; records = w; stop = why } ≡ went_one_of (read 8 s table (start ∷ []) count (length l₀ / 2) piece))
       × (l ≡ list_of l₀ (read 8 s table (start ∷ []) count (length l₀ / 2) piece))
 
   right_one : (l : List ℕ) (q : ℕ) (why : Stop) (w i : ℕ) → Ended (read 8 s table (start ∷ []) count (length l₀ / 2) piece) l₀ l (q ∷ []) why w i
@@ -316,13 +315,13 @@ module _ (s : ℕ) (table : List ℕ) (count : ℕ) (piece l₀ : List ℕ) (sta
           right_one l q Damaged w i (going_damaged 8 s table count piece l₀ (start ∷ []) l (q ∷ []) w i g less (n ∷ []) moves (rw (le-ltb n s h)))
 
       module _ (below : n < s) (hits : ℕ) (vector : anded 65535 (vectors_at 8 s table 0 (n ∷ [])) ≡ hits) where
-        pub whole-full : NoRoom ≡ emit_of l w (ones_of 0 16 hits) → (l' : List ℕ) → l' ≡ emitted l w (count + i + 1) (ones_of 0 16 hits)
+        pub whole-full : None ≡ emit_of l w (ones_of 0 16 hits) → (l' : List ℕ) → l' ≡ emitted l w (count + i + 1) (ones_of 0 16 hits)
             → WholeRight l' q Full w i
         whole-full none l' el =
             right_one l' q Full w i
             (going-full 8 s table count piece l₀ (start ∷ []) l (q ∷ []) w i g less (n ∷ []) moves (below_one s n below) hits (sym vector) none l' el)
 
-        pub whole-took : (x : ℕ) → Written x ≡ emit_of l w (ones_of 0 16 hits) → (l' : List ℕ) → l' ≡ emitted l w (count + i + 1) (ones_of 0 16 hits)
+        pub whole-took : (x : ℕ) → Some x ≡ emit_of l w (ones_of 0 16 hits) → (l' : List ℕ) → l' ≡ emitted l w (count + i + 1) (ones_of 0 16 hits)
             → Going 8 s table count piece l₀ (start ∷ []) l' (n ∷ []) x (i + 1)
         whole-took x some l' el =
             going-took 8 s table count piece l₀ (start ∷ []) l (q ∷ []) w i g less (n ∷ []) moves (below_one s n below) hits (sym vector) x some l' el

@@ -16,7 +16,7 @@ returns-in_default c =
     let l = c.loop-i in
     map_damaged a.s a.table.now a.count a.piece.now a.list.now a.start l.list l.q l.w l.i l.moves l.invariant
     c.loop-i-test.true (sym c.next_state.ensures ∙ c.in_default.is) _
-    c.stopped_at.ensures
+    (rw c.standing.ensures at c.stopped.ensures)
 
 pub vector_of-hits-requires : goal.vector_of-hits-requires
 vector_of-hits-requires c =
@@ -33,7 +33,8 @@ returns-in_default-put_all c =
     c.loop-i-test.true _ _
     (sym c.next_state.ensures ∙ c.in-To.is) c.vector_of-hits.result c.vector_of-hits.ensures
     (sym c.in_default-put_all.is ∙ c.put_all.ensures.0)
-    c.put_all.new.list c.put_all.ensures.1 _ c.stopped_at-in_default-put_all.ensures
+    c.put_all.new.list c.put_all.ensures.1 _
+    (rw c.standing-in_default-put_all.ensures at c.stopped-in_default-put_all.ensures)
 
 pub overflow_add-moves : goal.overflow_add-moves
 overflow_add-moves c =
@@ -49,7 +50,7 @@ pass-p-requires c =
     let taken =
     map-took c.args.s c.args.table.now c.args.count c.args.piece.now c.args.list.now c.args.start c.loop-i.list c.loop-i.q c.loop-i.w
     c.loop-i.i c.loop-i.moves c.loop-i.invariant c.loop-i-test.true _ _ (sym c.next_state.ensures ∙ c.in-To.is)
-    c.vector_of-hits.result c.vector_of-hits.ensures c.requires.1.0 _ (sym c.in-Written.is ∙ c.put_all.ensures.0) _ c.put_all.ensures.1 in
+    c.vector_of-hits.result c.vector_of-hits.ensures c.requires.1.0 _ (sym c.in-Some.is ∙ c.put_all.ensures.0) _ c.put_all.ensures.1 in
     record {
       s_in_bounds = (c.requires.0, (taken.below, (c.requires.1.0, c.row_for-row.ensures)));
       from_in_bounds = (taken.going.most, (omega (arith, c.requires.1.1.1), taken.few));
@@ -61,7 +62,7 @@ loop-i-preserved-then-is_quiet c =
     let taken =
     map-took c.args.s c.args.table.now c.args.count c.args.piece.now c.args.list.now c.args.start c.loop-i.list c.loop-i.q c.loop-i.w
     c.loop-i.i c.loop-i.moves c.loop-i.invariant c.loop-i-test.true _ _ (sym c.next_state.ensures ∙ c.in-To.is)
-    c.vector_of-hits.result c.vector_of-hits.ensures c.requires.1.0 _ (sym c.in-Written.is ∙ c.put_all.ensures.0) _ c.put_all.ensures.1 in
+    c.vector_of-hits.result c.vector_of-hits.ensures c.requires.1.0 _ (sym c.in-Some.is ∙ c.put_all.ensures.0) _ c.put_all.ensures.1 in
     let a = c.args in
     map-pass a.s a.table.now a.count a.piece.now a.list.now a.start _ _ _ _ _ taken
     c.pass-p.result c.pass-p.ensures
@@ -72,7 +73,7 @@ loop-i-preserved c =
     let taken =
     map-took c.args.s c.args.table.now c.args.count c.args.piece.now c.args.list.now c.args.start c.loop-i.list c.loop-i.q c.loop-i.w
     c.loop-i.i c.loop-i.moves c.loop-i.invariant c.loop-i-test.true _ _ (sym c.next_state.ensures ∙ c.in-To.is)
-    c.vector_of-hits.result c.vector_of-hits.ensures c.requires.1.0 _ (sym c.in-Written.is ∙ c.put_all.ensures.0) _ c.put_all.ensures.1 in
+    c.vector_of-hits.result c.vector_of-hits.ensures c.requires.1.0 _ (sym c.in-Some.is ∙ c.put_all.ensures.0) _ c.put_all.ensures.1 in
     taken
 
 pub returns : goal.returns
@@ -80,4 +81,4 @@ returns c =
     let a = c.args in
     let l = c.loop-i in
     map-all a.s a.table.now a.count a.piece.now a.list.now a.start l.list l.q l.w l.i l.moves l.invariant
-    c.loop-i-test.false _ c.stopped_at-2.ensures
+    c.loop-i-test.false _ (rw c.standing-2.ensures at c.stopped-2.ensures)

@@ -14,21 +14,21 @@ pub append-records-requires : goal.append-records-requires
 append-records-requires c =
     let a = c.args in
     let w = on-stopped a.desk a.i a.t (lent a.first.now a.second.now) a.piece.now c.requires.1 _
-    c.saturating_sub-room.ensures c.read_for-scan.result c.read_for-scan.ensures _ c.in-Stopped.is in
+    c.saturating_sub-room.ensures c.read_for-scan.result c.read_for-scan.ensures _ c.in-Ok.is in
     (w.fits, omega (arith, w.fits, c.read_for-scan.ensures.long))
 
 pub overflow_cast-fed : goal.overflow_cast-fed
 overflow_cast-fed c =
     let a = c.args in
     let w = on-stopped a.desk a.i a.t (lent a.first.now a.second.now) a.piece.now c.requires.1 _
-    c.saturating_sub-room.ensures c.read_for-scan.result c.read_for-scan.ensures _ c.in-Stopped.is in
+    c.saturating_sub-room.ensures c.read_for-scan.result c.read_for-scan.ensures _ c.in-Ok.is in
     omega (arith, w.part, c.requires.1)
 
 pub overflow_add-fed : goal.overflow_add-fed
 overflow_add-fed c =
     let a = c.args in
     let w = on-stopped a.desk a.i a.t (lent a.first.now a.second.now) a.piece.now c.requires.1 _
-    c.saturating_sub-room.ensures c.read_for-scan.result c.read_for-scan.ensures _ c.in-Stopped.is in
+    c.saturating_sub-room.ensures c.read_for-scan.result c.read_for-scan.ensures _ c.in-Ok.is in
     omega (arith, w.part, c.requires.1)
 
 pub returns : goal.returns
@@ -36,6 +36,6 @@ returns c =
     let append = c.append-records in
     let a = c.args in
     let w = on-stopped a.desk a.i a.t (lent a.first.now a.second.now) a.piece.now c.requires.1 _
-    c.saturating_sub-room.ensures c.read_for-scan.result c.read_for-scan.ensures _ c.in-Stopped.is in
+    c.saturating_sub-room.ensures c.read_for-scan.result c.read_for-scan.ensures _ c.in-Ok.is in
     read-on-is a.desk a.i a.t (lent a.first.now a.second.now) a.piece.now c.requires.1 _
     c.saturating_sub-room.ensures c.read_for-scan.result c.read_for-scan.ensures _ w _ append.ensures

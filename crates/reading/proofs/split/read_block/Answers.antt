@@ -2,7 +2,9 @@
 use Rattle.matching.specs.Laws.Stepping.{damaged_not-all, full-not-all}
 use Rattle.matching.specs.Parts.{read_in}
 use Rattle.reading.specs.Laws.Blocks.{block-all, block-full, block-wrong}
-use Rattle.reading.specs.declared.split.Went.{Went}
+use Rattle.reading.specs.declared.went.Went.{Went}
+use Prim.Native.Nat.{ℕ}
+use mathlib.Core.List.{List}
 use mathlib.Core.Path.{◌∙◌, ap, sym}
 use native.Mathlib.Nat.{sub-zero}
 use Rattle.reading.proofs.split.read_block.Goals as goal
@@ -22,7 +24,7 @@ returns-then-at-end c =
     c.if-at-end.true in
     record {
       tells = (c.stopped-then-at-end.ensures ∙ z.0, z.1);
-      forgets = λ e. absurd (full-not-all (sym (ap (λ (r : Went). r.stop) c.stopped-then-at-end.ensures) ∙ e));
+      forgets = λ e. absurd (full-not-all (sym (ap (λ (r : Went (List ℕ)). r.stop) c.stopped-then-at-end.ensures) ∙ e));
     }
 
 pub returns : goal.returns
@@ -33,5 +35,5 @@ returns c =
     c.if-at-end.false in
     record {
       tells = (c.stopped-2.ensures ∙ z.0, z.1);
-      forgets = λ e. absurd (damaged_not-all (sym (ap (λ (r : Went). r.stop) c.stopped-2.ensures) ∙ e));
+      forgets = λ e. absurd (damaged_not-all (sym (ap (λ (r : Went (List ℕ)). r.stop) c.stopped-2.ensures) ∙ e));
     }

@@ -23,10 +23,10 @@ returns-then-s-n c =
     let l = loop in
     let z = whole_damaged a.s a.table.now a.count a.piece.now a.list.now a.start l.list l.q l.w l.i
     l.invariant loop-test.true next_of.result (next_of.ensures _) c.if-s-n.true in
-    (c.stopped_one.ensures ∙ z.0, z.1)
+    (c.stopped.ensures ∙ z.0, z.1)
 
-pub returns-in-NoRoom : goal.returns-in-NoRoom
-returns-in-NoRoom c =
+pub returns-in_default : goal.returns-in_default
+returns-in_default c =
     let put_all = c.put_all in
     let vector-of = c.vector_of-hits in
     let if1 = c.if-s-n in
@@ -38,9 +38,9 @@ returns-in-NoRoom c =
     let l = loop in
     let z = whole-full a.s a.table.now a.count a.piece.now a.list.now a.start l.list l.q l.w l.i l.invariant
     loop-test.true next_of.result (next_of.ensures _) if1.false
-    vector-of.result (vector-of.ensures _) (sym c.in-NoRoom.is ∙ put_all.ensures.0) put_all.new.list
+    vector-of.result (vector-of.ensures _) (sym c.in_default.is ∙ put_all.ensures.0) put_all.new.list
     put_all.ensures.1 in
-    (c.stopped_one-in-NoRoom.ensures ∙ z.0, z.1)
+    (c.stopped-in_default.ensures ∙ z.0, z.1)
 
 -- the byte is taken, and its records written
 pub loop-i-preserved-then-hits-eq0 : goal.loop-i-preserved-then-hits-eq0
@@ -50,7 +50,7 @@ loop-i-preserved-then-hits-eq0 c =
     going-pass _ _ _ _ _ _ _ _ _ _ _
     (whole-took a.s a.table.now a.count a.piece.now a.list.now a.start l.list l.q l.w l.i l.invariant
     c.loop-i-test.true c.next_of-n.result (c.next_of-n.ensures _) c.if-s-n.false
-    c.vector_of-hits.result (c.vector_of-hits.ensures _) _ (sym c.in-Written.is ∙ c.put_all.ensures.0) _ c.put_all.ensures.1) _ _ c.pass_whole-p.ensures
+    c.vector_of-hits.result (c.vector_of-hits.ensures _) _ (sym c.in-Some.is ∙ c.put_all.ensures.0) _ c.put_all.ensures.1) _ _ c.pass_whole-p.ensures
 
 pub loop-i-preserved : goal.loop-i-preserved
 loop-i-preserved c =
@@ -58,7 +58,7 @@ loop-i-preserved c =
     let l = c.loop-i in
     whole-took a.s a.table.now a.count a.piece.now a.list.now a.start l.list l.q l.w l.i l.invariant
     c.loop-i-test.true c.next_of-n.result (c.next_of-n.ensures _) c.if-s-n.false
-    c.vector_of-hits.result (c.vector_of-hits.ensures _) _ (sym c.in-Written.is ∙ c.put_all.ensures.0) _ c.put_all.ensures.1
+    c.vector_of-hits.result (c.vector_of-hits.ensures _) _ (sym c.in-Some.is ∙ c.put_all.ensures.0) _ c.put_all.ensures.1
 
 pub returns : goal.returns
 returns c =
@@ -68,4 +68,4 @@ returns c =
     let l = loop in
     let z = whole-all a.s a.table.now a.count a.piece.now a.list.now a.start l.list l.q l.w l.i l.invariant
     c.loop-i-test.false in
-    (c.stopped_one-2.ensures ∙ z.0, z.1)
+    (c.stopped-2.ensures ∙ z.0, z.1)
