@@ -7,4 +7,5 @@ pub mod Walking
 pub mod Sleep
 pub mod Parts
 pub mod Blocks
+pub mod Both
 pub mod Starting

@@ -1,15 +1,15 @@
 -- What is known of the parts of a layout at a place, and what their walk over a block gives. Of the runs, slots and tests that are given, the first
 -- is the first part's.
-use Rattle.std.specs.Prelude.{◌*◌, ◌<◌, ℕ, Bool, false, true, List, [], ◌∷◌, ◌≡◌, drop, get_or, length, replicate, take}
+use Rattle.std.specs.Prelude.{◌*◌, ◌<◌, ℕ, Bool, false, true, List, [], ◌++◌, ◌∷◌, ◌≡◌, drop, get_or, is_some, length, replicate, take}
 use Rattle.matching.specs.Parts.{Layout, Part, Runs, first_run, lengths, part, part_slots, place_below, slots_over, split_layout, step_in}
 use Rattle.matching.specs.Tags.{word_as}
 use Rattle.matching.specs.Words.{Word}
 use Rattle.passing.specs.Steps.{Ready, Starts}
 use Rattle.blocks.specs.Noting.{tag_rows}
 use Rattle.blocks.specs.Running.{Came}
-use Rattle.blocks.specs.Sleep.{Still}
+use Rattle.blocks.specs.Sleep.{Still, starts_in}
 use Rattle.blocks.specs.declared.block.Block.{Block}
-use Rattle.blocks.specs.declared.block.Known.{Known}
+use Rattle.blocks.specs.declared.tables.SplitTables.{SplitTables}
 
 -- the states of a place are below the slots of their parts, which are those of the runs
 pub record Stands (layout : Layout) (runs : Runs) (slots place : List ℕ) : Type 0 where
@@ -46,9 +46,22 @@ pub record Fits (layout : Layout) (runs : Runs) (slots : List ℕ) (awake : List
   pub each : EachFits layout runs slots awake starts place
   pub long : length starts ≡ length layout * 128
 
--- the two parts of the split layout, with what the code knows of them
-abbrev pub SplitFits : (first second : List ℕ) → Known → (starts place : List ℕ) → Type 0
-SplitFits first second known starts place = Fits split_layout (first ∷ second ∷ []) known.slots known.awake starts place
+-- ---- the two parts of the split layout, as the code has them
+
+abbrev pub runs_of : SplitTables → Runs
+runs_of t = t.exact.numbers.now ∷ t.folded.numbers.now ∷ []
+
+abbrev pub slots_of : SplitTables → List ℕ
+slots_of t = t.exact.slots ∷ t.folded.slots ∷ []
+
+abbrev pub awake_of : SplitTables → List Bool
+awake_of t = is_some t.exact.starts ∷ is_some t.folded.starts ∷ []
+
+abbrev pub all_starts : SplitTables → List ℕ
+all_starts t = starts_in t.exact.starts ++ starts_in t.folded.starts
+
+abbrev pub SplitFits : SplitTables → (place : List ℕ) → Type 0
+SplitFits t place = Fits split_layout (runs_of t) (slots_of t) (awake_of t) (all_starts t) place
 
 -- where there is no part
 abbrev pub no_part : Part

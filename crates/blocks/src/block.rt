@@ -1,25 +1,14 @@
-// A block for all parts.
+// A block for both tables.
 ghost use Rattle.std.specs.Prelude.{◌≡◌, [], ◌∷◌, ◌≤◌, length};
 ghost use Rattle.matching.specs.Parts.{split_layout};
-ghost use Rattle.blocks.specs.Parts.{Lettered, SplitFits, Walks, clean};
+ghost use Rattle.blocks.specs.Parts.{Lettered, SplitFits, Walks, awake_of, clean, runs_of};
 
-use crate::parts::bytes_for;
-use crate::places::with_part;
-use crate::walks::walk_of;
+use crate::places::{joined, part_of};
+use crate::tables::SplitTables;
 use kinds::folding::fold_all;
 
 // The most bytes of a block.
 pub const MOST: usize = 256;
-
-// The parts of the split layout: `split_layout` in matching's specs/Parts.antt.
-pub const PARTS: usize = 2;
-
-// What is known of each part: the slots of its table, and whether it is awake.
-#[derive(Clone, Copy)]
-pub struct Known {
-    pub slots: [usize; 2],
-    pub awake: [bool; 2],
-}
 
 // How far all parts came, the place there if that is the block's end, and whether something was noted.
 #[derive(Drop)]
@@ -29,58 +18,46 @@ pub struct Block {
     pub loud: bool,
 }
 
-// Each part, the last first, up to the byte to which those after it came.
-fn walk_parts<'a>(
-    first: &[u16],
-    second: &[u16],
-    known: Known,
-    starts: &[usize],
+// The second table over the whole block, then the first up to the byte to which the second came.
+fn walk_both(
+    tables: &SplitTables,
     start: [usize; 16],
-    block: &'a [u8],
-    near: &'a [u8],
+    block: &[u8],
+    near: &[u8],
     hits: &mut [u16; 256],
 ) -> Block
-    requires split_fits { (SplitFits first.now second.now known starts.now start)
-        × (Lettered split_layout known.awake (block.now ∷ near.now ∷ []) block.now) }
+    requires split_fits { (SplitFits tables.now start)
+        × (Lettered split_layout (awake_of tables.now) (block.now ∷ near.now ∷ []) block.now) }
     requires block_len_bound { (length block.now ≤ 256) × (hits.old ≡ clean) }
-    ensures { Walks split_layout (first.now ∷ second.now ∷ []) start block.now hits.new result }
+    ensures { Walks split_layout (runs_of tables.now) start block.now hits.new result }
 {
-    let mut place = start;
-    let mut end = block.len();
-    let mut loud = false;
-    for g in (0..PARTS).rev() {
-        let bytes = bytes_for(g, block, near);
-        let r = walk_of(g, first, second, known, starts, start, bytes, end, hits);
-        let own = r.place;
-        let next = with_part(place, g, own);
-        place = next;
-        end = r.at;
-        loud |= r.loud;
+    let second = tables
+        .folded
+        .walk(part_of(start, 1), near, block.len(), hits);
+    let first = tables.exact.walk(part_of(start, 0), block, second.at, hits);
+    Block {
+        end: first.at,
+        place: joined(first.place, second.place),
+        loud: second.loud | first.loud,
     }
-    Block { end, place, loud }
 }
 
-// The second part reads a folded copy, which is made where it is awake.
+// The second table reads a folded copy, which is made where it is awake.
 pub fn walk_block(
-    first: &[u16],
-    second: &[u16],
-    known: Known,
-    starts: &[usize],
+    tables: &SplitTables,
     start: [usize; 16],
     block: &[u8],
     hits: &mut [u16; 256],
 ) -> Block
-    requires split_fits { SplitFits first.now second.now known starts.now start }
+    requires split_fits { SplitFits tables.now start }
     requires block_len_bound { (length block.now ≤ 256) × (hits.old ≡ clean) }
-    ensures { Walks split_layout (first.now ∷ second.now ∷ []) start block.now hits.new result }
+    ensures { Walks split_layout (runs_of tables.now) start block.now hits.new result }
 {
-    let awake = known.awake;
-    if awake[1] {
-        let mut near: [u8; 256] = [0; 256];
-        fold_all(block, &mut near);
-        let n = block.len();
-        let folded = &near[0..n];
-        return walk_parts(first, second, known, starts, start, block, folded, hits);
+    if tables.folded.starts.is_none() {
+        return walk_both(tables, start, block, block, hits);
     }
-    walk_parts(first, second, known, starts, start, block, block, hits)
+    let mut near: [u8; 256] = [0; 256];
+    fold_all(block, &mut near);
+    let folded = &near[..block.len()];
+    walk_both(tables, start, block, folded, hits)
 }

@@ -4,8 +4,8 @@
 #![tactic(auto)]
 
 pub mod block;
-pub mod parts;
 pub mod places;
 pub mod sleep;
 pub mod start;
+pub mod tables;
 pub mod walks;

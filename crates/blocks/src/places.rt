@@ -1,6 +1,5 @@
 // A place of the split layout has the states of eight machines for each part, one part behind the other.
-ghost use Rattle.std.specs.Prelude.{◌≡◌, ◌+◌, ◌*◌, ◌<◌, drop, take};
-ghost use Rattle.std.proofs.lemmas.List.Edits.{sets};
+ghost use Rattle.std.specs.Prelude.{◌≡◌, ◌++◌, ◌*◌, ◌<◌, drop, take};
 
 // The states of part g.
 pub fn part_of(place: [usize; 16], g: usize) -> [usize; 8]
@@ -13,13 +12,12 @@ pub fn part_of(place: [usize; 16], g: usize) -> [usize; 8]
     own
 }
 
-// The place with other states of part g.
-pub fn with_part(place: [usize; 16], g: usize, own: [usize; 8]) -> [usize; 16]
-    requires { g < 2 }
-    ensures { result ≡ sets place (g * 8) own }
+// A place, by the states of each part.
+pub fn joined(first: [usize; 8], second: [usize; 8]) -> [usize; 16]
+    ensures { result ≡ first ++ second }
 {
-    let mut all = place;
-    let from = g * 8;
-    all[from..from + 8].copy_from_slice(&own);
+    let mut all: [usize; 16] = [0; 16];
+    all[..8].copy_from_slice(&first);
+    all[8..].copy_from_slice(&second);
     all
 }

@@ -1,12 +1,13 @@
-// What is made once a reading: the slots of each part, whether it is awake, and its starts.
-ghost use Rattle.std.specs.Prelude.{◌≡◌, true, [], ◌∷◌, ◌≤◌, get_or, length};
+// What is made once a reading: the slots of each part, and its starts, if it is awake.
+ghost use Rattle.std.specs.Prelude.{◌≡◌, [], ◌∷◌, ◌≤◌, length, MatchOption};
 ghost use Rattle.matching.specs.Parts.{place_below, slots_over, split_layout};
-ghost use Rattle.passing.specs.Steps.{Starts};
-ghost use Rattle.blocks.specs.Parts.{Begins, Rests, Stands};
+ghost use Rattle.passing.specs.Steps.{Ready, Starts};
+ghost use Rattle.blocks.specs.Parts.{SplitFits, Stands, runs_of};
+ghost use Rattle.blocks.specs.Sleep.{Still};
 
-use crate::block::Known;
 use crate::places::part_of;
 use crate::sleep::is_awake;
+use crate::tables::{BitTable, SplitTables};
 use matching::slots;
 use passing::places::all_below;
 use passing::starts::put_starts;
@@ -28,45 +29,44 @@ pub fn all_states(slots: [usize; 2], place: [usize; 16]) -> bool
     all_below(slots[1], 8, part_of(place, 1))
 }
 
-// Which parts are awake.
-pub fn known_of(first: &[u16], second: &[u16], slots: [usize; 2], start: [usize; 16]) -> Known
+// The starts of a part, laid into a run of their own, if it is awake at its place.
+fn starts_of<'a>(
+    table: &[u16],
+    s: usize,
+    place: [usize; 8],
+    run: &'a mut [usize],
+) -> Option<&'a [usize]>
+    requires { (Ready 1 8 s table.now place) × ((s ≤ 513) × (length run.old ≡ 128)) }
+    ensures { MatchOption result (Still s table.now place) (λ starts. Starts 1 s starts.now) }
+{
+    if !is_awake(table, s, place) {
+        return None;
+    }
+    put_starts(1, s, run);
+    Some(run)
+}
+
+// Both tables, with what is known of them at a place; their starts are laid into a run.
+pub fn tables_at<'a>(
+    first: &'a [u16],
+    second: &'a [u16],
+    slots: [usize; 2],
+    start: [usize; 16],
+    run: &'a mut [usize; 256],
+) -> SplitTables<'a>
     requires { Stands split_layout (first.now ∷ second.now ∷ []) slots start }
-    ensures { (result.slots ≡ slots) × (Rests split_layout (first.now ∷ second.now ∷ []) slots result.awake start) }
+    ensures { (SplitFits result start) × (runs_of result ≡ first.now ∷ second.now ∷ []) }
 {
-    let one = is_awake(first, slots[0], part_of(start, 0));
-    let other = is_awake(second, slots[1], part_of(start, 1));
-    Known {
-        slots,
-        awake: [one, other],
-    }
-}
-
-// The starts of a part, if it is awake.
-fn put_if(awake: bool, s: usize, out: &mut [usize])
-    requires { (s ≤ 513) × (length out.old ≡ 128) }
-    ensures { awake ≡ true → Starts 1 s out.new }
-{
-    if awake {
-        put_starts(1, s, out);
-    }
-}
-
-// Those of both parts, one behind the other.
-fn put_both(known: Known, all: &mut [usize])
-    requires { (get_or known.slots 0 0 ≤ 513) × ((get_or known.slots 1 0 ≤ 513) × (length all.old ≡ 256)) }
-    ensures { Begins split_layout known.slots known.awake all.new }
-{
-    let awake = known.awake;
-    let slots = known.slots;
-    put_if(awake[0], slots[0], &mut all[0..128]);
-    put_if(awake[1], slots[1], &mut all[128..256]);
-}
-
-pub fn starts_of(known: Known) -> [usize; 256]
-    requires { (get_or known.slots 0 0 ≤ 513) × (get_or known.slots 1 0 ≤ 513) }
-    ensures { Begins split_layout known.slots known.awake result }
-{
-    let mut all: [usize; 256] = [0; 256];
-    put_both(known, &mut all);
-    all
+    let (one, other) = run.split_at_mut(128);
+    let exact = BitTable {
+        numbers: first,
+        slots: slots[0],
+        starts: starts_of(first, slots[0], part_of(start, 0), one),
+    };
+    let folded = BitTable {
+        numbers: second,
+        slots: slots[1],
+        starts: starts_of(second, slots[1], part_of(start, 1), other),
+    };
+    SplitTables { exact, folded }
 }

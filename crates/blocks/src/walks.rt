@@ -1,12 +1,12 @@
 // One part over the bytes of a block.
-ghost use Rattle.std.specs.Prelude.{◌≡◌, cond, false, true, [], ◌∷◌, ◌*◌, ◌<◌, ◌≤◌, eqb, drop, get_or, length, set, take};
+ghost use Rattle.std.specs.Prelude.{◌≡◌, cond, true, ◌<◌, ◌≤◌, eqb, get_or, length, set, take, is_some};
 ghost use Rattle.std.specs.Int.Bits.{bit_or};
 ghost use Rattle.matching.specs.Reading.{table_step};
 ghost use Rattle.passing.specs.Steps.{Step};
+ghost use Rattle.blocks.specs.Sleep.{starts_in};
 ghost use Rattle.blocks.specs.Walking.{Noted, NotedIf};
 
-use crate::block::Known;
-use crate::places::part_of;
+use crate::tables::BitTable;
 use passing::places::all_below;
 use passing::steps::{hits_of, next_numbers};
 
@@ -65,56 +65,20 @@ fn walk_part(
     }
 }
 
-// The same where the part is awake; one that is asleep stays where it is, and notes nothing.
-fn walk_if(
-    awake: bool,
-    table: &[u16],
-    s: usize,
-    starts: &[usize],
-    start: [usize; 8],
-    bytes: &[u8],
-    to: usize,
-    hits: &mut [u16; 256],
-) -> Walked
-    requires { awake ≡ true → (Step 1 s table.now starts.now start) × ((to ≤ length bytes.now) × (to ≤ 256)) }
-    ensures { NotedIf awake (table_step 1 s table.now) start bytes.now to result hits.old hits.new }
-{
-    if awake {
-        return walk_part(table, s, starts, start, bytes, to, hits);
+impl<'a> BitTable<'a> {
+    // The same where the table is awake; one that is asleep stays where it is, and notes nothing.
+    pub fn walk(&self, start: [usize; 8], bytes: &[u8], to: usize, hits: &mut [u16; 256]) -> Walked
+        requires { is_some self.now.starts ≡ true
+            → (Step 1 self.now.slots self.now.numbers.now (starts_in self.now.starts) start) × ((to ≤ length bytes.now) × (to ≤ 256)) }
+        ensures { NotedIf (is_some self.now.starts) (table_step 1 self.now.slots self.now.numbers.now) start bytes.now to result hits.old hits.new }
+    {
+        let Some(starts) = self.starts else {
+            return Walked {
+                at: to,
+                place: start,
+                loud: false,
+            };
+        };
+        walk_part(self.numbers, self.slots, starts, start, bytes, to, hits)
     }
-    Walked {
-        at: to,
-        place: start,
-        loud: false,
-    }
-}
-
-// The same for the part of a number, with what is its own.
-pub fn walk_of(
-    g: usize,
-    first: &[u16],
-    second: &[u16],
-    known: Known,
-    starts: &[usize],
-    start: [usize; 16],
-    bytes: &[u8],
-    to: usize,
-    hits: &mut [u16; 256],
-) -> Walked
-    requires { (g < 2) × ((length starts.now ≡ 256) × (get_or known.awake g false ≡ true
-        → (Step 1 (get_or known.slots g 0) (get_or (first.now ∷ second.now ∷ []) g []) (take 128 (drop (g * 128) starts.now)) (take 8 (drop (g * 8) start)))
-        × ((to ≤ length bytes.now) × (to ≤ 256)))) }
-    ensures { NotedIf (get_or known.awake g false) (table_step 1 (get_or known.slots g 0) (get_or (first.now ∷ second.now ∷ []) g []))
-        (take 8 (drop (g * 8) start)) bytes.now to result hits.old hits.new }
-{
-    let awake = known.awake;
-    let slots = known.slots;
-    let place = part_of(start, g);
-    let from = g * 128;
-    let end = from + 128;
-    let own = &starts[from..end];
-    if g == 0 {
-        return walk_if(awake[g], first, slots[g], own, place, bytes, to, hits);
-    }
-    walk_if(awake[g], second, slots[g], own, place, bytes, to, hits)
 }

@@ -18,6 +18,7 @@ use crate::walks::on_whole;
 use blocks::start::{all_states, slots_of};
 use matching::{Stop, slots};
 use passing::places::{narrowed, widened};
+use passing::whole::WholeTable;
 
 // Why a read outside the desk is refused.
 #[derive(Clone, Copy, PartialEq, Eq, Debug)]
@@ -98,7 +99,11 @@ pub fn read_whole(
     if let Err(why) = judge(sound, long) {
         return Answer::refused(place, why);
     }
-    let r = on_whole(table, s, start, count, piece, list);
+    let table = WholeTable {
+        numbers: table,
+        states: s,
+    };
+    let r = on_whole(&table, start, count, piece, list);
     Answer {
         taken: r.taken,
         place: r.place as u16,

@@ -2,13 +2,14 @@
 // state, is a block walked again, up to that byte.
 ghost use Rattle.std.specs.Prelude.{◌≡◌, [], ◌∷◌, ◌+◌, ◌*◌, ◌-◌, ◌/◌, ◌<◌, ◌≤◌, ◌^◌, length};
 ghost use Rattle.matching.specs.Parts.{read_in, split_layout};
-ghost use Rattle.blocks.specs.Parts.{SplitFits, Stands, clean};
+ghost use Rattle.blocks.specs.Parts.{SplitFits, Stands, clean, runs_of};
 ghost use Rattle.reading.specs.Walks.{BlockRead, Walked};
 
 use crate::noted::write_noted;
 use crate::went::Went;
-use blocks::block::{Known, MOST, walk_block};
-use blocks::start::{known_of, starts_of};
+use blocks::block::{MOST, walk_block};
+use blocks::start::tables_at;
+use blocks::tables::SplitTables;
 use matching::Stop;
 
 // Blocks are sized so that a list which fills costs no long walk that is thrown away. What is answered does not hang on their sizes.
@@ -58,10 +59,7 @@ fn block_end(at: usize, len: usize, size: usize) -> usize
 
 // One block, its records behind the first so many of the list. While all is taken, nothing stays noted.
 fn read_block(
-    first: &[u16],
-    second: &[u16],
-    known: Known,
-    starts: &[usize],
+    tables: &SplitTables,
     start: [usize; 16],
     count: u32,
     block: &[u8],
@@ -69,12 +67,12 @@ fn read_block(
     from: usize,
     hits: &mut [u16; 256],
 ) -> Went<[usize; 16]>
-    requires split_fits { SplitFits first.now second.now known starts.now start }
+    requires split_fits { SplitFits tables.now start }
     requires block_len_bound { (length block.now ≤ 256) × ((count + length block.now < 2 ^ 32) × ((2 * from ≤ length list.old) × (hits.old ≡ clean))) }
     ensures { BlockRead result from list.old list.new hits.new
-        (read_in split_layout (first.now ∷ second.now ∷ []) start count (length list.old / 2 - from) block.now) }
+        (read_in split_layout (runs_of tables.now) start count (length list.old / 2 - from) block.now) }
 {
-    let all = walk_block(first, second, known, starts, start, block, hits);
+    let all = walk_block(tables, start, block, hits);
     let end = all.end;
     let wrote = write_noted(all.loud, hits, end, count, list, from);
     let at = wrote.at;
@@ -82,7 +80,7 @@ fn read_block(
         return Went::stopped(at, all.place, wrote.records, Stop::All);
     }
     let taken = &block[0..at];
-    let again = walk_block(first, second, known, starts, start, taken, hits);
+    let again = walk_block(tables, start, taken, hits);
     let place = again.place;
     if at < end {
         return Went::stopped(at, place, wrote.records, Stop::Full);
@@ -92,20 +90,17 @@ fn read_block(
 
 // A block after another.
 fn on_blocks(
-    first: &[u16],
-    second: &[u16],
-    known: Known,
-    starts: &[usize],
+    tables: &SplitTables,
     start: [usize; 16],
     count: u32,
     piece: &[u8],
     list: &mut [u32],
     hits: &mut [u16; 256],
 ) -> Went<[usize; 16]>
-    requires split_fits { SplitFits first.now second.now known starts.now start }
+    requires split_fits { SplitFits tables.now start }
     requires piece_bound { (count + length piece.now < 2 ^ 32) × (hits.old ≡ clean) }
     ensures { Walked result list.old list.new
-        (read_in split_layout (first.now ∷ second.now ∷ []) start count (length list.old / 2) piece.now) }
+        (read_in split_layout (runs_of tables.now) start count (length list.old / 2) piece.now) }
 {
     let mut at = start;
     let mut size = first_size(list.len());
@@ -115,7 +110,7 @@ fn on_blocks(
         let to = block_end(i, piece.len(), size);
         let block = &piece[i..to];
         let seen = count + (i as u32);
-        let r = read_block(first, second, known, starts, at, seen, block, list, w, hits);
+        let r = read_block(tables, at, seen, block, list, w, hits);
         at = r.place;
         size = next_size(size, w, r.records, list.len());
         w = r.records;
@@ -141,10 +136,8 @@ pub fn on_split(
     ensures { Walked result list.old list.new
         (read_in split_layout (first.now ∷ second.now ∷ []) start count (length list.old / 2) piece.now) }
 {
-    let known = known_of(first, second, slots, start);
-    let starts = starts_of(known);
+    let mut starts: [usize; 256] = [0; 256];
+    let tables = tables_at(first, second, slots, start, &mut starts);
     let mut hits: [u16; 256] = [0; 256];
-    on_blocks(
-        first, second, known, &starts, start, count, piece, list, &mut hits,
-    )
+    on_blocks(&tables, start, count, piece, list, &mut hits)
 }

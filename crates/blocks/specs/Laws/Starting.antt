@@ -1,6 +1,9 @@
 -- What is known of the parts when a reading starts, and that it stays so as bytes are read.
-use Rattle.std.specs.Prelude.{◌*◌, ◌+◌, ◌<◌, ◌≤◌, suc, zero, ℕ, Bool, ◌&&◌, false, ◌≡◌, drop, get_or, length, take}
+use Rattle.std.specs.Prelude.{◌*◌, ◌+◌, ◌<◌, ◌≤◌, suc, zero, ℕ, Bool, ◌&&◌, false, ◌≡◌, drop, get_or, length, take, Option, None, Some, MatchOption, is_some}
 use Rattle.std.proofs.Math.Bool.{true}
+use mathlib.Core.Bool.{true≢false}
+use denote.Ref.{Bor}
+use Rattle.std.proofs.Math.ListN.{length-replicate}
 use mathlib.Core.List.{List, [], ◌++◌, ◌∷◌, append-nil}
 use Rattle.std.proofs.Common.{◌∙◌, subst, sym, arith, drop_of_length-le, length-append, length-drop, drop_at, drop-drop, length-take-le, take_all, take_at}
 use Rattle.std.proofs.Math.Path.{ap, refl}
@@ -22,7 +25,7 @@ use Rattle.passing.specs.Laws.Below.{full}
 use Rattle.passing.specs.Steps.{Ready, Starts}
 use Rattle.blocks.specs.Laws.Parts.{as_table, tail_at}
 use Rattle.blocks.specs.Parts.{Begins, EachFits, Fits, PartFits, Rests, Stands}
-use Rattle.blocks.specs.Sleep.{Still}
+use Rattle.blocks.specs.Sleep.{Still, starts_in}
 
 -- each part has eight machines of one bit
 abbrev Eights : Layout → Type 0
@@ -209,3 +212,34 @@ pub begins-put : (slots : List ℕ) (awake : List Bool) (l a b : List ℕ) → l
 begins-put slots awake l a b ll la lb first second =
     let none : drop 128 (drop 128 l) ≡ [] = drop_of_length-le (drop 128 l) {i = 128} (omega (arith, length-drop 128 l, ll)) in
     rw (take_at a (drop 128 l) 128 la, drop_at a (drop 128 l) 128 la, none, append-nil b) (begins-split slots awake a b la lb first second)
+
+-- ---- both, as the code makes them: for each its starts, or it is still
+
+pub known-long : (s : ℕ) (table place : List ℕ) (known : Option (Bor (List ℕ))) → MatchOption known (Still s table place) (λ starts. Starts 1 s starts.now)
+    → length (starts_in known) ≡ 128
+known-long s table place None k = length-replicate {A = ℕ} 128 0
+known-long s table place (Some starts) k = k.long
+
+known-still : (s : ℕ) (table place : List ℕ) (known : Option (Bor (List ℕ))) → MatchOption known (Still s table place) (λ starts. Starts 1 s starts.now)
+    → is_some known ≡ false → Still s table place
+known-still s table place None k e = k
+known-still s table place (Some starts) k e = absurd (true≢false e)
+
+known-starts : (s : ℕ) (table place : List ℕ) (known : Option (Bor (List ℕ))) → MatchOption known (Still s table place) (λ starts. Starts 1 s starts.now)
+    → is_some known ≡ true → Starts 1 s (starts_in known)
+known-starts s table place None k e = absurd (true≢false (sym e))
+known-starts s table place (Some starts) k e = k
+
+pair-is : (l : List ℕ) (a b : ℕ) → l ≡ a ∷ b ∷ [] → get_or l 0 0 ∷ get_or l 1 0 ∷ [] ≡ l
+pair-is l a b e = rw e
+
+pub known_split : (first second slots place : List ℕ) (a b : Option (Bor (List ℕ))) → Stands split_layout (first ∷ second ∷ []) slots place
+    → MatchOption a (Still (get_or slots 0 0) first (take 8 place)) (λ starts. Starts 1 (get_or slots 0 0) starts.now)
+    → MatchOption b (Still (get_or slots 1 0) second (take 8 (drop 8 place))) (λ starts. Starts 1 (get_or slots 1 0) starts.now)
+    → Fits split_layout (first ∷ second ∷ []) (get_or slots 0 0 ∷ get_or slots 1 0 ∷ []) (is_some a ∷ is_some b ∷ []) (starts_in a ++ starts_in b) place
+unfolding slots_over
+known_split first second slots place a b st ka kb =
+    fits-split (first ∷ second ∷ []) slots (get_or slots 0 0 ∷ get_or slots 1 0 ∷ []) (is_some a ∷ is_some b ∷ []) (starts_in a ++ starts_in b) place st
+    (pair-is slots _ _ st.slots_are)
+    (rests_split _ slots place (is_some a) (is_some b) (known-still _ _ _ a ka) (known-still _ _ _ b kb))
+    (begins-split _ _ (starts_in a) (starts_in b) (known-long _ _ _ a ka) (known-long _ _ _ b kb) (known-starts _ _ _ a ka) (known-starts _ _ _ b kb))

@@ -31,10 +31,11 @@ on_whole-r-requires c =
     let verdict = rw (c.from-start.ensures, c.too_long-long.ensures) at c.judge.ensures in
     -- where it is to go, the state is below s and the count has room
     let g = first-none _ _ (sym (ap verdict_number c.in_default.is) ∙ verdict) in
-    let l = ltb-false 4294967295 (a.count + length a.piece.now) g.1 in (
-      rw one-mul at (slots-room 8 1 (length a.table.now) c.slots-s.result c.slots-s.ensures),
-      (rw c.from-start.ensures (ltb-true a.place c.slots-s.result g.0), omega (arith, l)),
-    )
+    let l = ltb-false 4294967295 (a.count + length a.piece.now) g.1 in
+    (rw c.from-start.ensures (ltb-true a.place c.slots-s.result g.0), omega (arith, l))
+
+pub invariant_of-table : goal.invariant_of-table
+invariant_of-table c = record { fits = rw one-mul at (slots-room 8 1 (length c.args.table.now) c.slots-s.result c.slots-s.ensures) }
 
 pub overflow_cast-result : goal.overflow_cast-result
 unfolding width
