@@ -1,15 +1,15 @@
 // The tags of a machine, where their letters lie.
-ghost use Rattle.std.specs.Prelude.{◌≡◌, [], length, get_or};
+ghost use Rattle.std.specs.Prelude.{◌≡◌, ◌≤◌, [], length, get_or};
 
 use crate::tag_bytes;
 
-// Tags that lie in a run of letters: tag t from from[t] up to to[t].
+// Tags that lie in a run of letters: tag t from from[t] up to to[t], and each that begins there ends.
 #[derive(Clone, Copy)]
 pub struct Words<'a> {
     pub letters: &'a [u8],
     pub from: &'a [usize],
     pub to: &'a [usize],
-    pub ghost even: { length from.now ≡ length to.now },
+    pub ghost ended: { length from.now ≤ length to.now },
 }
 
 impl<'a> Words<'a> {

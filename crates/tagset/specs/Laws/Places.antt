@@ -50,11 +50,15 @@ cut_at_snoc bytes (x ∷ froms) [] a e h = absurd (omega arith)
 cut_at_snoc bytes (x ∷ froms) (y ∷ tos) a e h =
     ap (λ (l : List Word). take (y - x) (drop x bytes) ∷ l) (cut_at_snoc bytes froms tos a e (omega arith))
 
-pub cut_at-length : (bytes froms tos : List ℕ) → length froms ≡ length tos → length (cut_at bytes froms tos) ≡ length froms
+-- each that is begun and ended is a word
+pub cut_at-long : (bytes froms tos : List ℕ) → length froms ≤ length tos → length (cut_at bytes froms tos) ≡ length froms
 unfolding cut_at
-cut_at-length bytes [] tos h = refl
-cut_at-length bytes (a ∷ froms) [] h = absurd (omega arith)
-cut_at-length bytes (a ∷ froms) (e ∷ tos) h = ap suc (cut_at-length bytes froms tos (omega arith))
+cut_at-long bytes [] tos h = refl
+cut_at-long bytes (a ∷ froms) [] h = absurd (omega arith)
+cut_at-long bytes (a ∷ froms) (e ∷ tos) h = ap suc (cut_at-long bytes froms tos (omega arith))
+
+pub cut_at-length : (bytes froms tos : List ℕ) → length froms ≡ length tos → length (cut_at bytes froms tos) ≡ length froms
+cut_at-length bytes froms tos h = cut_at-long bytes froms tos (omega (arith, h))
 
 -- a tag, by its number
 pub cut_at-at : (bytes froms tos : List ℕ) (t : ℕ) → t < length froms → t < length tos
