@@ -1,5 +1,5 @@
 -- What the program holds, what each call makes of it, and the text of its answer.
-use Rattle.std.specs.Prelude.{ℕ, ◌≤◌, ◌≡◌, cond, List, [], ◌∷◌, ◌++◌, eqb, length, take, drop, set, get_or, replicate}
+use Rattle.std.specs.Prelude.{ℕ, ◌≤◌, ◌≡◌, List, [], ◌∷◌, ◌++◌, length, take, drop, set, get_or, replicate}
 use Rattle.answers.specs.Answers.{word_line, not_acall_line, replace_line, open_line, feed_line, close_line, state_line, take_line, built_line, numbers_line, read_lines}
 use Rattle.answers.specs.Answers.{map_lines}
 use Rattle.answers.specs.Show.{show_lines}
@@ -15,6 +15,8 @@ use Rattle.bitmap_reading.specs.declared.Standing.{Standing}
 use Rattle.reading.specs.declared.Answer.{Answer}
 use Rattle.script.specs.Calls.{CallOf, passed_over, not_acall, call_set, call_lend, call_replace, call_open, call_feed, call_close, call_state, call_take}
 use Rattle.script.specs.Calls.{call_show, call_build, call_read, call_poke, call_peek}
+use Rattle.script.specs.declared.Table.{Table}
+use Rattle.script.specs.declared.Table.TheVariants.{First, Second}
 use Rattle.script.specs.declared.Layout.{Layout}
 use Rattle.script.specs.declared.Layout.TheVariants.{Split, Whole, Bitmap}
 use Rattle.calling.specs.declared.State.{State}
@@ -54,15 +56,18 @@ abbrev pub with_lent : Held → Lent → Held
 with_lent h run = record { desk = h.desk; bytes = h.bytes; tables = behind_lent h.lent h.tables run; lent = h.lent }
 
 -- table T
-abbrev pub table_at : Lent → ℕ → List ℕ
-table_at l t = cond (eqb t 0) l.first l.second
+abbrev pub table_at : Lent → Table → List ℕ
+table_at l First = l.first
+table_at l Second = l.second
 
 -- so many of its numbers lent; another number put in it
-abbrev pub lend_at : Sizes → ℕ → ℕ → Sizes
-lend_at z n t = cond (eqb t 0) (sizes n z.second) (sizes z.first n)
+abbrev pub lend_at : Sizes → ℕ → Table → Sizes
+lend_at z n First = sizes n z.second
+lend_at z n Second = sizes z.first n
 
-abbrev pub put_at : Lent → ℕ → ℕ → ℕ → Lent
-put_at l at value t = cond (eqb t 0) (lent (set l.first at value) l.second) (lent l.first (set l.second at value))
+abbrev pub put_at : Lent → ℕ → ℕ → Table → Lent
+put_at l at value First = lent (set l.first at value) l.second
+put_at l at value Second = lent l.first (set l.second at value)
 
 -- what is held after a call, and what was said
 pub record Answered : Type 0 where
@@ -75,7 +80,7 @@ answered held text = record { held = held; text = text }
 abbrev pub set_on : Held → List ℕ → Answered
 set_on h bytes = answered (record { desk = h.desk; bytes = bytes; tables = h.tables; lent = h.lent }) (word_line (115 ∷ 101 ∷ 116 ∷ 32 ∷ []) (length bytes))
 
-abbrev pub lend_on : Held → ℕ → ℕ → Answered
+abbrev pub lend_on : Held → ℕ → Table → Answered
 lend_on h n t =
     answered (record { desk = h.desk; bytes = h.bytes; tables = h.tables; lent = lend_at h.lent n t }) (word_line (108 ∷ 101 ∷ 110 ∷ 116 ∷ 32 ∷ []) n)
 
@@ -139,7 +144,7 @@ read_text l Bitmap count room place piece =
     map_text (map_by (get_or place 0 0) (read_map_of l.first (get_or place 0 0) count piece room))
     (list_by (sevens room) (read_map_of l.first (get_or place 0 0) count piece room))
 
-abbrev pub poke_on : Held → ℕ → ℕ → ℕ → Answered
+abbrev pub poke_on : Held → ℕ → ℕ → Table → Answered
 poke_on h at value t = answered (record { desk = h.desk; bytes = h.bytes; tables = put_at h.tables at value t; lent = h.lent })
     (word_line (112 ∷ 111 ∷ 107 ∷ 101 ∷ 100 ∷ 32 ∷ []) at)
 

@@ -1,6 +1,6 @@
 -- Laws of calls: from what the parts of a call ensure to what the call did.
 use Rattle.std.specs.Prelude.{ℕ, ◌+◌, ◌-◌, ◌≤◌, List, ◌++◌, ◌≡◌, refl, length, take, drop, set}
-use Rattle.std.proofs.Common.{arith, ap, ap₂, subst, sym, ◌∙◌, eq-eqb, ne_eqb, length-take-le}
+use Rattle.std.proofs.Common.{arith, ap, ap₂, subst, sym, ◌∙◌, length-take-le}
 use Rattle.std.proofs.lemmas.List.{length-replicate}
 use Rattle.std.proofs.Math.Seq.{paste}
 use Rattle.answers.specs.Answers.{replace_line, feed_line, built_line, numbers_line}
@@ -15,6 +15,8 @@ use Rattle.script.specs.Laws.Bytes.{front-put}
 use Rattle.script.specs.Calls.{Bounded, size_of}
 use Rattle.script.specs.declared.Call.{Call}
 use Rattle.script.specs.declared.Layout.{Layout}
+use Rattle.script.specs.declared.Table.{Table}
+use Rattle.script.specs.declared.Table.TheVariants.{First, Second}
 use Rattle.calling.specs.Calls.{Held, answered, build_on, built_by, Did, feed_on, front_of, held_by, lend_at, lend_on, poke_on, put_at, replace_on, sevens, table_at}
 use Rattle.calling.specs.Calls.{tables_by, with_desk}
 use Rattle.calling.specs.declared.State.{State}
@@ -119,31 +121,31 @@ did_feed s serial bytes tables piece r e p =
     e ∙ ap (λ (l : Lent). feed_of s.desk (serial_of serial) l piece) (front-off (sizes s.first s.second) tables) in
     did_desk (held_by s bytes tables) (ap (λ (x : Feeding). x.desk) is) (ap (λ (x : Feeding). feed_line x.answer) is) p
 
--- ---- the numbers of a table, by its number
+-- ---- the numbers of a table, by which it is
 
-pub size-first : (t : ℕ) → t ≡ 0 → size_of t ≡ 131841
-size-first t e = rw (eq-eqb t 0 e) refl
+pub size-first : (t : Table) → t ≡ First → size_of t ≡ 131841
+size-first t e = rw e refl
 
-pub size-second : (t : ℕ) → (t ≡ 0 → ⊥) → size_of t ≡ 16384
-size-second t n = rw (ne_eqb t 0 n) refl
+pub size-second : (t : Table) → t ≡ Second → size_of t ≡ 16384
+size-second t e = rw e refl
 
-pub at_first : (l : Lent) (t : ℕ) → t ≡ 0 → table_at l t ≡ l.first
-at_first l t e = rw (eq-eqb t 0 e) refl
+pub at_first : (l : Lent) (t : Table) → t ≡ First → table_at l t ≡ l.first
+at_first l t e = rw e refl
 
-pub at_second : (l : Lent) (t : ℕ) → (t ≡ 0 → ⊥) → table_at l t ≡ l.second
-at_second l t n = rw (ne_eqb t 0 n) refl
+pub at_second : (l : Lent) (t : Table) → t ≡ Second → table_at l t ≡ l.second
+at_second l t e = rw e refl
 
-pub put_first : (l : Lent) (at value t : ℕ) → t ≡ 0 → lent (set l.first at value) l.second ≡ put_at l at value t
-put_first l at value t e = rw (eq-eqb t 0 e) refl
+pub put_first : (l : Lent) (at value : ℕ) (t : Table) → t ≡ First → lent (set l.first at value) l.second ≡ put_at l at value t
+put_first l at value t e = rw e refl
 
-pub put_second : (l : Lent) (at value t : ℕ) → (t ≡ 0 → ⊥) → lent l.first (set l.second at value) ≡ put_at l at value t
-put_second l at value t n = rw (ne_eqb t 0 n) refl
+pub put_second : (l : Lent) (at value : ℕ) (t : Table) → t ≡ Second → lent l.first (set l.second at value) ≡ put_at l at value t
+put_second l at value t e = rw e refl
 
-pub lend_first : (z : Sizes) (n t : ℕ) → t ≡ 0 → sizes n z.second ≡ lend_at z n t
-lend_first z n t e = rw (eq-eqb t 0 e) refl
+pub lend_first : (z : Sizes) (n : ℕ) (t : Table) → t ≡ First → sizes n z.second ≡ lend_at z n t
+lend_first z n t e = rw e refl
 
-pub lend_second : (z : Sizes) (n t : ℕ) → (t ≡ 0 → ⊥) → sizes z.first n ≡ lend_at z n t
-lend_second z n t h = rw (ne_eqb t 0 h) refl
+pub lend_second : (z : Sizes) (n : ℕ) (t : Table) → t ≡ Second → sizes z.first n ≡ lend_at z n t
+lend_second z n t e = rw e refl
 
 -- and a line of some of them
 pub numbers_said : (l : List ℕ) (at count : ℕ) (table : List ℕ) {b a : Buffer} → table ≡ l → Puts b (numbers_line (take (at + count - at) (drop at l))) a
@@ -151,7 +153,7 @@ pub numbers_said : (l : List ℕ) (at count : ℕ) (table : List ℕ) {b a : Buf
 numbers_said l at count table e p =
     said (ap₂ (λ (n : ℕ) (x : List ℕ). numbers_line (take n (drop at x))) (span at count) (sym e)) p
 
-pub did_lend : (s : State) (n t first second : ℕ) (bytes : List ℕ) (tables : Lent) {b a : Buffer} → sizes first second ≡ lend_at (sizes s.first s.second) n t
+pub did_lend : (s : State) (n : ℕ) (t : Table) (first second : ℕ) (bytes : List ℕ) (tables : Lent) {b a : Buffer} → sizes first second ≡ lend_at (sizes s.first s.second) n t
     → Puts b (lend_on (held_by s bytes tables) n t).text a
     → Did (lend_on (held_by s bytes tables) n t) b
     (record { desk = s.desk; bytes = take s.held bytes; tables = tables; lent = sizes first second }) a
@@ -160,7 +162,7 @@ did_lend s n t first second bytes tables e p = record {
   puts = p;
 }
 
-pub did_poke : (s : State) (at value t : ℕ) (bytes : List ℕ) (tables after : Lent) {b a : Buffer} → after ≡ put_at tables at value t
+pub did_poke : (s : State) (at value : ℕ) (t : Table) (bytes : List ℕ) (tables after : Lent) {b a : Buffer} → after ≡ put_at tables at value t
     → Puts b (poke_on (held_by s bytes tables) at value t).text a → Did (poke_on (held_by s bytes tables) at value t) b (held_by s bytes after) a
 did_poke s at value t bytes tables after e p = record { same = ap (held_by s bytes) e; puts = p }
 

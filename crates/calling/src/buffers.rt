@@ -7,6 +7,7 @@ ghost use Rattle.answers.specs.Answers.{not_acall_line, numbers_line};
 ghost use Rattle.calling.specs.Calls.{answered, held_by, Within, Did, put_at, set_on, lend_on, poke_on, table_at};
 
 use crate::State;
+use script::Table;
 
 pub fn not_a_call(s: State, n: u64, out: &mut [u8; 65536]) -> State
     requires { Within s }
@@ -43,60 +44,54 @@ pub fn set_to(s: State, bytes: &[u8], set: &mut [u8], out: &mut [u8; 65536]) -> 
     }
 }
 
-pub fn lend(s: State, lent: usize, t: usize, out: &mut [u8; 65536]) -> State
-    requires { (Within s) × (lent ≤ size_of t) }
-    ensures by_index { (bytes : List ℕ) (tables : Lent) → Did (lend_on (held_by s bytes tables) lent t) (buffer out.old s.used)
+pub fn lend(s: State, lent: usize, table: Table, out: &mut [u8; 65536]) -> State
+    requires { (Within s) × (lent ≤ size_of table) }
+    ensures by_index { (bytes : List ℕ) (tables : Lent) → Did (lend_on (held_by s bytes tables) lent table) (buffer out.old s.used)
         (held_by result bytes tables) (buffer out.new result.used) }
     ensures within { Within result }
 {
     let desk = s.desk;
     let used = answers::word_line(out, s.used, b"lent ", lent as u64);
-    if t == 0 {
-        return State {
-            desk,
-            held: s.held,
-            first: lent,
-            second: s.second,
-            used,
-        };
-    }
+    let (first, second) = match table {
+        Table::First => (lent, s.second),
+        Table::Second => (s.first, lent),
+    };
     State {
         desk,
         held: s.held,
-        first: s.first,
-        second: lent,
+        first,
+        second,
         used,
     }
 }
 
-// A number put into table t.
-fn put_at(first: &mut [u16], second: &mut [u16], at: usize, value: u16, t: usize)
-    requires { (at < size_of t) × (131841 ≤ length first.old) × (16384 ≤ length second.old) }
-    ensures { lent first.new second.new ≡ put_at (lent first.old second.old) at value t }
+// A number put into a table.
+fn put_at(first: &mut [u16], second: &mut [u16], at: usize, value: u16, table: Table)
+    requires { (at < size_of table) × (131841 ≤ length first.old) × (16384 ≤ length second.old) }
+    ensures { lent first.new second.new ≡ put_at (lent first.old second.old) at value table }
 {
-    if t == 0 {
-        first[at] = value;
-        return;
+    match table {
+        Table::First => first[at] = value,
+        Table::Second => second[at] = value,
     }
-    second[at] = value;
 }
 
 pub fn poke(
     s: State,
     at: usize,
     value: u16,
-    t: usize,
+    table: Table,
     first: &mut [u16],
     second: &mut [u16],
     out: &mut [u8; 65536],
 ) -> State
-    requires { (Within s) × (at < size_of t) × (131841 ≤ length first.old) × (16384 ≤ length second.old) }
-    ensures by_index { (bytes : List ℕ) → Did (poke_on (held_by s bytes (lent first.old second.old)) at value t) (buffer out.old s.used)
+    requires { (Within s) × (at < size_of table) × (131841 ≤ length first.old) × (16384 ≤ length second.old) }
+    ensures by_index { (bytes : List ℕ) → Did (poke_on (held_by s bytes (lent first.old second.old)) at value table) (buffer out.old s.used)
         (held_by result bytes (lent first.new second.new)) (buffer out.new result.used) }
     ensures within { Within result }
 {
     let desk = s.desk;
-    put_at(first, second, at, value, t);
+    put_at(first, second, at, value, table);
     let used = answers::word_line(out, s.used, b"poked ", at as u64);
     State {
         desk,
@@ -107,42 +102,43 @@ pub fn poke(
     }
 }
 
-// So many numbers of table t from `at` on, as a line.
+// So many numbers of a table from `at` on, as a line.
 fn numbers_at(
     first: &[u16],
     second: &[u16],
     at: usize,
     count: usize,
-    t: usize,
+    table: Table,
     out: &mut [u8; 65536],
     used: usize,
 ) -> usize
-    requires { (at + count ≤ size_of t) × (131841 ≤ length first.now) × (16384 ≤ length second.now) }
-    ensures { Puts (buffer out.old used) (numbers_line (take count (drop at (table_at (lent first.now second.now) t)))) (buffer out.new result) }
+    requires { (at + count ≤ size_of table) × (131841 ≤ length first.now) × (16384 ≤ length second.now) }
+    ensures { Puts (buffer out.old used) (numbers_line (take count (drop at (table_at (lent first.now second.now) table)))) (buffer out.new result) }
 {
-    if t == 0 {
-        return answers::numbers_line(out, used, &first[at..at + count]);
-    }
-    answers::numbers_line(out, used, &second[at..at + count])
+    let numbers = match table {
+        Table::First => first,
+        Table::Second => second,
+    };
+    answers::numbers_line(out, used, &numbers[at..at + count])
 }
 
 pub fn peek(
     s: State,
     at: usize,
     count: usize,
-    t: usize,
+    table: Table,
     first: &[u16],
     second: &[u16],
     out: &mut [u8; 65536],
 ) -> State
-    requires { (Within s) × (at + count ≤ size_of t) × (131841 ≤ length first.now) × (16384 ≤ length second.now) }
+    requires { (Within s) × (at + count ≤ size_of table) × (131841 ≤ length first.now) × (16384 ≤ length second.now) }
     ensures by_index { (bytes : List ℕ) → Did (answered (held_by s bytes (lent first.now second.now))
-        (numbers_line (take count (drop at (table_at (lent first.now second.now) t))))) (buffer out.old s.used)
+        (numbers_line (take count (drop at (table_at (lent first.now second.now) table))))) (buffer out.old s.used)
         (held_by result bytes (lent first.now second.now)) (buffer out.new result.used) }
     ensures within { Within result }
 {
     let desk = s.desk;
-    let used = numbers_at(first, second, at, count, t, out, s.used);
+    let used = numbers_at(first, second, at, count, table, out, s.used);
     State {
         desk,
         held: s.held,

@@ -65,7 +65,7 @@ fn make(
         Call::PassedOver => s,
         Call::NotACall => not_a_call(s, n, out),
         Call::Set(k) => set_to(s, &bytes[0..k], set, out),
-        Call::Lend(lent, t) => lend(s, lent, t, out),
+        Call::Lend(lent, table) => lend(s, lent, table, out),
         Call::Replace => replace(s, set, first, second, out),
         Call::Open => open(s, out),
         Call::Feed(serial, k) => feed(s, serial, &bytes[0..k], first, second, out),
@@ -75,8 +75,8 @@ fn make(
         Call::Show => show(s, out),
         Call::Build(layout) => build(s, layout, set, first, second, out),
         Call::Read(reading) => read(s, reading, place, bytes, first, second, list, out),
-        Call::Poke(at, value, t) => poke(s, at, value, t, first, second, out),
-        Call::Peek(at, count, t) => peek(s, at, count, t, first, second, out),
+        Call::Poke(at, value, table) => poke(s, at, value, table, first, second, out),
+        Call::Peek(at, count, table) => peek(s, at, count, table, first, second, out),
     }
 }
 

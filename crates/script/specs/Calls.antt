@@ -7,6 +7,8 @@ use Rattle.script.specs.Bytes.{bytes_of}
 use Rattle.script.specs.Sets.{set_of}
 use Rattle.script.specs.declared.Layout.{Layout}
 use Rattle.script.specs.declared.Layout.TheVariants.{Split, Whole, Bitmap}
+use Rattle.script.specs.declared.Table.{Table}
+use Rattle.script.specs.declared.Table.TheVariants.{First, Second}
 use Rattle.script.specs.declared.Call.{Call}
 use Rattle.script.specs.declared.Call.TheVariants as C
 use Rattle.script.specs.declared.Line.{Line}
@@ -18,7 +20,7 @@ pub data CallOf : Type 0 where
   passed_over : CallOf
   not_acall : CallOf
   call_set : List ℕ → CallOf
-  call_lend : ℕ → ℕ → CallOf
+  call_lend : ℕ → Table → CallOf
   call_replace : CallOf
   call_open : CallOf
   call_feed : ℕ → List ℕ → CallOf
@@ -28,8 +30,8 @@ pub data CallOf : Type 0 where
   call_show : CallOf
   call_build : Layout → CallOf
   call_read : Layout → ℕ → ℕ → List ℕ → List ℕ → CallOf
-  call_poke : ℕ → ℕ → ℕ → CallOf
-  call_peek : ℕ → ℕ → ℕ → CallOf
+  call_poke : ℕ → ℕ → Table → CallOf
+  call_peek : ℕ → ℕ → Table → CallOf
 
 -- how many numbers a place of a layout has
 abbrev pub machines_of : Layout → ℕ
@@ -37,9 +39,10 @@ machines_of Split = 16
 machines_of Whole = 1
 machines_of Bitmap = 1
 
--- the numbers that the program has in table 0, and in table 1
-abbrev pub size_of : ℕ → ℕ
-size_of t = cond (eqb t 0) 131841 16384
+-- the numbers that the program has in table 0, the first, and in table 1, the second
+abbrev pub size_of : Table → ℕ
+size_of First = 131841
+size_of Second = 16384
 
 -- what a call means beside the place and the bytes that were read with it
 abbrev pub meant : List ℕ → List ℕ → Call → CallOf
@@ -128,16 +131,20 @@ abbrev pub set_by : Option (List ℕ) → CallOf
 set_by (Some bytes) = call_set bytes
 set_by None = not_acall
 
--- T: the table that is named behind the word at the front, 0 where nothing stands there
-unfoldable pub table_of : List ℕ → Option ℕ
-table_of words = cond (eqb (reach 32 words) (length words)) (Some 0) (number_of 1 (behind words))
+abbrev pub table_by : Option ℕ → Option Table
+table_by (Some t) = Some (cond (eqb t 0) First Second)
+table_by None = None
 
-abbrev pub lend_by : ℕ → Option ℕ → CallOf
+-- T: the table that is named behind the word at the front, 0 where nothing stands there
+unfoldable pub table_of : List ℕ → Option Table
+table_of words = cond (eqb (reach 32 words) (length words)) (Some First) (table_by (number_of 1 (behind words)))
+
+abbrev pub lend_by : Table → Option ℕ → CallOf
 lend_by t (Some lent) = call_lend lent t
 lend_by t None = not_acall
 
 -- LENT, of table T
-abbrev pub lend_of : Option ℕ → List ℕ → CallOf
+abbrev pub lend_of : Option Table → List ℕ → CallOf
 lend_of (Some t) words = lend_by t (number_of (size_of t) (word_of words))
 lend_of None words = not_acall
 
@@ -182,22 +189,22 @@ abbrev pub read_on : Option Layout → List ℕ → CallOf
 read_on (Some layout) words = read_over layout words
 read_on None words = not_acall
 
-abbrev pub poke_by : ℕ → Option (ℕ × ℕ) → CallOf
+abbrev pub poke_by : Table → Option (ℕ × ℕ) → CallOf
 poke_by t (Some (at, value)) = call_poke at value t
 poke_by t None = not_acall
 
 -- AT VALUE, of table T
-abbrev pub poke_of : Option ℕ → List ℕ → CallOf
+abbrev pub poke_of : Option Table → List ℕ → CallOf
 poke_of (Some t) words = poke_by t (numbers_of (size_of t - 1) 65535 words)
 poke_of None words = not_acall
 
 -- all numbers that are shown stand in the table
-abbrev pub peek_by : ℕ → Option (ℕ × ℕ) → CallOf
+abbrev pub peek_by : Table → Option (ℕ × ℕ) → CallOf
 peek_by t (Some (at, count)) = cond (leb (at + count) (size_of t)) (call_peek at count t) not_acall
 peek_by t None = not_acall
 
 -- AT COUNT, of table T
-abbrev pub peek_of : Option ℕ → List ℕ → CallOf
+abbrev pub peek_of : Option Table → List ℕ → CallOf
 peek_of (Some t) words = peek_by t (numbers_of 4294967295 256 words)
 peek_of None words = not_acall
 

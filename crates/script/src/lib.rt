@@ -33,13 +33,19 @@ pub enum Layout {
     Bitmap,
 }
 
-// A call's numbers, with the table's as the last; of its bytes, how many the buffer begins with.
+#[derive(Clone, Copy)]
+pub enum Table {
+    First,
+    Second,
+}
+
+// A call's numbers, and behind them its table; of its bytes, how many the buffer begins with.
 #[derive(Drop)]
 pub enum Call {
     PassedOver,
     NotACall,
     Set(usize),
-    Lend(usize, usize),
+    Lend(usize, Table),
     Replace,
     Open,
     Feed(u32, usize),
@@ -49,8 +55,8 @@ pub enum Call {
     Show,
     Build(Layout),
     Read(ReadCall),
-    Poke(usize, u16, usize),
-    Peek(usize, usize, usize),
+    Poke(usize, u16, Table),
+    Peek(usize, usize, Table),
 }
 
 // A read outside the desk: so many bytes were taken before, and its list has so many numbers.

@@ -10,9 +10,11 @@ use Rattle.script.specs.Bytes.{bytes_of}
 use Rattle.script.specs.Numbers.{number_of, numbers_of}
 use Rattle.script.specs.Calls.{CallOf, passed_over, not_acall, call_peek, peek_by, place_by, place_of, machines_of}
 use Rattle.script.specs.Calls.{place_in, SaysIfAny, read_by, read_from, read_over, call_read, layout_of, meant, Bounded, Plain, Filled, Says, alone, Alone}
-use Rattle.script.specs.Calls.{Called, name_of, Row, first_row, call_by, call_of, lend_by, lend_of, peek_of, poke_by, poke_of, size_of, table_of}
+use Rattle.script.specs.Calls.{Called, name_of, Row, first_row, call_by, call_of, lend_by, lend_of, peek_of, poke_by, poke_of, size_of, table_by, table_of}
 use Rattle.script.specs.declared.Call.{Call}
 use Rattle.script.specs.declared.Call.TheVariants.{NotACall, PassedOver}
+use Rattle.script.specs.declared.Table.{Table}
+use Rattle.script.specs.declared.Table.TheVariants.{First, Second}
 use Rattle.script.specs.declared.Layout.{Layout}
 use Rattle.script.specs.declared.Layout.TheVariants.{Split, Whole, Bitmap}
 use Rattle.script.specs.declared.Line.{Line}
@@ -20,42 +22,39 @@ use Rattle.script.specs.declared.names.Name.{Name}
 
 -- ---- the numbers of a table
 
-pub table_none : (w : List ℕ) (r : ℕ) → r ≡ reach 32 w → r ≡ length w → table_of w ≡ Some 0
+pub table_none : (w : List ℕ) (r : ℕ) → r ≡ reach 32 w → r ≡ length w → table_of w ≡ Some First
 unfolding table_of
 table_none w r e f = rw (eq-eqb (reach 32 w) (length w) (sym e ∙ f))
 
-pub table-some : (w : List ℕ) (r : ℕ) → r ≡ reach 32 w → (r ≡ length w → ⊥) → table_of w ≡ number_of 1 (behind w)
+pub table-some : (w : List ℕ) (r : ℕ) → r ≡ reach 32 w → (r ≡ length w → ⊥) → table_of w ≡ table_by (number_of 1 (behind w))
 unfolding table_of
 table-some w r e f = rw (ne_eqb (reach 32 w) (length w) (λ q. f (e ∙ q)))
 
 -- what a call on a table says, by what was found to stand in its words
-pub lend_said : (w u : List ℕ) (t size : ℕ) {n r : Option ℕ} (x : Option ℕ) → n ≡ table_of w → n ≡ Some t → size ≡ size_of t → u ≡ word_of w → r ≡ number_of size u
+pub lend_said : (w u : List ℕ) (t : Table) (size : ℕ) {n : Option Table} {r : Option ℕ} (x : Option ℕ) → n ≡ table_of w → n ≡ Some t → size ≡ size_of t → u ≡ word_of w → r ≡ number_of size u
     → r ≡ x → lend_of (table_of w) w ≡ lend_by t x
 lend_said w u t size x en et es eu er ex =
-    ap (λ (n : Option ℕ). lend_of n w) (sym en ∙ et) ∙ ap (lend_by t) (ap₂ number_of (sym es) (sym eu) ∙ sym er ∙ ex)
+    ap (λ (n : Option Table). lend_of n w) (sym en ∙ et) ∙ ap (lend_by t) (ap₂ number_of (sym es) (sym eu) ∙ sym er ∙ ex)
 
-pub poke_said : (w b : List ℕ) (t size : ℕ) {n : Option ℕ} {r : Option (ℕ × ℕ)} (x : Option (ℕ × ℕ)) → n ≡ table_of b → b ≡ behind w → n ≡ Some t → size ≡ size_of t
+pub poke_said : (w b : List ℕ) (t : Table) (size : ℕ) {n : Option Table} {r : Option (ℕ × ℕ)} (x : Option (ℕ × ℕ)) → n ≡ table_of b → b ≡ behind w → n ≡ Some t → size ≡ size_of t
     → r ≡ numbers_of (size - 1) 65535 w → r ≡ x → poke_of (table_of (behind w)) w ≡ poke_by t x
 poke_said w b t size x en eb et es er ex =
-    ap (λ (n : Option ℕ). poke_of n w) (ap table_of (sym eb) ∙ sym en ∙ et)
+    ap (λ (n : Option Table). poke_of n w) (ap table_of (sym eb) ∙ sym en ∙ et)
     ∙ ap (poke_by t) (ap (λ (m : ℕ). numbers_of (m - 1) 65535 w) (sym es) ∙ sym er ∙ ex)
 
-pub peek_said : (w b : List ℕ) (t : ℕ) {n : Option ℕ} {r : Option (ℕ × ℕ)} (x : Option (ℕ × ℕ)) → n ≡ table_of b → b ≡ behind w → n ≡ Some t
+pub peek_said : (w b : List ℕ) (t : Table) {n : Option Table} {r : Option (ℕ × ℕ)} (x : Option (ℕ × ℕ)) → n ≡ table_of b → b ≡ behind w → n ≡ Some t
     → r ≡ numbers_of 4294967295 256 w → r ≡ x → peek_of (table_of (behind w)) w ≡ peek_by t x
 peek_said w b t x en eb et er ex =
-    ap (λ (n : Option ℕ). peek_of n w) (ap table_of (sym eb) ∙ sym en ∙ et) ∙ ap (peek_by t) (sym er ∙ ex)
+    ap (λ (n : Option Table). peek_of n w) (ap table_of (sym eb) ∙ sym en ∙ et) ∙ ap (peek_by t) (sym er ∙ ex)
 
-pub size-some : (t : ℕ) → 0 < size_of t
-size-some t = go (eqb t 0)
-  where
-    go : (b : Bool) → 0 < cond b 131841 16384
-    go true = omega arith
-    go false = omega arith
+pub size-some : (t : Table) → 0 < size_of t
+size-some First = omega arith
+size-some Second = omega arith
 
-pub peek_inside : (t at count : ℕ) → at + count ≤ size_of t → peek_by t (Some (at, count)) ≡ call_peek at count t
+pub peek_inside : (t : Table) (at count : ℕ) → at + count ≤ size_of t → peek_by t (Some (at, count)) ≡ call_peek at count t
 peek_inside t at count h = rw (le-leb _ _ h)
 
-pub peek_outside : (t at count : ℕ) → size_of t < at + count → peek_by t (Some (at, count)) ≡ not_acall
+pub peek_outside : (t : Table) (at count : ℕ) → size_of t < at + count → peek_by t (Some (at, count)) ≡ not_acall
 peek_outside t at count h = rw (lt-leb _ _ h)
 
 -- ---- the place of a read
