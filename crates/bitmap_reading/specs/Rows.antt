@@ -1,5 +1,5 @@
 -- What is known of a byte before its step is taken.
-use Rattle.std.specs.Prelude.{◌*◌, ◌<◌, ◌≤◌, suc, zero, ℕ, Bool, false, List, ◌⊎◌, ◌≡◌, get_or}
+use Rattle.std.specs.Prelude.{None, Option, Some, ◌*◌, ◌<◌, ◌≤◌, suc, zero, ℕ, Bool, false, List, ◌⊎◌, ◌≡◌, get_or}
 use Rattle.passing.specs.Quiet.{PassesBy}
 use Rattle.bitmap.specs.Steps.{fail_at, in_map, step}
 use Rattle.bitmap.specs.declared.Step.{Step}
@@ -7,13 +7,13 @@ use Rattle.bitmap.specs.declared.Step.TheVariants.{To}
 use Rattle.bitmap_reading.specs.Reading.{map_step}
 use Rattle.bitmap_reading.specs.declared.rows.Came.{Came}
 
--- where a number is a state, the byte leads to it from state 0
-abbrev pub Leads : ℕ → List ℕ → ℕ → ℕ → Type 0
-Leads s table c n = n < s → step s table 0 c ≡ To n 0
+-- where it says a state, the byte leads to it from state 0
+abbrev pub Leads : ℕ → List ℕ → ℕ → Option ℕ → Type 0
+Leads s table c r = (n : ℕ) → r ≡ Some n → step s table 0 c ≡ To n 0
 
 -- so for each byte
-abbrev pub Row : ℕ → List ℕ → List ℕ → Type 0
-Row s table row = (c : ℕ) → c < 256 → Leads s table c (get_or row c 0)
+abbrev pub Row : ℕ → List ℕ → List (Option ℕ) → Type 0
+Row s table row = (c : ℕ) → c < 256 → Leads s table c (get_or row c None)
 
 -- it is not deep: it is state 0, or the byte is not in its map and it fails to state 0
 abbrev pub Shallow : List ℕ → ℕ → ℕ → Bool → Type 0

@@ -24,14 +24,6 @@ fn standing(q: usize, moves: usize) -> Standing
     }
 }
 
-// Whether what follows a byte is passed over: it had no match, and there is a row.
-fn is_quiet(long: bool, hits: u16) -> bool {
-    if long {
-        return hits == 0;
-    }
-    false
-}
-
 pub fn on_bitmap(
     table: &[u16],
     s: usize,
@@ -44,12 +36,12 @@ pub fn on_bitmap(
     ensures { WalkedMap s result list.old list.new
         (read_map s table.now start count (length list.old / 2) piece.now) }
 {
-    let long = LONG <= piece.len();
-    let row = row_for(table, s, long);
+    let row = row_for(table, s, LONG <= piece.len());
     let mut q = start;
     let mut w: usize = 0;
     let mut i: usize = 0;
     let mut moves: usize = 0;
+    // A while, since a turn may pass over many bytes: a for's step is 1.
     while i < piece.len() {
         let Step::To(n, m) = next_state(table, s, q, piece[i]) else {
             return Went::stopped(i, standing(q, moves), w, Stop::Damaged);
@@ -62,8 +54,11 @@ pub fn on_bitmap(
         w = x;
         i += 1;
         moves += m;
-        if is_quiet(long, hits) {
-            let p = pass(table, s, &row, q, moves, piece, i);
+        // what follows a byte without a match is passed over, if there is a row
+        if hits == 0
+            && let Some(row) = &row
+        {
+            let p = pass(table, s, row, q, moves, piece, i);
             q = p.state;
             i = p.at;
             moves = p.moves;

@@ -1,5 +1,5 @@
 -- What the row of state 0 tells, and passing by it.
-use Rattle.std.specs.Prelude.{◌*◌, ◌+◌, ◌<◌, ◌^◌, ◌≤◌, suc, zero, ℕ, Bool, false, not, true, List, ◌⊎◌, ◌≡◌, refl, eqb, get_or, length, replicate, set}
+use Rattle.std.specs.Prelude.{None, Option, Some, ◌*◌, ◌+◌, ◌<◌, ◌^◌, ◌≤◌, suc, zero, ℕ, Bool, false, not, true, List, ◌⊎◌, ◌≡◌, refl, eqb, get_or, length, replicate, set}
 use Rattle.std.proofs.lemmas.Bool.{false≢true}
 use Rattle.std.proofs.Common.{inl, inr, ◌∙◌, ap, subst, sym, mul-le-mul, arith, get_or-set_other, get_or-set_same}
 use Rattle.std.proofs.Math.Decide.{ℕ_discrete}
@@ -18,25 +18,21 @@ use Rattle.bitmap_reading.specs.Rows.{Leads, PassedTo, Row, moves_from}
 
 -- ---- the row
 
-pub leads_to : (s : ℕ) (table : List ℕ) (c n m : ℕ) → 0 < s → To n m ≡ step s table 0 c → Leads s table c n
-leads_to s table c n m h e l =
+pub leads_to : (s : ℕ) (table : List ℕ) (c n m : ℕ) → 0 < s → To n m ≡ step s table 0 c → Leads s table c (Some n)
+leads_to s table c n m h e k ek =
     let z : m ≡ 0 = omega (arith, (sound s table 0 c n m h e).1) in
-    sym e ∙ ap (To n) z
+    sym e ∙ ap (To n) z ∙ ap (λ (x : ℕ). To x 0) cc
 
-pub leads_nowhere : (s : ℕ) (table : List ℕ) (c n : ℕ) → s ≤ n → Leads s table c n
-leads_nowhere s table c n h l = absurd (omega arith)
+pub row_none : (s : ℕ) (table : List ℕ) → Row s table (replicate 256 None)
+row_none s table c hc n e = absurd (let z : None ≡ Some n = sym (get_or-replicate 256 c None None hc) ∙ e in let y : ◌≡◌ {A = ℕ} 0 1 = cc in omega arith)
 
-pub row_none : (s : ℕ) (table row : List ℕ) → s ≤ 513 → row ≡ replicate 256 65535 → Row s table row
-row_none s table row h e c hc =
-    let v : get_or row c 0 ≡ 65535 = ap (λ (l : List ℕ). get_or l c 0) e ∙ get_or-replicate 256 c 65535 0 hc in
-    leads_nowhere s table c (get_or row c 0) (omega (arith, v))
-
-pub row_set : (s : ℕ) (table row : List ℕ) (c v : ℕ) → Row s table row → c < length row → Leads s table c v → Row s table (set row c v)
+pub row_set : (s : ℕ) (table : List ℕ) (row : List (Option ℕ)) (c : ℕ) (v : Option ℕ) → Row s table row → c < length row → Leads s table c v
+    → Row s table (set row c v)
 row_set s table row c v r h l d hd = go (ℕ_discrete d c)
   where
-    go : Dec (d ≡ c) → Leads s table d (get_or (set row c v) d 0)
-    go (yes e) = subst (λ (x : ℕ). Leads s table x (get_or (set row c v) x 0)) (sym e) (subst (Leads s table c) (sym (get_or-set_same row c v 0 h)) l)
-    go (no n) = subst (Leads s table d) (sym (get_or-set_other row c d v 0 n)) (r d hd)
+    go : Dec (d ≡ c) → Leads s table d (get_or (set row c v) d None)
+    go (yes e) = subst (λ (x : ℕ). Leads s table x (get_or (set row c v) x None)) (sym e) (subst (Leads s table c) (sym (get_or-set_same row c v None h)) l)
+    go (no n) = subst (Leads s table d) (sym (get_or-set_other row c d v None n)) (r d hd)
 
 -- ---- a quick step
 
@@ -55,13 +51,10 @@ shallow table (suc q) c bit fail eb ef z = inr (sym eb ∙ is_bit bit both.0, sy
     both : (bit ≡ 0) × (fail ≡ 0)
     both = or_zero bit fail (none (bit_or bit fail) z)
 
-pub quick_row : (s : ℕ) (table row : List ℕ) (q c n : ℕ) → Row s table row → c < 256 → n ≡ get_or row c 0 → n < s
+pub quick_row : (s : ℕ) (table : List ℕ) (q c n : ℕ) → step s table 0 c ≡ To n 0
     → (q ≡ 0) ⊎ ((in_map table q c ≡ false) × (fail_at table q ≡ 0)) → step s table q c ≡ To n (moves_from q)
-quick_row s table row q c n r hc e h w = go q w
+quick_row s table q c n root w = go q w
   where
-    root : step s table 0 c ≡ To n 0
-    root = r c hc (omega (arith, e)) ∙ ap (λ (x : ℕ). To x 0) (sym e)
-
     go : (q : ℕ) → (q ≡ 0) ⊎ ((in_map table q c ≡ false) × (fail_at table q ≡ 0)) → step s table q c ≡ To n (moves_from q)
     go zero w = root
     go (suc q) (inl z) = absurd (omega (arith, z))

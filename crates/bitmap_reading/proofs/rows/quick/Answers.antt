@@ -1,16 +1,15 @@
 -- By the row, or by the step itself.
-use lib.ListN.{get_or}
+use Rattle.std.specs.Prelude.{None, Some}
 use Rattle.bitmap.specs.declared.Step.TheVariants.{To}
-use mathlib.Core.Path.{◌∙◌, ap, sym}
+use mathlib.Core.Path.{◌∙◌, ◌≡◌, ap₂, sym}
 use native.Mathlib.Omega.{arith}
+use lib.ListN.{get_or}
 use Rattle.bitmap_reading.specs.Laws.Rows.{quick_row}
 use Rattle.bitmap_reading.proofs.rows.quick.Goals as goal
 
 pub returns : goal.returns
 returns c = λ n m e.
     let a = c.args in
-    let w = c.wide-n in
-    quick_row a.s a.table.now a.row.now a.q a.c w.result c.requires.1.1.1 (omega arith)
-    (w.ensures ∙ ap (λ x. get_or a.row.now x 0) c.byte-x.ensures) c.if-s-n.false
-    (c.is_deep.ensures c.if-is_deep.false)
-    ∙ ap (To w.result) (sym c.moves_from.ensures) ∙ e
+    let said : get_or a.row.now a.c None ≡ Some c.in-Some.n = rw c.from.ensures at c.in-Some.is in
+    quick_row a.s a.table.now a.q a.c c.in-Some.n (c.requires.1.1.1 a.c (omega arith) c.in-Some.n said) (c.is_deep.ensures c.if-is_deep.false)
+    ∙ ap₂ To (sym c.from-2.ensures) (sym c.moves_from.ensures) ∙ e

@@ -52,12 +52,12 @@ pass-p-requires c =
     c.loop-i.i c.loop-i.moves c.loop-i.invariant c.loop-i-test.true _ _ (sym c.next_state.ensures ∙ c.in-To.is)
     c.vector_of-hits.result c.vector_of-hits.ensures c.requires.1.0 _ (sym c.in-Some.is ∙ c.put_all.ensures.0) _ c.put_all.ensures.1 in
     record {
-      s_in_bounds = (c.requires.0, (taken.below, (c.requires.1.0, c.row_for-row.ensures)));
+      s_in_bounds = (c.requires.0, (taken.below, (c.requires.1.0, rw c.in-Some-row.is at c.row_for-row.ensures)));
       from_in_bounds = (taken.going.most, (omega (arith, c.requires.1.1.1), taken.few));
     }
 
-pub loop-i-preserved-then-is_quiet : goal.loop-i-preserved-then-is_quiet
-loop-i-preserved-then-is_quiet c =
+pub loop-i-preserved-in-loop-i : goal.loop-i-preserved-in-loop-i
+loop-i-preserved-in-loop-i c =
     -- the byte is taken, and its records written
     let taken =
     map-took c.args.s c.args.table.now c.args.count c.args.piece.now c.args.list.now c.args.start c.loop-i.list c.loop-i.q c.loop-i.w
