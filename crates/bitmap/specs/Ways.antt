@@ -1,8 +1,6 @@
 -- A byte's step in the rules' words (docs/RULES.md, 4): the ways that it can go over any run of numbers.
 use Rattle.std.specs.Prelude.{◌<◌, ◌≤◌, ℕ, false, true, List, ◌≡◌}
-use Rattle.bitmap.specs.Steps.{child_of, fail_at, in_map, moved}
-use Rattle.bitmap.specs.declared.Step.{Step}
-use Rattle.bitmap.specs.declared.Step.TheVariants.{To, Wrong}
+use Rattle.bitmap.specs.Steps.{Step, To, Wrong, child_of, fail_at, in_map, moved}
 
 -- from state q, byte c: where it leads and the failure moves on the way, or that a number on the way is wrong
 pub data Way (s : ℕ) (table : List ℕ) (c : ℕ) : ℕ → Step → Type 0 where

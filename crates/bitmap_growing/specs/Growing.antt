@@ -1,15 +1,13 @@
 -- A bitmap table while it grows. Its states are settled in the order of their numbers; one that is placed but not yet settled waits in its own
 -- slot: number 0 is its depth, 17 its failure state, 18 the mask of the tags that go through it.
-use Rattle.std.specs.Prelude.{◌*◌, ◌+◌, ◌<◌, ◌^◌, ◌≤◌, suc, zero, ℕ, cond, true, List, [], ◌≡◌, eqb, get_or, length, set, take}
+use Rattle.std.specs.Prelude.{◌*◌, ◌+◌, ◌<◌, ◌^◌, ◌≤◌, suc, zero, ℕ, cond, true, List, [], Some, ◌≡◌, eqb, get_or, length, set, take}
 use Rattle.matching.specs.Machine.{failure, vector}
 use Rattle.matching.specs.Words.{Lawful, Word, begins_one}
 use Rattle.bitmap.specs.Laws.Built.{Settled}
 use Rattle.bitmap.specs.Laws.Children.{goes}
 use Rattle.bitmap.specs.Laws.Maps.{tally_from}
 use Rattle.bitmap.specs.Levels.{below, by_level}
-use Rattle.bitmap.specs.Steps.{fail_at, number_at, ones_below, ones_over, step, vector_at}
-use Rattle.bitmap.specs.declared.Step.{Step}
-use Rattle.bitmap.specs.declared.Step.TheVariants.{To, Wrong}
+use Rattle.bitmap.specs.Steps.{Step, Wrong, fail_at, number_at, ones_below, ones_over, step, vector_at}
 use Rattle.bitmap_maps.specs.Through.{Waits, through}
 
 -- the word of state r
@@ -79,7 +77,7 @@ placed l r d f mask = set (set (set l (r * 19) d) (r * 19 + 17) f) (r * 19 + 18)
 -- which building never meets, is told as 0
 unfoldable pub fail_to : ℕ → Step → ℕ
 fail_to zero t = 0
-fail_to (suc q) (To n moves) = n
+fail_to (suc q) (Some t) = t.state
 fail_to (suc q) Wrong = 0
 
 -- the child of state q on a byte, behind k states

@@ -4,7 +4,6 @@ ghost use Rattle.tagset.specs.Cutting.{words_of};
 ghost use Rattle.bitmap.specs.Steps.{step, vector_at};
 ghost use Rattle.bitmap_growing.specs.Growing.{Found, Growing, Sowable, Sowing, fail_to, kids, placed, sown_by};
 
-use bitmap::Step;
 use bitmap::steps::{next_state, ones_below};
 use bitmap_maps::masks::goes_through;
 use tagset::Words;
@@ -28,10 +27,10 @@ fn failing(table: &[u16], s: usize, q: usize, f: usize, c: u8) -> usize
     if q == 0 {
         return 0;
     }
-    let Step::To(n, _) = next_state(table, s, f, c) else {
-        return 0;
-    };
-    n
+    match next_state(table, s, f, c) {
+        Some(to) => to.state,
+        None => 0,
+    }
 }
 
 // State r, which waits: its depth, where it fails to, and tag u in its mask.

@@ -1,5 +1,5 @@
 -- WHAT A READ OVER ANY RUN OF NUMBERS PROMISES: when it is refused, exactly; that a refused one changes nothing; and what every one keeps.
-use Rattle.std.specs.Prelude.{Err, ◌*◌, ◌+◌, ◌/◌, ◌<◌, ◌≤◌, ℕ, Bool, List, [], ◌↔◌, ◌≡◌, refl, ltb, get_or}
+use Rattle.std.specs.Prelude.{Err, ◌*◌, ◌+◌, ◌/◌, ◌<◌, ◌≤◌, ℕ, Bool, List, [], Some, ◌↔◌, ◌≡◌, refl, ltb, get_or}
 use Rattle.std.proofs.Common.{◌∙◌, ap, subst, arith}
 use Rattle.std.proofs.Math.ListN.{length}
 use borrow.Author.Tests.{le-ltb, lt-ltb, ltb-false, ltb-true}
@@ -19,9 +19,7 @@ use Rattle.matching.specs.Laws.Stepping.{Rising, Why, read_by-ordered, went}
 use Rattle.matching.specs.Laws.AnyTable.{ones_of_rising}
 use Rattle.matching.specs.Occurrence.{Ordered}
 use Rattle.matching.specs.Reading.{ones_of}
-use Rattle.bitmap.specs.Steps.{step, vector_at}
-use Rattle.bitmap.specs.declared.Step.{Step}
-use Rattle.bitmap.specs.declared.Step.TheVariants.{To, Wrong}
+use Rattle.bitmap.specs.Steps.{Step, Wrong, step, vector_at}
 use Rattle.bitmap.specs.Ways.{Way}
 use Rattle.bitmap.specs.Laws.Ways.{way_iff}
 
@@ -131,14 +129,14 @@ map_damaged_iff s table at c = (
 )
   where
     go : (t : Step) → landed table at.moves t ≡ is_damaged → t ≡ Wrong
-    go (To n m) e = absurd (let z : ◌≡◌ {A = ℕ} 0 1 = cc in omega arith)
+    go (Some t) e = absurd (let z : ◌≡◌ {A = ℕ} 0 1 = cc in omega arith)
     go Wrong e = refl
 
 -- the tags of a step rise, and so the records are by end, then by tag number
 landed_rising : (table : List ℕ) (moves : ℕ) (t : Step) (to : Standing) (tags : List ℕ) → landed table moves t ≡ goes_to to tags → Rising tags
-landed_rising table moves (To n more) to tags e =
-    let same : ones_of 0 16 (vector_at table n) ≡ tags = cc in
-    subst Rising same (ones_of_rising 16 0 (vector_at table n))
+landed_rising table moves (Some t) to tags e =
+    let same : ones_of 0 16 (vector_at table t.state) ≡ tags = cc in
+    subst Rising same (ones_of_rising 16 0 (vector_at table t.state))
 landed_rising table moves Wrong to tags e = absurd (let z : ◌≡◌ {A = ℕ} 0 1 = cc in omega arith)
 
 pub map-ordered : (s : ℕ) (table : List ℕ) (place count room : ℕ) (piece : Word) → Ordered (read_map s table place count room piece).found

@@ -1,16 +1,15 @@
 -- The reading of a piece over ANY run of numbers, as its numbers say, with the failure moves of the bytes taken (docs/RULES.md, 4).
-use Rattle.std.specs.Prelude.{◌+◌, ℕ, List}
+use Rattle.std.specs.Prelude.{◌+◌, ℕ, List, Some}
 use Rattle.matching.specs.Reading.{ones_of}
 use Rattle.matching.specs.Stepping.{OutcomeOf, Step, Stepped, goes_to, is_damaged, read_by}
 use Rattle.matching.specs.Words.{Word}
+use Rattle.bitmap.specs.Steps.{Wrong}
 use Rattle.bitmap_reading.specs.declared.Standing.{Standing}
 use Rattle.bitmap.specs.Steps as bitmap
-use Rattle.bitmap.specs.declared.Step as one
-use Rattle.bitmap.specs.declared.Step.TheVariants.{To, Wrong}
 
 -- where a byte leads, with the tags of the state that it comes to: the ones of its vector
-abbrev pub landed : List ℕ → ℕ → one.Step → Stepped Standing
-landed table moves (To n more) = goes_to (record { state = n; moves = moves + more }) (ones_of 0 16 (bitmap.vector_at table n))
+abbrev pub landed : List ℕ → ℕ → bitmap.Step → Stepped Standing
+landed table moves (Some t) = goes_to (record { state = t.state; moves = moves + t.moves }) (ones_of 0 16 (bitmap.vector_at table t.state))
 landed table moves Wrong = is_damaged
 
 unfoldable pub map_step : ℕ → List ℕ → Step Standing

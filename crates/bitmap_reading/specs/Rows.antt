@@ -1,9 +1,7 @@
 -- What is known of a byte before its step is taken.
 use Rattle.std.specs.Prelude.{None, Option, Some, ◌*◌, ◌<◌, ◌≤◌, suc, zero, ℕ, Bool, false, List, ◌⊎◌, ◌≡◌, get_or}
 use Rattle.passing.specs.Quiet.{PassesBy}
-use Rattle.bitmap.specs.Steps.{fail_at, in_map, step}
-use Rattle.bitmap.specs.declared.Step.{Step}
-use Rattle.bitmap.specs.declared.Step.TheVariants.{To}
+use Rattle.bitmap.specs.Steps.{Step, To, fail_at, in_map, step}
 use Rattle.bitmap_reading.specs.Reading.{map_step}
 use Rattle.bitmap_reading.specs.declared.rows.Came.{Came}
 

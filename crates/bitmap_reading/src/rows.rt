@@ -3,7 +3,7 @@
 ghost use Rattle.std.specs.Prelude.{IfSome, ◌≡◌, ◌+◌, ◌*◌, ◌<◌, ◌≤◌, ◌^◌, length};
 ghost use Rattle.bitmap_reading.specs.Rows.{Row, Leads, Quick, Shallow, Few, PassedTo, moves_from};
 
-use bitmap::Step;
+use bitmap::Reached;
 use bitmap::steps::{next_state, number, own_bit, vector_of};
 
 // The state that each byte leads to from state 0; none, where a number on its way is wrong.
@@ -22,10 +22,8 @@ fn leads(table: &[u16], s: usize, c: u8) -> Option<u16>
     requires { (s * 19 ≤ length table.now) × ((0 < s) × (s ≤ 513)) }
     ensures { Leads s table.now c result }
 {
-    let Step::To(n, _) = next_state(table, s, 0, c) else {
-        return None;
-    };
-    Some(n as u16)
+    let to = next_state(table, s, 0, c)?;
+    Some(to.state as u16)
 }
 
 // The row of state 0.
@@ -72,17 +70,18 @@ fn moves_from(q: usize) -> usize
 }
 
 // A byte's step, where it is found quickly: what it says is so, and it may say nothing.
-fn quick(table: &[u16], s: usize, row: &Leading, q: usize, c: u8) -> Step
+fn quick(table: &[u16], s: usize, row: &Leading, q: usize, c: u8) -> Option<Reached>
     requires { (s * 19 ≤ length table.now) × ((q < s) × ((s ≤ 513) × (Row s table.now row.now))) }
     ensures { Quick s table.now q c result }
 {
     if is_deep(table, q, c) {
         return next_state(table, s, q, c);
     }
-    let Some(n) = row[usize::from(c)] else {
-        return Step::Wrong;
-    };
-    Step::To(usize::from(n), moves_from(q))
+    let n = row[usize::from(c)]?;
+    Some(Reached {
+        state: usize::from(n),
+        moves: moves_from(q),
+    })
 }
 
 // Over quiet bytes, as long as there are.
@@ -105,16 +104,16 @@ pub fn pass(
         moves,
     };
     for i in from..piece.len() {
-        let Step::To(n, m) = quick(table, s, row, came.state, piece[i]) else {
+        let Some(to) = quick(table, s, row, came.state, piece[i]) else {
             break;
         };
-        if vector_of(table, n) != 0 {
+        if vector_of(table, to.state) != 0 {
             break;
         }
         came = Came {
             at: i + 1,
-            state: n,
-            moves: came.moves + m,
+            state: to.state,
+            moves: came.moves + to.moves,
         };
     }
     came

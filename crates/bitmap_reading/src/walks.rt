@@ -5,7 +5,6 @@ ghost use Rattle.bitmap_reading.specs.Walks.{WalkedMap};
 
 use crate::Standing;
 use crate::rows::{pass, row_for};
-use bitmap::Step;
 use bitmap::steps::{next_state, vector_of};
 use matching::Stop;
 use reading::records::put_all;
@@ -43,17 +42,17 @@ pub fn on_bitmap(
     let mut moves: usize = 0;
     // A while, since a turn may pass over many bytes: a for's step is 1.
     while i < piece.len() {
-        let Step::To(n, m) = next_state(table, s, q, piece[i]) else {
+        let Some(to) = next_state(table, s, q, piece[i]) else {
             return Went::stopped(i, standing(q, moves), w, Stop::Damaged);
         };
-        let hits = vector_of(table, n);
+        let hits = vector_of(table, to.state);
         let Some(x) = put_all(list, w, count + (i as u32) + 1, hits) else {
             return Went::stopped(i, standing(q, moves), w, Stop::Full);
         };
-        q = n;
+        q = to.state;
         w = x;
         i += 1;
-        moves += m;
+        moves += to.moves;
         // what follows a byte without a match is passed over, if there is a row
         if hits == 0
             && let Some(row) = &row

@@ -4,9 +4,8 @@ use Rattle.std.proofs.Common.{inl, inr, ◌∙◌, ap, subst, sym, not-suc-le-ze
 use Rattle.std.proofs.lemmas.Bool.{eqb-false}
 use Rattle.matching.specs.Laws.Bools.{decided}
 use Rattle.bitmap.specs.Laws.Steps.{arrived_bad, arrived-good, step-fail, step_in, step_stay, step-wrong}
-use Rattle.bitmap.specs.Steps.{child_of, fail_at, in_map, moved, step}
+use Rattle.bitmap.specs.Steps.{Step, child_of, fail_at, in_map, moved, step}
 use Rattle.bitmap.specs.Ways.{Way, child_no_state, fails_not_lower, fails_on, stays, to_child}
-use Rattle.bitmap.specs.declared.Step.{Step}
 
 module _ (s : ℕ) (table : List ℕ) (c : ℕ) where
   way_by : (b q : ℕ) → q < b → Way s table c q (step s table q c)

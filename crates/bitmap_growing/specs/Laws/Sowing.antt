@@ -15,9 +15,7 @@ use Rattle.bitmap.specs.Laws.Levels.{Child, begins-byte}
 use Rattle.bitmap.specs.Laws.Maps.{ones_below-is, tally-same}
 use Rattle.bitmap.specs.Laws.States.{states-few}
 use Rattle.bitmap.specs.Levels.{by_level, forward}
-use Rattle.bitmap.specs.Steps.{fail_at, number_at, ones_below, step, vector_at}
-use Rattle.bitmap.specs.declared.Step.{Step}
-use Rattle.bitmap.specs.declared.Step.TheVariants.{To, Wrong}
+use Rattle.bitmap.specs.Steps.{Step, To, Wrong, fail_at, number_at, ones_below, step, vector_at}
 use Rattle.bitmap_maps.specs.Laws.Masks.{begins-child, goes-begins, through-fits, vector-take}
 use Rattle.bitmap_maps.specs.Through.{through}
 use Rattle.bitmap_growing.specs.Growing.{Found, Growing, Sowable, Sowing, Sown, Waiting, child_number, fail_to, kids, placed, sown_by, word_of}

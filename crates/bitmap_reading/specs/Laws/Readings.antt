@@ -20,8 +20,7 @@ use Rattle.bitmap.specs.Laws.Levels.{by_level-same}
 use Rattle.bitmap.specs.Laws.Moves.{moves-longest, moves_in_append, moves_in-same, moves_in_snoc}
 use Rattle.bitmap.specs.Levels.{by_level}
 use Rattle.bitmap.specs.Moves.{moves_in, moves_on}
-use Rattle.bitmap.specs.Steps.{step, vector_at}
-use Rattle.bitmap.specs.declared.Step.TheVariants.{To}
+use Rattle.bitmap.specs.Steps.{To, step, vector_at}
 use Rattle.bitmap_reading.specs.Laws.Steps.{map-goes}
 use Rattle.bitmap_reading.specs.Reading.{map_step, read_map}
 use Rattle.bitmap_reading.specs.declared.Standing.{Standing}

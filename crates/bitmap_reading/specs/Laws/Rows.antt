@@ -10,8 +10,7 @@ use Rattle.passing.specs.Laws.Runs.{or_zero}
 use Rattle.matching.specs.Reading.{ones_of}
 use Rattle.matching.specs.Stepping.{goes_to}
 use Rattle.bitmap.specs.Laws.Steps.{sound, step-fail}
-use Rattle.bitmap.specs.Steps.{fail_at, in_map, moved, step, vector_at}
-use Rattle.bitmap.specs.declared.Step.TheVariants.{To}
+use Rattle.bitmap.specs.Steps.{To, fail_at, in_map, moved, step, vector_at}
 use Rattle.bitmap_reading.specs.Laws.Steps.{map-goes}
 use Rattle.bitmap_reading.specs.Reading.{map_step}
 use Rattle.bitmap_reading.specs.Rows.{Leads, PassedTo, Row, moves_from}

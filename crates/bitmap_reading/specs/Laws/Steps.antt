@@ -3,8 +3,7 @@ use Rattle.std.specs.Prelude.{◌+◌, ℕ, List, ◌≡◌}
 use Rattle.std.proofs.Math.Path.{ap}
 use Rattle.matching.specs.Reading.{ones_of}
 use Rattle.matching.specs.Stepping.{goes_to, is_damaged}
-use Rattle.bitmap.specs.Steps.{step, vector_at}
-use Rattle.bitmap.specs.declared.Step.TheVariants.{To, Wrong}
+use Rattle.bitmap.specs.Steps.{To, Wrong, step, vector_at}
 use Rattle.bitmap_reading.specs.Reading.{landed, map_step}
 
 module _ (s : ℕ) (table : List ℕ) (q k c : ℕ) where

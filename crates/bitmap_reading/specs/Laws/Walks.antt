@@ -8,8 +8,7 @@ use Rattle.matching.specs.declared.Stop.TheVariants.{All, Damaged, Full}
 use Rattle.reading.specs.Laws.Walks.{Ended, by_all, by_damaged, by-full, by-long, by-pass, by-start, by-took}
 use Rattle.reading.specs.Records.{emit_of, emitted}
 use Rattle.bitmap.specs.Laws.Steps.{sound}
-use Rattle.bitmap.specs.Steps.{step, vector_at}
-use Rattle.bitmap.specs.declared.Step.TheVariants.{To, Wrong}
+use Rattle.bitmap.specs.Steps.{To, Wrong, step, vector_at}
 use Rattle.bitmap_reading.specs.Laws.Steps.{map-goes, map-wrong}
 use Rattle.bitmap_reading.specs.Reading.{map_step, read_map}
 use Rattle.bitmap_reading.specs.declared.Standing.{Standing}

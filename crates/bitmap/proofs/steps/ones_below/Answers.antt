@@ -12,5 +12,5 @@ pub returns : goal.returns
 returns c =
     let l = c.loop-j in
     let a = c.args in
-    counted-all a.table.now a.q a.c c.byte-x.result l.sum l.j _ _ _ c.byte-x.ensures l.invariant c.loop-j-test.false
+    counted-all a.table.now a.q a.c c.from-x.result l.sum l.j _ _ _ c.from-x.ensures l.invariant c.loop-j-test.false
     c.number-2.ensures c.low.ensures c.ones_of.ensures.0 c.ones_of.ensures.1

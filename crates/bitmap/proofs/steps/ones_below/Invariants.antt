@@ -1,10 +1,6 @@
 -- The ones of the words so far, and then of the own word masked.
-use Prim.Native.Nat.{◌-◌}
 use Rattle.bitmap.specs.Laws.Loops.{Counted}
 use Rattle.bitmap.proofs.steps.ones_below.Given as goal
 
 abbrev pub invariant-loop-j : goal.invariant-loop-j
 invariant-loop-j l = Counted l.table l.q l.whole l.sum l.j
-
-abbrev pub decreases-loop-j : goal.decreases-loop-j
-decreases-loop-j l = l.whole - l.j

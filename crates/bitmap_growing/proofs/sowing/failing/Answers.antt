@@ -1,5 +1,4 @@
 -- By whether the parent is the start state; the step is never wrong over settled slots.
-use mathlib.Core.Path.{◌∙◌, sym}
 use Rattle.bitmap_growing.specs.Laws.Sowing.{fail-first, fail-never, fail-there}
 use Rattle.bitmap_growing.proofs.sowing.failing.Goals as goal
 
@@ -7,10 +6,8 @@ pub returns-then-q-eq0 : goal.returns-then-q-eq0
 returns-then-q-eq0 c =
     fail-first c.args.q _ c.if-q-eq0.true
 
-pub returns-in_default : goal.returns-in_default
-returns-in_default c =
-    fail-never c.args.q _ (sym c.in_default.is ∙ c.next_state.ensures)
+pub returns-in-None : goal.returns-in-None
+returns-in-None c = fail-never c.args.q _ c.in-None.ensures
 
-pub returns : goal.returns
-returns c =
-    fail-there c.args.q _ c.if-q-eq0.false _ _ (sym c.in-To.is ∙ c.next_state.ensures)
+pub returns-in-Some : goal.returns-in-Some
+returns-in-Some c = fail-there c.args.q _ c.if-q-eq0.false _ _ c.in-Some.ensures

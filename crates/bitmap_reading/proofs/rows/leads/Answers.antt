@@ -1,5 +1,4 @@
 -- From state 0 there is no move.
-use mathlib.Core.Path.{◌∙◌, sym}
 use native.Mathlib.Omega.{arith}
 use Rattle.bitmap.specs.Laws.Steps.{sound}
 use Rattle.bitmap_reading.specs.Laws.Rows.{leads_to}
@@ -8,11 +7,11 @@ use Rattle.bitmap_reading.proofs.rows.leads.Goals as goal
 pub overflow_cast-result : goal.overflow_cast-result
 overflow_cast-result c =
     let fine =
-    sound c.args.s c.args.table.now 0 c.args.c _ _ c.requires.1.0 (sym c.in-To.is ∙ c.next_state.ensures)
+    sound c.args.s c.args.table.now 0 c.args.c _ _ c.requires.1.0 c.in_ok-to.ensures
     in
     omega (arith, fine.0, c.requires.1.1)
 
 pub returns : goal.returns
 returns c =
     leads_to c.args.s c.args.table.now c.args.c _ _ c.requires.1.0
-    (sym c.in-To.is ∙ c.next_state.ensures)
+    c.in_ok-to.ensures

@@ -22,7 +22,7 @@ pub vector_of-hits-requires : goal.vector_of-hits-requires
 vector_of-hits-requires c =
     let l = c.loop-i in
     let fine =
-    sound c.args.s c.args.table.now l.q _ _ _ l.invariant.below (sym c.in-To.is ∙ c.next_state.ensures) in
+    sound c.args.s c.args.table.now l.q _ _ _ l.invariant.below (sym c.in-Some.is ∙ c.next_state.ensures) in
     omega (arith, fine.0, c.requires.0)
 
 pub returns-in_default-put_all : goal.returns-in_default-put_all
@@ -31,7 +31,7 @@ returns-in_default-put_all c =
     let l = c.loop-i in
     map-full a.s a.table.now a.count a.piece.now a.list.now a.start l.list l.q l.w l.i l.moves l.invariant
     c.loop-i-test.true _ _
-    (sym c.next_state.ensures ∙ c.in-To.is) c.vector_of-hits.result c.vector_of-hits.ensures
+    (sym c.next_state.ensures ∙ c.in-Some.is) c.vector_of-hits.result c.vector_of-hits.ensures
     (sym c.in_default-put_all.is ∙ c.put_all.ensures.0)
     c.put_all.new.list c.put_all.ensures.1 _
     (rw c.standing-in_default-put_all.ensures at c.stopped-in_default-put_all.ensures)
@@ -41,7 +41,7 @@ overflow_add-moves c =
     let l = c.loop-i in
     let fine =
     sound c.args.s c.args.table.now l.q _ _ _ l.invariant.below
-    (sym c.in-To.is ∙ c.next_state.ensures) in
+    (sym c.in-Some.is ∙ c.next_state.ensures) in
     omega (arith, fine.1, l.invariant.few, l.invariant.below, l.invariant.going.most, c.requires.1.0, c.requires.1.1.1)
 
 pub pass-p-requires : goal.pass-p-requires
@@ -49,8 +49,8 @@ pass-p-requires c =
     -- the byte is taken, and its records written
     let taken =
     map-took c.args.s c.args.table.now c.args.count c.args.piece.now c.args.list.now c.args.start c.loop-i.list c.loop-i.q c.loop-i.w
-    c.loop-i.i c.loop-i.moves c.loop-i.invariant c.loop-i-test.true _ _ (sym c.next_state.ensures ∙ c.in-To.is)
-    c.vector_of-hits.result c.vector_of-hits.ensures c.requires.1.0 _ (sym c.in-Some.is ∙ c.put_all.ensures.0) _ c.put_all.ensures.1 in
+    c.loop-i.i c.loop-i.moves c.loop-i.invariant c.loop-i-test.true _ _ (sym c.next_state.ensures ∙ c.in-Some.is)
+    c.vector_of-hits.result c.vector_of-hits.ensures c.requires.1.0 _ (sym c.in-Some-put_all.is ∙ c.put_all.ensures.0) _ c.put_all.ensures.1 in
     record {
       s_in_bounds = (c.requires.0, (taken.below, (c.requires.1.0, rw c.in-Some-row.is at c.row_for-row.ensures)));
       from_in_bounds = (taken.going.most, (omega (arith, c.requires.1.1.1), taken.few));
@@ -61,8 +61,8 @@ loop-i-preserved-in-loop-i c =
     -- the byte is taken, and its records written
     let taken =
     map-took c.args.s c.args.table.now c.args.count c.args.piece.now c.args.list.now c.args.start c.loop-i.list c.loop-i.q c.loop-i.w
-    c.loop-i.i c.loop-i.moves c.loop-i.invariant c.loop-i-test.true _ _ (sym c.next_state.ensures ∙ c.in-To.is)
-    c.vector_of-hits.result c.vector_of-hits.ensures c.requires.1.0 _ (sym c.in-Some.is ∙ c.put_all.ensures.0) _ c.put_all.ensures.1 in
+    c.loop-i.i c.loop-i.moves c.loop-i.invariant c.loop-i-test.true _ _ (sym c.next_state.ensures ∙ c.in-Some.is)
+    c.vector_of-hits.result c.vector_of-hits.ensures c.requires.1.0 _ (sym c.in-Some-put_all.is ∙ c.put_all.ensures.0) _ c.put_all.ensures.1 in
     let a = c.args in
     map-pass a.s a.table.now a.count a.piece.now a.list.now a.start _ _ _ _ _ taken
     c.pass-p.result c.pass-p.ensures
@@ -72,8 +72,8 @@ loop-i-preserved c =
     -- the byte is taken, and its records written
     let taken =
     map-took c.args.s c.args.table.now c.args.count c.args.piece.now c.args.list.now c.args.start c.loop-i.list c.loop-i.q c.loop-i.w
-    c.loop-i.i c.loop-i.moves c.loop-i.invariant c.loop-i-test.true _ _ (sym c.next_state.ensures ∙ c.in-To.is)
-    c.vector_of-hits.result c.vector_of-hits.ensures c.requires.1.0 _ (sym c.in-Some.is ∙ c.put_all.ensures.0) _ c.put_all.ensures.1 in
+    c.loop-i.i c.loop-i.moves c.loop-i.invariant c.loop-i-test.true _ _ (sym c.next_state.ensures ∙ c.in-Some.is)
+    c.vector_of-hits.result c.vector_of-hits.ensures c.requires.1.0 _ (sym c.in-Some-put_all.is ∙ c.put_all.ensures.0) _ c.put_all.ensures.1 in
     taken
 
 pub returns : goal.returns
