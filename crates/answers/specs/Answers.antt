@@ -14,7 +14,7 @@ use Rattle.numbers.specs.declared.Answer.{Answer}
 use Rattle.numbers.specs.declared.Said.{Said}
 use Rattle.reading.specs.Outside.{Ending}
 use Rattle.tables.specs.Building.{built_number, built_values}
-use Rattle.tables.specs.declared.Built.{Built}
+use Rattle.tables.specs.Building.{Built}
 use Rattle.output.specs.Decimal.{decimal_of}
 
 -- words, and a number behind them

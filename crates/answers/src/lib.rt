@@ -15,7 +15,7 @@ use numbers::Answer;
 use output::{put_line_end, put_words};
 use reading::Ending;
 pub use show::shown;
-use tables::Built;
+use tables::BuildFault;
 pub use texts::{not_a_call, word_line};
 use texts::{put_blank_number, put_numbered, put_numbers, refused};
 
@@ -131,7 +131,7 @@ pub fn taken(out: &mut [u8; 65536], used: usize, answer: TakeAnswer) -> usize
     record_line(out, used, given)
 }
 
-pub fn built_line(out: &mut [u8; 65536], used: usize, answer: Built) -> usize
+pub fn built_line(out: &mut [u8; 65536], used: usize, answer: Result<usize, BuildFault>) -> usize
     ensures { Puts (buffer out.old used) (built_line answer) (buffer out.new result) }
 {
     let said = numbers::of_built(answer);

@@ -1,5 +1,5 @@
 -- Readings one after another over a bitmap table as building left it, and when they are those over the whole-byte table of the same set.
-use Rattle.tables.specs.declared.Built.TheVariants as B
+use Rattle.std.specs.Prelude.{Ok}
 use Rattle.std.specs.Prelude.{◌+◌, ◌/◌, ◌<◌, ◌≤◌, suc, ℕ, List, [], ◌++◌, ◌∷◌, ◌⊎◌, ◌≡◌, get_or, length, take}
 use Rattle.matching.specs.Limits.{largest}
 use Rattle.matching.specs.Machine.{longest, prefixes, walk}
@@ -24,7 +24,7 @@ use Rattle.matching.specs.Tags.{exact}
 pub record MapAsBuilt (set run : List ℕ) (ts : List Word) : Type 0 where
   pub bytes : Below 256 set
   pub tags : set_of map_kinds set ≡ good_set (exact ts)
-  pub answered : map_built_of set (length run) ≡ B.Tags (length ts)
+  pub answered : map_built_of set (length run) ≡ Ok (length ts)
 
 -- what a row of readings comes to: the bytes taken, the records written, why each that was not refused stopped, the state then, and all their moves
 pub record MapRow : Type 0 where

@@ -1,5 +1,6 @@
 -- Sample 15 of docs/RULES.md, 10, computed from the definitions: the bitmap machine of he, she, his, hers.
-use Rattle.tables.specs.declared.Built.TheVariants as B
+use Rattle.std.specs.Prelude.{Err}
+use Rattle.tables.specs.declared.BuildFault.TheVariants as B
 use Rattle.std.specs.Prelude.{List, [], ◌++◌, ◌∷◌, map, ◌≡◌, refl, replicate, take, true, ltb, ℕ}
 use Rattle.std.specs.Int.Count.{ones, ones_in}
 use Rattle.matching.specs.declared.Stop.TheVariants.{All}
@@ -73,7 +74,7 @@ unfolding by_level levels below children_from among begins begins_one same entry
     kinds_for as_read lower map_built_of room_in all_below
 bitmap_built = record { bytes = bytes-by set refl; tags = refl; answered = refl }
 
-pub one-slot-short : map_built_of set 189 ≡ B.Table 253 10
+pub one-slot-short : map_built_of set 189 ≡ Err (B.Table 253 10)
 unfolding by_level levels below children_from among begins begins_one same entry_of entries_from distinct set_of among_tags is_among kind_of chosen has_part
     kinds_for as_read lower map_built_of room_in
 one-slot-short = refl

@@ -1,5 +1,6 @@
 -- What the builder answers, and what it leaves, as the code has it.
-use Rattle.tables.specs.declared.Built.TheVariants as B
+use Rattle.std.specs.Prelude.{Err, Ok}
+use Rattle.tables.specs.declared.BuildFault.TheVariants as B
 use Prim.Native.Nat.{◌*◌, ◌<◌, ◌≤◌, ℕ}
 use mathlib.Core.List.{List, ◌++◌}
 use mathlib.Core.Path.{◌∙◌, ◌≡◌, ap, subst, sym}
@@ -17,7 +18,7 @@ use Rattle.tagset.specs.Refusals.{Accepted}
 use Rattle.tagset.specs.declared.SetFault.{SetFault}
 use Rattle.tagset.specs.declared.Places.{Places}
 use Rattle.machines.specs.Rows.{Fit}
-use Rattle.tables.specs.declared.Built.{Built}
+use Rattle.tables.specs.Building.{Built}
 use Rattle.bitmap.specs.Laws.States.{states-same}
 use Rattle.bitmap.specs.Levels.{by_level}
 use Rattle.bitmap.specs.Slots.{built, room_in, slots_of}
@@ -38,8 +39,8 @@ module _ {ts : List Word} (l : Lawful ts) (run : List ℕ) (s : ℕ) (es : s ≡
     short : slots_of (length run) < states ts
     short = omega (arith, h, es, en)
 
-    pub short-answer : B.Table 253 n ≡ map_built_tags ts (length run)
-    short-answer = ap (B.Table 253) en ∙ ap (map_built_by ts) (sym (room-short ts l (slots_of (length run)) short))
+    pub short-answer : Err (B.Table 253 n) ≡ map_built_tags ts (length run)
+    short-answer = ap (λ (needs : ℕ). Err (B.Table 253 needs)) en ∙ ap (map_built_by ts) (sym (room-short ts l (slots_of (length run)) short))
 
     pub short-table : run ≡ map_table_tags ts run
     short-table = ap (map_table_by ts run) (sym (room-short ts l (slots_of (length run)) short))
@@ -48,8 +49,8 @@ module _ {ts : List Word} (l : Lawful ts) (run : List ℕ) (s : ℕ) (es : s ≡
     enough : room_in (slots_of (length run)) ts ≡ enough_slots
     enough = room-enough ts l (slots_of (length run)) (omega (arith, h, es, en))
 
-    pub done-answer : (count : ℕ) → length ts ≡ count → B.Tags count ≡ map_built_tags ts (length run)
-    done-answer count e = ap B.Tags (sym e) ∙ ap (map_built_by ts) (sym enough)
+    pub done-answer : (count : ℕ) → length ts ≡ count → Ok count ≡ map_built_tags ts (length run)
+    done-answer count e = ap Ok (sym e) ∙ ap (map_built_by ts) (sym enough)
 
     pub done-table : (front : List ℕ) → front ≡ built s ts → front ++ drop (s * 19) run ≡ map_table_tags ts run
     done-table front e =
@@ -59,7 +60,7 @@ module _ {ts : List Word} (l : Lawful ts) (run : List ℕ) (s : ℕ) (es : s ≡
 -- ---- a set
 
 module _ (bytes run : List ℕ) where
-  pub fault-answer : {fault : SetFault} → set_of map_kinds bytes ≡ bad_set fault → B.Fault fault ≡ map_built_of bytes (length run)
+  pub fault-answer : {fault : SetFault} → set_of map_kinds bytes ≡ bad_set fault → Err (B.Set fault) ≡ map_built_of bytes (length run)
   unfolding map_built_of
   fault-answer e = rw e
 

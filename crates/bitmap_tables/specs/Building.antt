@@ -1,4 +1,5 @@
 -- Building a bitmap table, from the bytes of a set, over a lent run of numbers. It takes exact tags alone, so their words are all there is to them.
+use Rattle.std.specs.Prelude.{Err, Ok}
 use Rattle.std.specs.Prelude.{◌*◌, ℕ, List, ◌++◌, map, drop, length}
 use Rattle.matching.specs.Kinds.{TagKind}
 use Rattle.matching.specs.Parts.{kinds_for, whole_layout}
@@ -6,8 +7,8 @@ use Rattle.matching.specs.Table.{Room, enough_slots, short_of_slots}
 use Rattle.matching.specs.Tags.{Tag, Tags}
 use Rattle.matching.specs.Words.{Word}
 use Rattle.tagset.specs.Grammar.{SetOf, bad_set, good_set, set_of}
-use Rattle.tables.specs.declared.Built.{Built}
-use Rattle.tables.specs.declared.Built.TheVariants as B
+use Rattle.tables.specs.Building.{Built}
+use Rattle.tables.specs.declared.BuildFault.TheVariants as B
 use Rattle.bitmap.specs.Slots.{built, room_in, slots_of}
 
 -- the kinds of tag that it takes: those that the whole-byte layout takes
@@ -19,15 +20,15 @@ abbrev pub words_of : Tags → List Word
 words_of tags = map (λ (t : Tag). t.word) tags
 
 abbrev pub map_built_by : List Word → Room → Built
-map_built_by ts enough_slots = B.Tags (length ts)
-map_built_by ts (short_of_slots machine needs) = B.Table machine needs
+map_built_by ts enough_slots = Ok (length ts)
+map_built_by ts (short_of_slots machine needs) = Err (B.Table machine needs)
 
 -- the answer for tags of these words, over a run of so many numbers
 abbrev pub map_built_tags : List Word → ℕ → Built
 map_built_tags ts len = map_built_by ts (room_in (slots_of len) ts)
 
 abbrev pub on_map_set : ℕ → SetOf → Built
-on_map_set len (bad_set fault) = B.Fault fault
+on_map_set len (bad_set fault) = Err (B.Set fault)
 on_map_set len (good_set tags) = map_built_tags (words_of tags) len
 
 -- the answer: set faults, then TABLE

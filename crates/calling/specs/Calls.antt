@@ -23,7 +23,7 @@ use Rattle.calling.specs.declared.State.{State}
 use Rattle.bitmap_tables.specs.Building.{map_built_of, map_table_of}
 use Rattle.matching.specs.Parts.{first_run, split_layout, whole_layout}
 use Rattle.tables.specs.Building.{built_of, tables_of}
-use Rattle.tables.specs.declared.Built.{Built}
+use Rattle.tables.specs.Building.{Built}
 use Rattle.output.specs.Buffer.{Buffer, Puts}
 use Rattle.desk.specs.Layout.{Lent, Sizes, by_set, lens_of, lent, lent_from, one_bit, runs_of, sizes, sizes_of}
 

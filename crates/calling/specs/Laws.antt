@@ -20,7 +20,7 @@ use Rattle.script.specs.declared.Table.TheVariants.{First, Second}
 use Rattle.calling.specs.Calls.{Held, answered, build_on, built_by, Did, feed_on, front_of, held_by, lend_at, lend_on, poke_on, put_at, replace_on, sevens, table_at}
 use Rattle.calling.specs.Calls.{tables_by, with_desk}
 use Rattle.calling.specs.declared.State.{State}
-use Rattle.tables.specs.declared.Built.{Built}
+use Rattle.tables.specs.Building.{Built}
 use Rattle.output.specs.Buffer.{Buffer, Puts}
 use Rattle.desk.specs.Layout.{Lent, Sizes, by_set, lent, sizes, sizes_of}
 

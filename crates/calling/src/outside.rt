@@ -7,9 +7,9 @@ ghost use Rattle.calling.specs.Calls.{answered, held_by, Within, Did, build_on, 
 
 use crate::State;
 use script::{Layout, ReadCall};
-use tables::Built;
+use tables::BuildFault;
 
-fn build_by(layout: Layout, set: &[u8], first: &mut [u16], second: &mut [u16]) -> Built
+fn build_by(layout: Layout, set: &[u8], first: &mut [u16], second: &mut [u16]) -> Result<usize, BuildFault>
     ensures value { result ≡ built_by layout set.now (sizes (length first.old) (length second.old)) }
     ensures second_after { lent first.new second.new ≡ tables_by layout set.now (lent first.old second.old) }
 {

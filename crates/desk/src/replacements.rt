@@ -1,25 +1,25 @@
 // What a replacement answers, by what building answered.
-ghost use Rattle.std.specs.Prelude.{◌≡◌, not, false, eqb};
+ghost use Rattle.std.specs.Prelude.{◌≡◌, Ok, not, false, eqb};
 ghost use Rattle.desk.specs.Replace.{replace_by};
 
 use crate::{Desk, Edition, ReplaceAnswer, Replacing};
-use tables::Built;
+use tables::BuildFault;
 
 // By what building answered, and whether an edition is left.
-pub fn replaced(desk: Desk, s: [usize; 2], built: Built, write: bool) -> Replacing
+pub fn replaced(desk: Desk, s: [usize; 2], built: Result<usize, BuildFault>, write: bool) -> Replacing
     requires { write ≡ not (eqb desk.edition.0 4294967295) }
     ensures { result ≡ replace_by desk s built (eqb desk.edition.0 4294967295) }
 {
     match built {
-        Built::Fault(fault) => Replacing {
+        Err(BuildFault::Set(fault)) => Replacing {
             desk,
             answer: ReplaceAnswer::Fault(fault),
         },
-        Built::Table(machine, needs) => Replacing {
+        Err(BuildFault::Table(machine, needs)) => Replacing {
             desk,
             answer: ReplaceAnswer::Table(machine, needs),
         },
-        Built::Tags(count) => {
+        Ok(count) => {
             if write {
                 return under_next(desk, s, count);
             }
@@ -33,7 +33,7 @@ pub fn replaced(desk: Desk, s: [usize; 2], built: Built, write: bool) -> Replaci
 
 fn under_next(desk: Desk, s: [usize; 2], count: usize) -> Replacing
     requires { desk.edition.0 ≡ 4294967295 → ⊥ }
-    ensures { result ≡ replace_by desk s (Built.Tags count) false }
+    ensures { result ≡ replace_by desk s (Ok count) false }
 {
     let edition = desk.edition;
     let next = Edition(edition.0 + 1);

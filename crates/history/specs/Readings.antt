@@ -1,5 +1,5 @@
 -- What demand 2 speaks of: readings one after another over a layout's tables as building left them, and what each of them is to come to.
-use Rattle.tables.specs.declared.Built.TheVariants as B
+use Rattle.std.specs.Prelude.{Ok}
 use Rattle.matching.specs.declared.Stop.TheVariants as S
 use Rattle.std.specs.Prelude.{◌+◌, ◌/◌, ◌<◌, ◌≤◌, suc, ℕ, List, [], ◌++◌, ◌∷◌, ◌≡◌, length, take}
 use Rattle.matching.specs.Laws.Layouts.{Sliced}
@@ -51,7 +51,7 @@ pub record AsBuilt (layout : Layout) (set : List ℕ) (runs : Runs) (tags : Tags
   pub sliced : Sliced layout
   pub bytes : Below 256 set
   pub good : set_of (kinds_for layout) set ≡ good_set tags
-  pub answered : built_of layout set (lengths runs) ≡ B.Tags (tag_count tags)
+  pub answered : built_of layout set (lengths runs) ≡ Ok (tag_count tags)
 
 -- what a piece read after the input v comes to, with room for so many records, as the demand has it: the reading is never damaged, finds the
 -- occurrences that end in the bytes it takes, and takes every byte up to the first whose matches find no room. The new place is said where the layout

@@ -13,8 +13,8 @@ use Rattle.numbers.specs.declared.Said.{Said}
 use Rattle.reading.specs.Outside.{Ending, read_number, read_values}
 use Rattle.reading.specs.declared.Answer.{Answer as Read}
 use Rattle.tables.specs.Building.{built_number, built_values, needed_number, needed_values}
-use Rattle.tables.specs.declared.Built.{Built}
-use Rattle.tables.specs.declared.Needed.{Needed}
+use Rattle.tables.specs.Building.{Built}
+use Rattle.tables.specs.Building.{Needs}
 
 -- a number and up to seven values; those that there aren't are 0
 abbrev pub answer_of : ℕ → List ℕ → Answer
@@ -38,7 +38,7 @@ abbrev pub built_answer : Built → Answer
 built_answer r = answer_of (built_number r) (built_values r)
 
 -- a size query: the slots of a layout's first table and of its second, 0 where it has one table only
-abbrev pub needed_answer : Needed → Answer
+abbrev pub needed_answer : Needs → Answer
 needed_answer r = answer_of (needed_number r) (needed_values r)
 
 -- the desk's calls, each by the desk's own numbers and values

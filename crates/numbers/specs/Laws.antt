@@ -1,4 +1,5 @@
 -- Laws of answers as numbers, for the proofs.
+use Rattle.std.specs.Prelude.{Err, Ok}
 use Rattle.std.specs.Prelude.{ℕ, ◌<◌, List, ◌≡◌, refl, take}
 use Rattle.std.proofs.Common.{arith, ap}
 use Rattle.desk.specs.Numbers.{close_number, close_values, feed_number, feed_values, open_number, open_values, replace_number, replace_values, take_number, take_values}
@@ -15,8 +16,8 @@ use Rattle.desk.specs.declared.TakeAnswer.TheVariants as K
 use Rattle.reading.specs.Outside.{Ending}
 use Rattle.std.specs.Prelude.{Err, Ok}
 use Rattle.tables.specs.Building.{built_number, built_values}
-use Rattle.tables.specs.declared.Built.{Built}
-use Rattle.tables.specs.declared.Built.TheVariants as B
+use Rattle.tables.specs.Building.{Built}
+use Rattle.tables.specs.declared.BuildFault.TheVariants as B
 use Rattle.tagset.specs.Answer.{fault_values}
 use Rattle.tagset.specs.declared.SetFault.{SetFault}
 use Rattle.tagset.specs.declared.SetFault.TheVariants.{Cut, Empty, Kind, Length, Many, Repeat}
@@ -42,9 +43,9 @@ fault-few Empty = refl
 fault-few (Repeat k) = refl
 
 pub built-few : (r : Built) → Few (built_number r) (built_values r)
-built-few (B.Tags count) h = refl
-built-few (B.Fault fault) h = fault-few fault
-built-few (B.Table machine needs) h = refl
+built-few (Ok count) h = refl
+built-few (Err (B.Set fault)) h = fault-few fault
+built-few (Err (B.Table machine needs)) h = refl
 
 pub replace_few : (r : ReplaceAnswer) → Few (replace_number r) (replace_values r)
 replace_few (R.Replaced edition tags) h = refl

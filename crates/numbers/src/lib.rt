@@ -12,7 +12,7 @@ ghost use Rattle.numbers.specs.Answers.{answer_of, said_of, ending_number, endin
 use desk::{Advance, CloseAnswer, FeedAnswer, OpenAnswer, ReplaceAnswer, StateAnswer, TakeAnswer};
 use matching::Stop;
 use reading::{Ending, ReadRefusal};
-use tables::{Built, Needed};
+use tables::{BuildFault, Needed};
 use tagset::SetFault;
 
 // No call gives more than four values yet; the others leave the layout as it is when one gives more.
@@ -122,22 +122,22 @@ fn of_fault(fault: SetFault) -> Said
     }
 }
 
-pub fn of_built(built: Built) -> Said
+pub fn of_built(built: Result<usize, BuildFault>) -> Said
     ensures { result ≡ said_of (built_number built) (built_values built) }
 {
     match built {
-        Built::Tags(count) => one(0, count as u64),
-        Built::Fault(fault) => of_fault(fault),
-        Built::Table(machine, needs) => two(7, machine as u64, needs as u64),
+        Ok(count) => one(0, count as u64),
+        Err(BuildFault::Set(fault)) => of_fault(fault),
+        Err(BuildFault::Table(machine, needs)) => two(7, machine as u64, needs as u64),
     }
 }
 
-pub fn of_needed(needed: Needed) -> Said
+pub fn of_needed(needed: Result<Needed, SetFault>) -> Said
     ensures { result ≡ said_of (needed_number needed) (needed_values needed) }
 {
     match needed {
-        Needed::Slots(first, second) => two(0, first as u64, second as u64),
-        Needed::Fault(fault) => of_fault(fault),
+        Ok(needed) => two(0, needed.first as u64, needed.second as u64),
+        Err(fault) => of_fault(fault),
     }
 }
 

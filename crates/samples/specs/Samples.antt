@@ -1,10 +1,11 @@
 -- The samples of docs/RULES.md, 10, together, each by its number; all are computed from the definitions.
+use Rattle.std.specs.Prelude.{Err, Ok}
 use Rattle.matching.specs.declared.Stop.TheVariants as S
 use Rattle.desk.specs.declared.CloseAnswer.TheVariants as C
 use Rattle.desk.specs.declared.FeedAnswer.TheVariants as F
 use Rattle.gate.specs.declared.Verdict.TheVariants as Q
-use Rattle.tables.specs.declared.Built.TheVariants as B
-use Rattle.tables.specs.declared.Needed.TheVariants as N
+use Rattle.tables.specs.declared.BuildFault.TheVariants as B
+use Rattle.tables.specs.Building.{of_parts}
 use Rattle.tagset.specs.declared.SetFault.TheVariants as D
 use Rattle.std.specs.Prelude.{◌%◌, ◌*◌, ◌/◌, min, suc, zero, ℕ, true, List, [], ◌++◌, ◌∷◌, map, ◌≡◌, refl, drop, get_or, replicate, take}
 use Rattle.std.proofs.Common.{arith}
@@ -37,7 +38,6 @@ use Rattle.samples.specs.Sets.{calls-again, calls-held, calls-replaced, hx, late
 use Rattle.tables.specs.Building.{built_of, most_states, needed_of, tables_of}
 use Rattle.tagset.specs.Answer.{along, cut_at, set_read, tags_lie}
 use Rattle.tagset.specs.Grammar.{among_tags, bad_set, distinct, entries_from, entry_of, good_set, set_of}
-use Rattle.tagset.specs.declared.Verdict.TheVariants.{Good}
 use Rattle.desk.specs.Layout.{Lent, desk_built, desk_read, desk_slots, desk_table, lent_fits, one_bit, place_fits, runs_of}
 use Rattle.desk.specs.Reached.{call_feed, call_open}
 use Rattle.desk.specs.Limits.{most_records, most_tickets}
@@ -56,10 +56,7 @@ pub record OfReading : Type 0 where
   -- part of them is "he"
   pub example : set_of kinds he_set ≡ good_set (exact ((104 ∷ 101 ∷ []) ∷ []))
   pub example-read : set_read (set_of kinds he_set)
-      ≡ record {
-        verdict = Good;
-        tags = record { count = 1; from = 4 ∷ replicate 15 0; to = 6 ∷ replicate 15 0; kinds = 1 ∷ replicate 15 0 };
-      }
+      ≡ Ok (record { count = 1; from = 4 ∷ replicate 15 0; to = 6 ∷ replicate 15 0; kinds = 1 ∷ replicate 15 0 })
   pub example-tag : get_or (cut_at he_set (4 ∷ replicate 15 0) (6 ∷ replicate 15 0)) 0 [] ≡ 104 ∷ 101 ∷ []
   -- the sets of the samples below are made alike
   pub example-made : as_set (exact ((104 ∷ 101 ∷ []) ∷ [])) ≡ he_set
@@ -86,8 +83,8 @@ pub record OfReading : Type 0 where
   pub sample_7 : (layout : Layout) (runs : Runs) (place : List ℕ) (count room : ℕ) → read_in layout runs place count room []
       ≡ record { taken = 0; place = place; stop = S.All; found = [] }
   -- 8: nine slots are one too few for machine 3, ten are enough
-  pub sample_8_short : built_of split_layout (as_set tags) (9 * 24 ∷ 24 ∷ []) ≡ B.Table 3 10
-  pub sample_8_enough : built_of split_layout (as_set tags) (10 * 24 ∷ 24 ∷ []) ≡ B.Tags 4
+  pub sample_8_short : built_of split_layout (as_set tags) (9 * 24 ∷ 24 ∷ []) ≡ Err (B.Table 3 10)
+  pub sample_8_enough : built_of split_layout (as_set tags) (10 * 24 ∷ 24 ∷ []) ≡ Ok 4
   -- 11: 16 tags and a length of 32 are accepted, a 17th is MANY and 33 LENGTH
   pub sample_11_tags : set_of kinds (as_set (singles 16)) ≡ good_set (singles 16)
   pub sample_11_many : set_of kinds (as_set (singles 17)) ≡ bad_set (D.Many 16)
@@ -102,9 +99,9 @@ pub record OfFolded : Type 0 where
   pub sample_16 : found_in both heh_ehe ≡ at 2 0 ∷ at 4 0 ∷ at 6 0 ∷ at 6 1 ∷ []
   pub sample_16_read : (read_of-split (split_of 3 3 both) 4 heh_ehe).found ≡ at 2 0 ∷ at 4 0 ∷ at 6 0 ∷ at 6 1 ∷ []
   -- 17: a second table that is short by one slot, and the one slot that it needs without tags
-  pub sample_17_short : built_of split_layout (as_set both) (3 * 24 ∷ 2 * 24 ∷ []) ≡ B.Table 8 3
-  pub sample_17_none : built_of split_layout (as_set tags) (10 * 24 ∷ 23 ∷ []) ≡ B.Table 8 1
-  pub sample_17_one : needed_of split_layout (as_set tags) ≡ N.Slots 10 1
+  pub sample_17_short : built_of split_layout (as_set both) (3 * 24 ∷ 2 * 24 ∷ []) ≡ Err (B.Table 8 3)
+  pub sample_17_none : built_of split_layout (as_set tags) (10 * 24 ∷ 23 ∷ []) ≡ Err (B.Table 8 1)
+  pub sample_17_one : needed_of split_layout (as_set tags) ≡ Ok (of_parts 10 1)
   -- 18: equal after folding is REPEAT, the same bytes in two kinds are not; the bytes before A and behind Z are exact
   pub sample_18_repeat : set_of kinds (as_set (folded_tag (104 ∷ 101 ∷ []) ∷ folded_tag (72 ∷ 69 ∷ []) ∷ [])) ≡ bad_set (D.Repeat 1)
   pub sample_18_kinds : set_of kinds (as_set (folded_tag (104 ∷ 101 ∷ []) ∷ exact_tag (104 ∷ 101 ∷ []) ∷ []))
@@ -116,7 +113,7 @@ pub record OfFolded : Type 0 where
   pub long_folded : set_of kinds (as_set (folded_tag (replicate 33 97) ∷ [])) ≡ bad_set (D.Length 0)
   pub short_folded : set_of kinds (as_set (folded_tag [] ∷ [])) ≡ bad_set (D.Length 0)
   -- the whole-byte layout takes no tag of kind 2
-  pub whole_refuses : built_of whole_layout (as_set both) (2570 ∷ []) ≡ B.Fault (D.Kind 0)
+  pub whole_refuses : built_of whole_layout (as_set both) (2570 ∷ []) ≡ Err (B.Set (D.Kind 0))
 
 -- at the edges of the rules
 pub record OfEdges : Type 0 where
@@ -130,8 +127,8 @@ pub record OfEdges : Type 0 where
   -- "a" and "{" of kind 2 have the same bit 5: folding is downward, and a capital has another
   pub sample_19_bit_5 : states (tags_for 1 (of_kind folded_kind (folded_tag (97 ∷ []) ∷ folded_tag (123 ∷ []) ∷ [])) 5) ≡ 2
   -- a whole-byte table that is short by one slot, and two split tables that are both short
-  pub sample_19_whole : built_of whole_layout (as_set tags) (9 * 257 ∷ []) ≡ B.Table 254 10
-  pub sample_19_both : built_of split_layout (as_set both) (2 * 24 ∷ 2 * 24 ∷ []) ≡ B.Table 0 3
+  pub sample_19_whole : built_of whole_layout (as_set tags) (9 * 257 ∷ []) ≡ Err (B.Table 254 10)
+  pub sample_19_both : built_of split_layout (as_set both) (2 * 24 ∷ 2 * 24 ∷ []) ≡ Err (B.Table 0 3)
 
 -- of the gate: its histories are as the theorems of the verdict ask, and what it decides
 pub record OfGate : Type 0 where

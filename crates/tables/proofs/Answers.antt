@@ -1,104 +1,50 @@
--- What building answers, and what it leaves: part by part, and for a set.
-use Rattle.tables.specs.declared.Built.TheVariants as B
-use Rattle.tables.specs.declared.Needed.TheVariants as N
+-- What building answers, and what it leaves: a layout's parts judged one after the other, and a set.
+use Rattle.tables.specs.declared.BuildFault.TheVariants as B
 use Prim.Native.Nat.{ℕ}
-use mathlib.Core.Bool.{Bool, ◌&&◌, cond, false, false≢true, not, true}
+use mathlib.Core.Bool.{Bool, cond, false, true}
 use mathlib.Core.List.{List, [], ◌∷◌}
-use mathlib.Core.Path.{◌∙◌, ◌≡◌, ap, ap₂, refl, sym}
-use lib.ListN.{get_or}
+use mathlib.Core.Path.{◌≡◌, ap, ap₂, refl, sym}
+use native.Mathlib.Omega.{arith}
+use lib.ListN.{get_or, length}
+use Rattle.std.specs.Prelude.{Err, Ok}
 use Rattle.matching.specs.Enough.{EnoughIn}
 use Rattle.matching.specs.Laws.Layouts.{enough_in_iff}
 use Rattle.matching.specs.Parts.{Layout, Part, Runs, kinds_for, lengths, or_else, part_room, part_slots, part_table, room_in, tables_for}
 use Rattle.matching.specs.Table.{Room, enough_slots, short_of_slots}
 use Rattle.matching.specs.Tags.{Tags}
-use Rattle.tagset.specs.Grammar.{bad_set, set_of}
-use Rattle.tagset.specs.Laws.Lent.{GoodRead}
+use Rattle.tagset.specs.Grammar.{bad_set, good_set, set_of}
 use Rattle.tagset.specs.declared.SetFault.{SetFault}
-use Rattle.tagset.specs.declared.Places.{Places}
-use Rattle.choosing.specs.Choosing.{lying_in}
-use Rattle.tables.specs.Building.{built_by, built_of, needed_of, slots_needed, tables_by, tables_of}
-use Rattle.tables.specs.Shape.{is_accepted}
-use Rattle.tables.specs.declared.Built.{Built}
-
--- ---- a test that was turned round
-
-pub so_false : (found is : Bool) → found ≡ is → not found ≡ true → is ≡ false
-so_false true is e h = absurd (false≢true h)
-so_false false is e h = sym e
-
-pub so_true : (found is : Bool) → found ≡ is → not found ≡ false → is ≡ true
-so_true true is e h = sym e
-so_true false is e h = absurd (false≢true (sym h))
+use Rattle.tables.specs.Building.{built_by, built_of, needed_of, of_parts, slots_needed, tables_by, tables_of}
+use Rattle.tables.specs.Shape.{judged_by}
+use Rattle.tables.specs.declared.BuildFault.{BuildFault}
 
 -- ---- a part before others
 
-module _ (tags : Tags) (p : Part) (ps : Layout) (len : ℕ) (lens : List ℕ) (answer : Built)
-    (judged : answer ≡ built_by tags (part_room p tags (part_slots p len))) where
-  pub first-refused : is_accepted answer ≡ false → answer ≡ built_by tags (room_in (p ∷ ps) tags (len ∷ lens))
+module _ (tags : Tags) (p : Part) (ps : Layout) (len : ℕ) (lens : List ℕ) where
+  pub first-refused : (f : BuildFault) → Err f ≡ judged_by (part_room p tags (part_slots p len)) → Err f ≡ judged_by (room_in (p ∷ ps) tags (len ∷ lens))
   unfolding room_in
-  first-refused h = judged ∙ go (part_room p tags (part_slots p len)) (sym (ap is_accepted judged) ∙ h)
+  first-refused f e = go (part_room p tags (part_slots p len)) e
     where
-      go : (r : Room) → is_accepted (built_by tags r) ≡ false → built_by tags r ≡ built_by tags (or_else r (room_in ps tags lens))
-      go enough_slots e = absurd (false≢true (sym e))
-      go (short_of_slots name needs) e = refl
+      go : (r : Room) → Err f ≡ judged_by r → Err f ≡ judged_by (or_else r (room_in ps tags lens))
+      go enough_slots e = let z : ◌≡◌ {A = ℕ} 0 1 = cc in absurd (omega arith)
+      go (short_of_slots name needs) e = e
 
-  pub first-accepted : is_accepted answer ≡ true → (other : Built) → other ≡ built_by tags (room_in ps tags lens)
-      → other ≡ built_by tags (room_in (p ∷ ps) tags (len ∷ lens))
+  pub first-enough : Ok tt ≡ judged_by (part_room p tags (part_slots p len)) → judged_by (room_in ps tags lens) ≡ judged_by (room_in (p ∷ ps) tags (len ∷ lens))
   unfolding room_in
-  first-accepted h other e = e ∙ go (part_room p tags (part_slots p len)) (sym (ap is_accepted judged) ∙ h)
+  first-enough e = go (part_room p tags (part_slots p len)) e
     where
-      go : (r : Room) → is_accepted (built_by tags r) ≡ true → built_by tags (room_in ps tags lens) ≡ built_by tags (or_else r (room_in ps tags lens))
+      go : (r : Room) → Ok tt ≡ judged_by r → judged_by (room_in ps tags lens) ≡ judged_by (or_else r (room_in ps tags lens))
       go enough_slots e = refl
-      go (short_of_slots name needs) e = absurd (false≢true e)
+      go (short_of_slots name needs) e = let z : ◌≡◌ {A = ℕ} 0 1 = cc in absurd (omega arith)
 
 -- a part by itself
-pub alone : (tags : Tags) (p : Part) (len : ℕ) (answer : Built) → answer ≡ built_by tags (part_room p tags (part_slots p len))
-    → answer ≡ built_by tags (room_in (p ∷ []) tags (len ∷ []))
+pub alone : (tags : Tags) (p : Part) (len : ℕ) → judged_by (part_room p tags (part_slots p len)) ≡ judged_by (room_in (p ∷ []) tags (len ∷ []))
 unfolding room_in
-alone tags p len answer judged = judged ∙ go (part_room p tags (part_slots p len))
+alone tags p len = go (part_room p tags (part_slots p len))
   where
-    go : (r : Room) → built_by tags r ≡ built_by tags (or_else r enough_slots)
+    go : (r : Room) → judged_by r ≡ judged_by (or_else r enough_slots)
     go enough_slots = refl
     go (short_of_slots name needs) = refl
-
--- ---- tags
-
-module _ (layout : Layout) (tags : Tags) (runs : Runs) (write : Bool) (answer : Built)
-    (judged : answer ≡ built_by tags (room_in layout tags (lengths runs))) where
-  -- not to be written, or refused: the runs hold what they held
-  pub tags-kept : (write && is_accepted answer) ≡ false → runs ≡ cond write (tables_by layout tags runs (room_in layout tags (lengths runs))) runs
-  tags-kept h = by write h
-    where
-      kept : (r : Room) → is_accepted (built_by tags r) ≡ false → runs ≡ tables_by layout tags runs r
-      kept enough_slots e = absurd (false≢true (sym e))
-      kept (short_of_slots name needs) e = refl
-
-      by : (w : Bool) → (w && is_accepted answer) ≡ false → runs ≡ cond w (tables_by layout tags runs (room_in layout tags (lengths runs))) runs
-      by true e = kept (room_in layout tags (lengths runs)) (sym (ap is_accepted judged) ∙ e)
-      by false e = refl
-
-  module _ (h : (write && is_accepted answer) ≡ true) where
-    room : room_in layout tags (lengths runs) ≡ enough_slots
-    room = by write h
-      where
-        go : (r : Room) → is_accepted (built_by tags r) ≡ true → r ≡ enough_slots
-        go enough_slots e = refl
-        go (short_of_slots name needs) e = absurd (false≢true e)
-
-        by : (w : Bool) → (w && is_accepted answer) ≡ true → room_in layout tags (lengths runs) ≡ enough_slots
-        by true e = go (room_in layout tags (lengths runs)) (sym (ap is_accepted judged) ∙ e)
-        by false e = absurd (false≢true e)
-
-    pub tags-enough : EnoughIn layout tags (lengths runs)
-    tags-enough = (enough_in_iff tags layout (lengths runs)).0 room
-
-    pub tags-written : (after : Runs) → after ≡ tables_for layout tags runs
-        → after ≡ cond write (tables_by layout tags runs (room_in layout tags (lengths runs))) runs
-    tags-written after e = by write h
-      where
-        by : (w : Bool) → (w && is_accepted answer) ≡ true → after ≡ cond w (tables_by layout tags runs (room_in layout tags (lengths runs))) runs
-        by true i = e ∙ ap (tables_by layout tags runs) (sym room)
-        by false i = absurd (false≢true i)
 
 -- the tables of one part, and of two
 pub one_table : (tags : Tags) (p : Part) (run after : List ℕ) → after ≡ part_table p tags run → after ∷ [] ≡ tables_for (p ∷ []) tags (run ∷ [])
@@ -113,37 +59,59 @@ two-tables tags p q first second after other e f = ap₂ {C = Runs} (λ (l m : L
 -- ---- a set
 
 module _ (layout : Layout) (bytes : List ℕ) where
+  -- what is answered, and what is left, where nothing is written
+  pub record Refuses (f : BuildFault) (write : Bool) (runs : Runs) : Type 0 where
+    pub answer : Err f ≡ built_of layout bytes (lengths runs)
+    pub left : runs ≡ cond write (tables_of layout bytes runs) runs
+
   module _ {fault : SetFault} (bad : set_of (kinds_for layout) bytes ≡ bad_set fault) where
-    pub fault-answer : (lens : List ℕ) → B.Fault fault ≡ built_of layout bytes lens
-    unfolding built_of
-    fault-answer lens = rw bad
+    pub set-refused : (write : Bool) (runs : Runs) → Refuses (B.Set fault) write runs
+    unfolding built_of tables_of
+    set-refused true runs = record { answer = rw bad; left = rw bad }
+    set-refused false runs = record { answer = rw bad; left = refl }
 
-    pub fault-tables : (write : Bool) (runs : Runs) → runs ≡ cond write (tables_of layout bytes runs) runs
-    unfolding tables_of
-    fault-tables true runs = rw bad
-    fault-tables false runs = refl
-
-    pub fault-needed : N.Fault fault ≡ needed_of layout bytes
+    pub fault-needed : Err fault ≡ needed_of layout bytes
     unfolding needed_of
     fault-needed = rw bad
 
-  module _ {p : Places} (g : GoodRead (kinds_for layout) bytes p) where
-    pub good-answer : (lens : List ℕ) (answer : Built) → answer ≡ built_by (lying_in bytes p) (room_in layout (lying_in bytes p) lens)
-        → answer ≡ built_of layout bytes lens
-    unfolding built_of
-    good-answer lens answer e = rw g.good (e ∙ ap (λ (tags : Tags). built_by tags (room_in layout tags lens)) g.lent.lies)
+  module _ {tags : Tags} (good : set_of (kinds_for layout) bytes ≡ good_set tags) where
+    pub room-refused : (f : BuildFault) (write : Bool) (runs : Runs) → Err f ≡ judged_by (room_in layout tags (lengths runs)) → Refuses f write runs
+    unfolding built_of tables_of
+    room-refused f write runs e =
+        record { answer = rw good (answer (room_in layout tags (lengths runs)) e); left = left write }
+      where
+        answer : (r : Room) → Err f ≡ judged_by r → Err f ≡ built_by tags r
+        answer enough_slots e = let z : ◌≡◌ {A = ℕ} 0 1 = cc in absurd (omega arith)
+        answer (short_of_slots name needs) e = let q : f ≡ B.Table name needs = cc in ap Err q
 
-    pub good-tables : (write : Bool) (runs after : Runs)
-        → after ≡ cond write (tables_by layout (lying_in bytes p) runs (room_in layout (lying_in bytes p) (lengths runs))) runs
-        → after ≡ cond write (tables_of layout bytes runs) runs
-    unfolding tables_of
-    good-tables write runs after e =
-        rw g.good (e ∙ ap (λ (tags : Tags). cond write (tables_by layout tags runs (room_in layout tags (lengths runs))) runs) g.lent.lies)
+        kept : (r : Room) → Err f ≡ judged_by r → runs ≡ tables_by layout tags runs r
+        kept enough_slots e = let z : ◌≡◌ {A = ℕ} 0 1 = cc in absurd (omega arith)
+        kept (short_of_slots name needs) e = refl
 
-    pub good-needed : (first second : ℕ) → first ≡ get_or (slots_needed layout (lying_in bytes p)) 0 0
-        → second ≡ get_or (slots_needed layout (lying_in bytes p)) 1 0 → N.Slots first second ≡ needed_of layout bytes
+        left : (w : Bool) → runs ≡ cond w (tables_of layout bytes runs) runs
+        left true = rw good (kept (room_in layout tags (lengths runs)) e)
+        left false = refl
+
+    module _ (runs : Runs) (enough : Ok tt ≡ judged_by (room_in layout tags (lengths runs))) where
+      room : room_in layout tags (lengths runs) ≡ enough_slots
+      room = go (room_in layout tags (lengths runs)) enough
+        where
+          go : (r : Room) → Ok tt ≡ judged_by r → r ≡ enough_slots
+          go enough_slots e = refl
+          go (short_of_slots name needs) e = let z : ◌≡◌ {A = ℕ} 0 1 = cc in absurd (omega arith)
+
+      pub room-enough : EnoughIn layout tags (lengths runs)
+      room-enough = (enough_in_iff tags layout (lengths runs)).0 room
+
+      pub done-answer : (count : ℕ) → length tags ≡ count → Ok count ≡ built_of layout bytes (lengths runs)
+      unfolding built_of
+      done-answer count e = rw (good, room) (ap Ok (sym e))
+
+      pub done-tables : (after : Runs) → after ≡ tables_for layout tags runs → after ≡ tables_of layout bytes runs
+      unfolding tables_of
+      done-tables after e = rw (good, room) e
+
+    pub good-needed : (first second : ℕ) → first ≡ get_or (slots_needed layout tags) 0 0 → second ≡ get_or (slots_needed layout tags) 1 0
+        → Ok (of_parts first second) ≡ needed_of layout bytes
     unfolding needed_of
-    good-needed first second e f =
-        let a : first ≡ get_or (slots_needed layout g.tags) 0 0 = e ∙ ap (λ (tags : Tags). get_or (slots_needed layout tags) 0 0) g.lent.lies in
-        let b : second ≡ get_or (slots_needed layout g.tags) 1 0 = f ∙ ap (λ (tags : Tags). get_or (slots_needed layout tags) 1 0) g.lent.lies in
-        rw (g.good, a, b)
+    good-needed first second e f = rw (good, e, f)

@@ -1,5 +1,6 @@
 -- The machines of a part, judged from the lowest on, and the most states that one of them needs, from the highest down.
-use Rattle.tables.specs.declared.Built.TheVariants as B
+use Rattle.std.specs.Prelude.{Err, Ok}
+use Rattle.tables.specs.declared.BuildFault.TheVariants as B
 use Prim.Native.Nat.{◌+◌, ◌-◌, ◌<◌, ◌≤◌, max, suc, ℕ}
 use mathlib.Core.List.{List}
 use mathlib.Core.Path.{◌∙◌, ◌≡◌, ap, sym}
@@ -12,7 +13,7 @@ use Rattle.matching.specs.Parts.{Part, named}
 use Rattle.matching.specs.Table.{room_from, tags_for}
 use Rattle.matching.specs.Words.{Word}
 use Rattle.tables.specs.Building.{most_states}
-use Rattle.tables.specs.Shape.{counted_by}
+use Rattle.tables.specs.Shape.{judged_by}
 
 -- ---- slots enough
 
@@ -28,18 +29,18 @@ module _ (p : Part) (s : ℕ) (ts : List Word) where
     one_left : room_from p.bits s ts 0 p.machines ≡ room_from p.bits s ts m (suc (p.machines - (m + 1)))
     one_left = before ∙ ap (room_from p.bits s ts m) (omega arith)
 
-    pub judge_short : s < needs → (tags : ℕ) → B.Table (p.name + m) needs ≡ counted_by tags (named p (room_from p.bits s ts 0 p.machines))
-    judge_short h tags = rw (one_left, room_from-short p.bits s ts m (p.machines - (m + 1)) (rw is at h), is)
+    pub judge_short : s < needs → Err (B.Table (p.name + m) needs) ≡ judged_by (named p (room_from p.bits s ts 0 p.machines))
+    judge_short h = rw (one_left, room_from-short p.bits s ts m (p.machines - (m + 1)) (rw is at h), is)
 
     pub judge_more : needs ≤ s → EnoughBefore (m + 1)
     judge_more h =
         one_left ∙ room_from-next p.bits s ts m (p.machines - (m + 1)) (rw is at h)
         ∙ ap (λ (i : ℕ). room_from p.bits s ts i (p.machines - (m + 1))) (sym (add-one m))
 
-  pub judge_all : (m : ℕ) → p.machines ≤ m → EnoughBefore m → (tags : ℕ)
-      → B.Tags tags ≡ counted_by tags (named p (room_from p.bits s ts 0 p.machines))
+  pub judge_all : (m : ℕ) → p.machines ≤ m → EnoughBefore m
+      → Ok tt ≡ judged_by (named p (room_from p.bits s ts 0 p.machines))
   unfolding room_from
-  judge_all m h before tags =
+  judge_all m h before =
       let z : p.machines - m ≡ 0 = omega arith in
       rw (before, z)
 

@@ -1,7 +1,7 @@
 -- A part over a good set in hand: its own tags, its answer, and what it leaves.
 use Prim.Native.Nat.{◌*◌, ◌<◌, ◌≤◌, ℕ}
 use mathlib.Core.List.{List, ◌++◌}
-use mathlib.Core.Path.{◌∙◌, ◌≡◌, ap, ap₂, fun_ext, refl, sym}
+use mathlib.Core.Path.{◌∙◌, ◌≡◌, ap, ap₂, fun_ext, sym}
 use native.Mathlib.Omega.{arith}
 use lib.ListN.{drop, length}
 use lib.Seq.{length-take-le}
@@ -12,7 +12,7 @@ use Rattle.matching.specs.Laws.OnePart.{mark_dealt}
 use Rattle.matching.specs.Laws.Tags.{of_kind-lawful}
 use Rattle.matching.specs.Machine.{states, vector}
 use Rattle.matching.specs.Parts as P
-use Rattle.matching.specs.Table.{Room, built, enough_slots, room_from, short_of_slots, slot_size, tags_for, vector_in}
+use Rattle.matching.specs.Table.{Room, built, room_from, slot_size, tags_for, vector_in}
 use Rattle.matching.specs.Tags.{Tag, Tags, of_kind, word_as}
 use Rattle.matching.specs.Words.{Word}
 use Rattle.tagset.specs.Answer.{cut_at}
@@ -23,9 +23,8 @@ use Rattle.choosing.specs.Dealing.{is_of}
 use Rattle.choosing.specs.Laws.Choosing.{chosen-words}
 use Rattle.choosing.specs.Laws.Dealing.{dealt-map}
 use Rattle.choosing.specs.declared.Chosen.{Chosen}
-use Rattle.tables.specs.Building.{built_by, most_states, part_needs}
-use Rattle.tables.specs.Shape.{Held, Tagged, as_part, counted_by, mark_by}
-use Rattle.tables.specs.declared.Built.{Built}
+use Rattle.tables.specs.Building.{most_states, part_needs}
+use Rattle.tables.specs.Shape.{Held, Tagged, as_part, judged_by, mark_by}
 use Rattle.tables.specs.declared.Part.{Part}
 
 -- ---- all tags
@@ -40,7 +39,7 @@ module _ {set folded : List ℕ} {places : Places} (held : Held set folded place
   pub kinds-many : length (kinds_of places) ≡ places.count
   kinds-many = length-take-le places.count places.kinds held.fit.fits_kinds
 
-  tags-many : length (lying_in set places) ≡ places.count
+  pub tags-many : length (lying_in set places) ≡ places.count
   tags-many = as_tags-length (cut_at set (begins_of places) (ends_of places)) (kinds_of places) (words-many ∙ sym kinds-many) ∙ words-many
 
   -- a vector dealt out by the kinds at hand is one of the whole set
@@ -72,10 +71,6 @@ module _ {set folded : List ℕ} {places : Places} (held : Held set folded place
 
 -- ---- a part
 
-counted-built : (tags : Tags) (r : Room) → counted_by (length tags) r ≡ built_by tags r
-counted-built tags enough_slots = refl
-counted-built tags (short_of_slots name needs) = refl
-
 module _ (part : Part) {set folded : List ℕ} {places : Places} (held : Held set folded places (lying_in set places)) (own : Chosen)
     (chosen : ChosenOf part.kind places own) (bytes : List ℕ) (reads : bytes ≡ word_as part.kind set) where
   abbrev words : List Word
@@ -87,14 +82,11 @@ module _ (part : Part) {set folded : List ℕ} {places : Places} (held : Held se
   is : words ≡ of_kind part.kind tags
   is = own-words held part.kind own chosen bytes reads
 
-  pub part_judged : (len s : ℕ) → s ≡ P.part_slots (as_part part) len → (answer : Built)
-      → answer ≡ counted_by places.count (P.named (as_part part) (room_from part.bits s words 0 part.machines))
-      → answer ≡ built_by tags (P.part_room (as_part part) tags (P.part_slots (as_part part) len))
+  pub part_judged : (len s : ℕ) → s ≡ P.part_slots (as_part part) len
+      → judged_by (P.named (as_part part) (room_from part.bits s words 0 part.machines)) ≡ judged_by (P.part_room (as_part part) tags (P.part_slots (as_part part) len))
   unfolding P.part_room
-  part_judged len s es answer e =
-      e ∙ ap₂ (λ (n : ℕ) (r : Room). counted_by n (P.named (as_part part) r)) (sym (tags-many held))
-      (ap₂ (λ (x : ℕ) (ts : List Word). room_from part.bits x ts 0 part.machines) es is)
-      ∙ counted-built tags (P.part_room (as_part part) tags (P.part_slots (as_part part) len))
+  part_judged len s es =
+      ap (λ (r : Room). judged_by (P.named (as_part part) r)) (ap₂ (λ (x : ℕ) (ts : List Word). room_from part.bits x ts 0 part.machines) es is)
 
   pub part-most : (most : ℕ) → most ≡ most_states part.bits words 0 part.machines → most ≡ part_needs (as_part part) tags
   part-most most e = e ∙ ap (λ (ts : List Word). most_states part.bits ts 0 part.machines) is

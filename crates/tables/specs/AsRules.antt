@@ -1,6 +1,7 @@
 -- When there are too few slots, machine by machine as the rules have it (docs/RULES.md, 2 and 3), and what is told of the slots that a set needs.
-use Rattle.tables.specs.declared.Built.TheVariants as B
-use Rattle.tables.specs.declared.Needed.TheVariants as N
+use Rattle.std.specs.Prelude.{Err, Ok}
+use Rattle.tables.specs.declared.BuildFault.TheVariants as B
+use Rattle.tables.specs.Building.{of_parts}
 use Rattle.std.specs.Prelude.{◌+◌, ◌<◌, ◌≤◌, ℕ, List, [], ◌∷◌, ◌↔◌, ◌≡◌, refl, drop, length}
 use Rattle.std.proofs.Common.{◌∙◌, ap, subst, sym, zero-add, arith}
 use Rattle.matching.specs.Enough.{EnoughFor, EnoughIn, LowestIn, ShortIn, in_first, in_others}
@@ -59,7 +60,7 @@ module _ (tags : Tags) where
       in_others (part 1 1 8 0) (part 2 1 8 8 ∷ []) (a ∷ b ∷ []) e (in_first (part 2 1 8 8) [] (b ∷ []) m (lowest_bit 2 8 b m x))
 
 -- TABLE FOR TWO SPLIT TABLES, exactly then
-pub split-table_iff : (bytes : List ℕ) (a b name needs : ℕ) → (built_of split_layout bytes (a ∷ b ∷ []) ≡ B.Table name needs)
+pub split-table_iff : (bytes : List ℕ) (a b name needs : ℕ) → (built_of split_layout bytes (a ∷ b ∷ []) ≡ Err (B.Table name needs))
     ↔ ((tags : Tags) × Accepted (kinds_for split_layout) bytes tags × SplitShort tags a b name needs)
 split-table_iff bytes a b name needs = (
   λ e. (let t = (table_iff split_layout bytes (a ∷ b ∷ []) name needs).0 e in (t.tags, t.set, split-there t.tags a b name needs t.short)),
@@ -83,7 +84,7 @@ module _ (tags : Tags) (len : ℕ) where
       (record { from = omega arith; below = omega arith; short = omega (arith, s, es); others = λ j a h. absurd (omega arith) }))
 
 -- TABLE FOR A WHOLE-BYTE TABLE, exactly then: it names machine 254
-pub whole-table_iff : (bytes : List ℕ) (len name needs : ℕ) → (built_of whole_layout bytes (len ∷ []) ≡ B.Table name needs)
+pub whole-table_iff : (bytes : List ℕ) (len name needs : ℕ) → (built_of whole_layout bytes (len ∷ []) ≡ Err (B.Table name needs))
     ↔ ((tags : Tags) × Accepted (kinds_for whole_layout) bytes tags × (name ≡ 254) × (needs ≡ whole_states tags) × (slots_in 8 1 len < needs))
 whole-table_iff bytes len name needs = (
   λ e. (let t = (table_iff whole_layout bytes (len ∷ []) name needs).0 e in
@@ -116,23 +117,23 @@ needed-enough (p ∷ ps) tags lens h = ((needs_iff p tags (part_slots p (first_l
 
 -- a good set is built exactly if each part has the slots that it needs
 pub needed-built : (layout : Layout) (bytes lens : List ℕ) (tags : Tags) → Accepted (kinds_for layout) bytes tags
-    → ((count : ℕ) × (built_of layout bytes lens ≡ B.Tags count)) ↔ HasRoom layout tags lens
+    → ((count : ℕ) × (built_of layout bytes lens ≡ Ok count)) ↔ HasRoom layout tags lens
 needed-built layout bytes lens tags a = (there, back)
   where
-    there : (count : ℕ) × (built_of layout bytes lens ≡ B.Tags count) → HasRoom layout tags lens
+    there : (count : ℕ) × (built_of layout bytes lens ≡ Ok count) → HasRoom layout tags lens
     there (count, e) =
         let b = (tags_iff layout bytes lens count).0 e in
         let same = same_good (sym ((accepted_iff (kinds_for layout) bytes b.tags).1 b.set) ∙ (accepted_iff (kinds_for layout) bytes tags).1 a) in
         enough-needed layout tags lens (subst (λ (t : Tags). EnoughIn layout t lens) same b.enough)
 
-    back : HasRoom layout tags lens → (count : ℕ) × (built_of layout bytes lens ≡ B.Tags count)
+    back : HasRoom layout tags lens → (count : ℕ) × (built_of layout bytes lens ≡ Ok count)
     back h =
         (length tags, (tags_iff layout bytes lens (length tags)).1 (record { tags = tags; set = a; counted = refl; enough = needed-enough layout tags lens h }))
 
 -- WHAT IS TOLD OF THE SLOTS NEEDED IS NEEDED, AND ENOUGH: two split tables are built of the set exactly if each has at least so many slots, and a
 -- whole-byte table is
-pub split-needed : (bytes : List ℕ) (first second : ℕ) → needed_of split_layout bytes ≡ N.Slots first second
-    → (a b : ℕ) → ((count : ℕ) × (built_of split_layout bytes (a ∷ b ∷ []) ≡ B.Tags count)) ↔ ((first ≤ slots_in 1 8 a) × (second ≤ slots_in 1 8 b))
+pub split-needed : (bytes : List ℕ) (first second : ℕ) → needed_of split_layout bytes ≡ Ok (of_parts first second)
+    → (a b : ℕ) → ((count : ℕ) × (built_of split_layout bytes (a ∷ b ∷ []) ≡ Ok count)) ↔ ((first ≤ slots_in 1 8 a) × (second ≤ slots_in 1 8 b))
 split-needed bytes first second e a b =
     let (tags, good, f, s) = (needed-slots_iff split_layout bytes first second).0 e in
     let built = needed-built split_layout bytes (a ∷ b ∷ []) tags good in (
@@ -140,8 +141,8 @@ split-needed bytes first second e a b =
       λ h. built.1 (omega (arith, f, h.0), (omega (arith, s, h.1), tt)),
     )
 
-pub whole-needed : (bytes : List ℕ) (first second : ℕ) → needed_of whole_layout bytes ≡ N.Slots first second
-    → (len : ℕ) → ((count : ℕ) × (built_of whole_layout bytes (len ∷ []) ≡ B.Tags count)) ↔ (first ≤ slots_in 8 1 len)
+pub whole-needed : (bytes : List ℕ) (first second : ℕ) → needed_of whole_layout bytes ≡ Ok (of_parts first second)
+    → (len : ℕ) → ((count : ℕ) × (built_of whole_layout bytes (len ∷ []) ≡ Ok count)) ↔ (first ≤ slots_in 8 1 len)
 whole-needed bytes first second e len =
     let (tags, good, f, s) = (needed-slots_iff whole_layout bytes first second).0 e in
     let built = needed-built whole_layout bytes (len ∷ []) tags good in

@@ -1,5 +1,5 @@
 -- Building the tables of a layout, from the bytes of a set, over lent runs of numbers, one for each part.
-use Rattle.std.specs.Prelude.{ℕ, zero, suc, max, List, [], ◌∷◌, map, get_or, length}
+use Rattle.std.specs.Prelude.{Result, Err, Ok, ℕ, zero, suc, max, List, [], ◌∷◌, map, get_or, length}
 use Rattle.matching.specs.Words.{Word}
 use Rattle.matching.specs.Machine.{states}
 use Rattle.matching.specs.Parts.{Layout, Part, Runs, kinds_for, lengths, room_in, tables_for}
@@ -7,17 +7,28 @@ use Rattle.matching.specs.Table.{tags_for, Room, enough_slots, short_of_slots}
 use Rattle.matching.specs.Tags.{Tags, of_kind}
 use Rattle.tagset.specs.Grammar.{SetOf, good_set, bad_set, set_of}
 use Rattle.tagset.specs.Answer.{fault_number, fault_values}
-use Rattle.tables.specs.declared.Built.{Built}
-use Rattle.tables.specs.declared.Built.TheVariants as B
+use Rattle.tables.specs.declared.BuildFault.{BuildFault}
+use Rattle.tables.specs.declared.BuildFault.TheVariants as B
 use Rattle.tables.specs.declared.Needed.{Needed}
-use Rattle.tables.specs.declared.Needed.TheVariants as N
+use Rattle.tagset.specs.declared.SetFault.{SetFault}
+
+-- what building answers: the number of tags, or why there are no tables
+abbrev pub Built : Type 0
+Built = Result ℕ BuildFault
+
+-- what is told of the slots that a set needs, or its fault
+abbrev pub Needs : Type 0
+Needs = Result Needed SetFault
+
+abbrev pub of_parts : (first second : ℕ) → Needed
+of_parts first second = record { first = first; second = second }
 
 abbrev pub built_by : Tags → Room → Built
-built_by tags enough_slots = B.Tags (length tags)
-built_by tags (short_of_slots name needs) = B.Table name needs
+built_by tags enough_slots = Ok (length tags)
+built_by tags (short_of_slots name needs) = Err (B.Table name needs)
 
 abbrev pub on_set : Layout → List ℕ → SetOf → Built
-on_set layout lens (bad_set fault) = B.Fault fault
+on_set layout lens (bad_set fault) = Err (B.Set fault)
 on_set layout lens (good_set tags) = built_by tags (room_in layout tags lens)
 
 -- the answer, for runs of so many numbers: set faults, then TABLE
@@ -49,28 +60,28 @@ abbrev pub slots_needed : Layout → Tags → List ℕ
 slots_needed layout tags = map (λ (p : Part). part_needs p tags) layout
 
 -- those of the first and of the second part; 0 where there is no second
-abbrev pub needed_by : Layout → SetOf → Needed
-needed_by layout (bad_set fault) = N.Fault fault
-needed_by layout (good_set tags) = N.Slots (get_or (slots_needed layout tags) 0 0) (get_or (slots_needed layout tags) 1 0)
+abbrev pub needed_by : Layout → SetOf → Needs
+needed_by layout (bad_set fault) = Err fault
+needed_by layout (good_set tags) = Ok (of_parts (get_or (slots_needed layout tags) 0 0) (get_or (slots_needed layout tags) 1 0))
 
-unfoldable pub needed_of : Layout → List ℕ → Needed
+unfoldable pub needed_of : Layout → List ℕ → Needs
 needed_of layout bytes = needed_by layout (set_of (kinds_for layout) bytes)
 
 -- the number of an answer in the table of refusals, 0 where it is none; and what is returned with it, or given
 abbrev pub built_number : Built → ℕ
-built_number (B.Tags count) = 0
-built_number (B.Fault fault) = fault_number fault
-built_number (B.Table machine needs) = 7
+built_number (Ok count) = 0
+built_number (Err (B.Set fault)) = fault_number fault
+built_number (Err (B.Table machine needs)) = 7
 
 abbrev pub built_values : Built → List ℕ
-built_values (B.Tags count) = count ∷ []
-built_values (B.Fault fault) = fault_values fault
-built_values (B.Table machine needs) = machine ∷ needs ∷ []
+built_values (Ok count) = count ∷ []
+built_values (Err (B.Set fault)) = fault_values fault
+built_values (Err (B.Table machine needs)) = machine ∷ needs ∷ []
 
-abbrev pub needed_number : Needed → ℕ
-needed_number (N.Slots first second) = 0
-needed_number (N.Fault fault) = fault_number fault
+abbrev pub needed_number : Needs → ℕ
+needed_number (Ok needed) = 0
+needed_number (Err fault) = fault_number fault
 
-abbrev pub needed_values : Needed → List ℕ
-needed_values (N.Slots first second) = first ∷ second ∷ []
-needed_values (N.Fault fault) = fault_values fault
+abbrev pub needed_values : Needs → List ℕ
+needed_values (Ok needed) = needed.first ∷ needed.second ∷ []
+needed_values (Err fault) = fault_values fault

@@ -3,4 +3,5 @@ pub mod Building
 pub mod Refusals
 pub mod AsRules
 pub mod Shape
+pub mod Props
 pub mod Laws

@@ -1,6 +1,7 @@
 -- What the parts of the builder say to each other.
-use Rattle.tables.specs.declared.Built.TheVariants as B
-use Rattle.std.specs.Prelude.{◌*◌, ◌+◌, ◌<◌, ◌^◌, ◌≤◌, ℕ, Bool, false, true, List, [], ◌≡◌, get_or, length, take}
+use Rattle.std.specs.Prelude.{Err, Ok, Result}
+use Rattle.tables.specs.declared.BuildFault.TheVariants as B
+use Rattle.std.specs.Prelude.{◌*◌, ◌+◌, ◌<◌, ◌^◌, ◌≤◌, ℕ, List, [], ◌≡◌, get_or, length, take}
 use Rattle.machines.specs.Rows.{cell}
 use Rattle.matching.specs.Kinds.{folded_kind}
 use Rattle.matching.specs.Laws.Dealt.{dealt}
@@ -15,7 +16,7 @@ use Rattle.tagset.specs.declared.Places.{Places}
 use Rattle.choosing.specs.Choosing.{PlacesFit, RoomForAll}
 use Rattle.choosing.specs.Dealing.{is_of}
 use Rattle.choosing.specs.declared.Chosen.{Chosen}
-use Rattle.tables.specs.declared.Built.{Built}
+use Rattle.tables.specs.declared.BuildFault.{BuildFault}
 use Rattle.tables.specs.declared.Part.{Part}
 
 -- ---- parts
@@ -67,13 +68,7 @@ pub record Marked (ts : List Word) (mark : Word → ℕ) (m : ℕ) (l : List ℕ
 
 -- ---- answers
 
--- so many tags, unless a machine is short of slots
-abbrev pub counted_by : ℕ → Room → Built
-counted_by tags enough_slots = B.Tags tags
-counted_by tags (short_of_slots name needs) = B.Table name needs
-
--- the answer is no refusal
-abbrev pub is_accepted : Built → Bool
-is_accepted (B.Tags count) = true
-is_accepted (B.Fault fault) = false
-is_accepted (B.Table machine needs) = false
+-- slots enough, or a machine that is short of them
+abbrev pub judged_by : Room → Result (Unit {0}) BuildFault
+judged_by enough_slots = Ok tt
+judged_by (short_of_slots name needs) = Err (B.Table name needs)

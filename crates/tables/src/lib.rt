@@ -1,33 +1,39 @@
 // Building tables (docs/RULES.md, 2 and 3): one builder for the machines of every part of a layout.
 #![tactic(auto)]
 
-ghost use Rattle.std.specs.Prelude.{◌≡◌, ◌&&◌, cond, [], ◌∷◌, ◌≤◌, length};
-ghost use Rattle.matching.specs.Parts.{room_in, split_layout, whole_layout};
-ghost use Rattle.matching.specs.Tags.{Tags};
-ghost use Rattle.choosing.specs.Choosing.{lying_in};
-ghost use Rattle.tables.specs.Building.{built_by, built_of, needed_of, tables_by, tables_of};
-ghost use Rattle.tables.specs.Shape.{Folded, Held, is_accepted};
+ghost use Rattle.std.specs.Prelude.{◌≡◌, cond, [], ◌∷◌, length};
+ghost use Rattle.matching.specs.Parts.{split_layout, whole_layout};
+ghost use Rattle.tables.specs.Building.{built_of, needed_of, tables_of};
+ghost use Rattle.tables.specs.declared.BuildFault.TheVariants.{Set};
 
-use kinds::folding::fold_all;
+use good_set::GoodSet;
 use kinds::{EXACT, FOLDED, Takes};
 use parts::{fill_part, judge_part, part_needs};
-use tagset::{Places, SetFault, read_set};
+use tagset::SetFault;
 
+mod good_set;
 mod parts;
 
-// What building gives: the number of tags; or the set's fault; or the lowest machine short of slots, by its name, and the states that it needs.
-#[derive(Clone, Copy)]
-pub enum Built {
-    Tags(usize),
-    Fault(SetFault),
+// Why no tables are built: the set's fault; or the lowest machine short of slots, by its name, and the states that it needs.
+#[derive(Clone, Copy, Debug, PartialEq, Eq)]
+pub enum BuildFault {
+    Set(SetFault),
     Table(usize, usize),
 }
 
-// The slots that the first and the second part of a layout need for a set, 0 where there is no second; or the set's fault.
-#[derive(Drop)]
-pub enum Needed {
-    Slots(usize, usize),
-    Fault(SetFault),
+impl From<SetFault> for BuildFault {
+    ghost from_gives = { λ fault e. e ≡ Set fault };
+
+    fn from(fault: SetFault) -> BuildFault {
+        BuildFault::Set(fault)
+    }
+}
+
+// The slots that the first and the second part of a layout need for a set, 0 where there is no second.
+#[derive(Clone, Copy, Debug, PartialEq, Eq)]
+pub struct Needed {
+    pub first: usize,
+    pub second: usize,
 }
 
 // A part of a layout: the kind of its tags, so many bits for each of its machines, the name of the first of them, the letters that the bits make,
@@ -73,112 +79,31 @@ const WHOLE_BYTES: Part = Part {
     mask: 255,
 };
 
-fn accepted(answer: Built) -> bool
-    ensures { result ≡ is_accepted answer }
-{
-    match answer {
-        Built::Tags(_) => true,
-        Built::Fault(_) => false,
-        Built::Table(_, _) => false,
-    }
-}
-
-// Whether the tables are to be written: where building is accepted and asked to write.
-fn writes(answer: Built, write: bool) -> bool
-    ensures { result ≡ (write && is_accepted answer) }
-{
-    if write {
-        return accepted(answer);
-    }
-    false
-}
-
-// The bytes of a set folded, at the front of an array.
-fn fold_set(set: &[u8]) -> [u8; 576]
-    requires { length set.now ≤ 576 }
-    ensures { Folded set.now result }
-{
-    let mut folded = [0u8; 576];
-    fold_all(set, &mut folded);
-    folded
-}
-
-// Both parts of the split layout are judged, the first before the second.
-fn judge_split<'a>(
-    set: &'a [u8],
-    folded: &'a [u8],
-    places: Places,
-    first: usize,
-    second: usize,
-) -> Built
-    requires { let tags = lying_in set.now places in Held set.now folded.now places tags }
-    ensures { let tags = lying_in set.now places in result ≡ built_by tags (room_in split_layout tags (first ∷ second ∷ [])) }
-{
-    let answer = judge_part(set, folded, places, EXACT_BITS, first);
-    if !accepted(answer) {
-        return answer;
-    }
-    judge_part(set, folded, places, FOLDED_BITS, second)
-}
-
-// The split tables of tags: both parts are judged before either is written.
-fn build_split_tags<'a>(
-    set: &'a [u8],
-    folded: &'a [u8],
-    places: Places,
+// The split tables of a set, one for its exact and one for its folded tags; and whether they are to be written. The answer, the number of tags, is the
+// same either way. Both parts are judged before either is written.
+pub fn build_split_if(
+    set: &[u8],
     first: &mut [u16],
     second: &mut [u16],
     write: bool,
-) -> Built
-    requires { let tags = lying_in set.now places in Held set.now folded.now places tags }
-    ensures answer { let tags = lying_in set.now places in result ≡ built_by tags (room_in split_layout tags (length first.old ∷ length second.old ∷ [])) }
-    ensures left { let tags = lying_in set.now places in first.new ∷ second.new ∷ []
-        ≡ cond write (tables_by split_layout tags (first.old ∷ second.old ∷ [])
-        (room_in split_layout tags (length first.old ∷ length second.old ∷ [])))
-        (first.old ∷ second.old ∷ []) }
-{
-    let answer = judge_split(set, folded, places, first.len(), second.len());
-    if !writes(answer, write) {
-        return answer;
-    }
-    fill_part(set, folded, places, EXACT_BITS, first);
-    fill_part(set, folded, places, FOLDED_BITS, second);
-    answer
-}
-
-// The whole-byte table of tags.
-fn build_whole_tags<'a>(set: &'a [u8], folded: &'a [u8], places: Places, table: &mut [u16]) -> Built
-    requires { let tags = lying_in set.now places in Held set.now folded.now places tags }
-    ensures answer { let tags = lying_in set.now places in result ≡ built_by tags (room_in whole_layout tags (length table.old ∷ [])) }
-    ensures left { let tags = lying_in set.now places in table.new ∷ []
-        ≡ tables_by whole_layout tags (table.old ∷ []) (room_in whole_layout tags (length table.old ∷ [])) }
-{
-    let answer = judge_part(set, folded, places, WHOLE_BYTES, table.len());
-    if !accepted(answer) {
-        return answer;
-    }
-    fill_part(set, folded, places, WHOLE_BYTES, table);
-    answer
-}
-
-// The split tables of a set, one for its exact and one for its folded tags; and whether they are to be written. The answer is the same either way.
-pub fn build_split_if(set: &[u8], first: &mut [u16], second: &mut [u16], write: bool) -> Built
+) -> Result<usize, BuildFault>
     ensures answer { result ≡ built_of split_layout set.now (length first.old ∷ length second.old ∷ []) }
     ensures left { first.new ∷ second.new ∷ []
         ≡ cond write (tables_of split_layout set.now (first.old ∷ second.old ∷ []))
         (first.old ∷ second.old ∷ []) }
 {
-    let places = match read_set(set, Takes::BothKinds) {
-        Ok(places) => places,
-        Err(fault) => return Built::Fault(fault),
-    };
-    let folded = fold_set(set);
-    let n = set.len();
-    build_split_tags(set, &folded[..n], places, first, second, write)
+    let good = GoodSet::read(set, Takes::BothKinds)?;
+    judge_part(&good, EXACT_BITS, first.len())?;
+    judge_part(&good, FOLDED_BITS, second.len())?;
+    if write {
+        fill_part(&good, EXACT_BITS, first);
+        fill_part(&good, FOLDED_BITS, second);
+    }
+    Ok(good.places.count)
 }
 
 // The split tables of a set.
-pub fn build_split(set: &[u8], first: &mut [u16], second: &mut [u16]) -> Built
+pub fn build_split(set: &[u8], first: &mut [u16], second: &mut [u16]) -> Result<usize, BuildFault>
     ensures answer { result ≡ built_of split_layout set.now (length first.old ∷ length second.old ∷ []) }
     ensures left { first.new ∷ second.new ∷ []
         ≡ tables_of split_layout set.now (first.old ∷ second.old ∷ []) }
@@ -187,43 +112,34 @@ pub fn build_split(set: &[u8], first: &mut [u16], second: &mut [u16]) -> Built
 }
 
 // The whole-byte table of a set, of exact tags alone.
-pub fn build_whole(set: &[u8], table: &mut [u16]) -> Built
+pub fn build_whole(set: &[u8], table: &mut [u16]) -> Result<usize, BuildFault>
     ensures answer { result ≡ built_of whole_layout set.now (length table.old ∷ []) }
     ensures left { table.new ∷ [] ≡ tables_of whole_layout set.now (table.old ∷ []) }
 {
-    let places = match read_set(set, Takes::ExactAlone) {
-        Ok(places) => places,
-        Err(fault) => return Built::Fault(fault),
-    };
-    let folded = fold_set(set);
-    let n = set.len();
-    build_whole_tags(set, &folded[..n], places, table)
+    let good = GoodSet::read(set, Takes::ExactAlone)?;
+    judge_part(&good, WHOLE_BYTES, table.len())?;
+    fill_part(&good, WHOLE_BYTES, table);
+    Ok(good.places.count)
 }
 
-// The slots that the two split tables need for a set.
-pub fn slots_needed(set: &[u8]) -> Needed
+// The slots that the two split tables need for a set; or its fault.
+pub fn slots_needed(set: &[u8]) -> Result<Needed, SetFault>
     ensures { result ≡ needed_of split_layout set.now }
 {
-    let places = match read_set(set, Takes::BothKinds) {
-        Ok(places) => places,
-        Err(fault) => return Needed::Fault(fault),
-    };
-    let folded = fold_set(set);
-    let n = set.len();
-    let first = part_needs(set, &folded[..n], places, EXACT_BITS);
-    let second = part_needs(set, &folded[..n], places, FOLDED_BITS);
-    Needed::Slots(first, second)
+    let good = GoodSet::read(set, Takes::BothKinds)?;
+    Ok(Needed {
+        first: part_needs(&good, EXACT_BITS),
+        second: part_needs(&good, FOLDED_BITS),
+    })
 }
 
-// The slots that the whole-byte table needs for a set.
-pub fn whole_slots_needed(set: &[u8]) -> Needed
+// The slots that the whole-byte table needs for a set; or its fault.
+pub fn whole_slots_needed(set: &[u8]) -> Result<Needed, SetFault>
     ensures { result ≡ needed_of whole_layout set.now }
 {
-    let places = match read_set(set, Takes::ExactAlone) {
-        Ok(places) => places,
-        Err(fault) => return Needed::Fault(fault),
-    };
-    let folded = fold_set(set);
-    let n = set.len();
-    Needed::Slots(part_needs(set, &folded[..n], places, WHOLE_BYTES), 0)
+    let good = GoodSet::read(set, Takes::ExactAlone)?;
+    Ok(Needed {
+        first: part_needs(&good, WHOLE_BYTES),
+        second: 0,
+    })
 }

@@ -1,6 +1,7 @@
 -- Building a bitmap table is refused, and done, exactly when the rules say so. A set's numbers are bytes.
-use Rattle.tables.specs.declared.Built.TheVariants as B
-use Rattle.tables.specs.declared.Needed.TheVariants as N
+use Rattle.std.specs.Prelude.{Err, Ok}
+use Rattle.tables.specs.declared.BuildFault.TheVariants as B
+use Rattle.tables.specs.Building.{of_parts}
 use Rattle.std.specs.Prelude.{◌<◌, ◌≤◌, ℕ, ◌↔◌, ◌≡◌, length}
 use mathlib.Core.List.{List, [], ◌∷◌}
 use Rattle.std.proofs.Common.{◌∙◌, ap, subst, sym, le-ltb, lt-ltb}
@@ -24,7 +25,7 @@ use Rattle.tagset.specs.declared.SetFault.{SetFault}
 use Rattle.tables.specs.Building.{built_number, built_values, most_states, needed_of}
 use Rattle.tables.specs.Laws.Exact.{WhenBy, exactly_when, needed-slots_iff}
 use Rattle.tables.proofs.Laws.Exact.{exact-by, number_by}
-use Rattle.tables.specs.declared.Built.{Built}
+use Rattle.tables.specs.Building.{Built}
 use Rattle.bitmap.specs.Laws.States.{states-same}
 use Rattle.bitmap.specs.Levels.{by_level}
 use Rattle.bitmap.specs.Slots.{room_in, slots_of}
@@ -75,9 +76,9 @@ module _ (bytes : List ℕ) (small : Below 256 bytes) (len : ℕ) where
   -- what the rules say, the definition does
   map_so : (b : Built) → MapWhen b → map_built_of bytes len ≡ b
   unfolding map_built_of
-  map_so (B.Fault fault) r = rw ((refused_iff map_kinds bytes fault).1 r)
-  map_so (B.Table name needs) t = on-good t.tags t.set ∙ rw (room-short t.tags (lawful t.set) (slots_of len) t.short, t.named, t.needed)
-  map_so (B.Tags count) b = on-good b.tags b.set ∙ rw (room-enough b.tags (lawful b.set) (slots_of len) b.enough, b.counted)
+  map_so (Err (B.Set fault)) r = rw ((refused_iff map_kinds bytes fault).1 r)
+  map_so (Err (B.Table name needs)) t = on-good t.tags t.set ∙ rw (room-short t.tags (lawful t.set) (slots_of len) t.short, t.named, t.needed)
+  map_so (Ok count) b = on-good b.tags b.set ∙ rw (room-enough b.tags (lawful b.set) (slots_of len) b.enough, b.counted)
 
   -- and what the definition does, the rules say
   map_when : MapWhen (map_built_of bytes len)
@@ -99,16 +100,16 @@ module _ (bytes : List ℕ) (small : Below 256 bytes) (len : ℕ) where
   exactly = exactly_when MapWhen (map_built_of bytes len) map_when map_so
 
   -- a set fault is given exactly if the set is refused so
-  pub map-fault_iff : (fault : SetFault) → (map_built_of bytes len ≡ B.Fault fault) ↔ Refused map_kinds bytes fault
-  map-fault_iff fault = exactly (B.Fault fault)
+  pub map-fault_iff : (fault : SetFault) → (map_built_of bytes len ≡ Err (B.Set fault)) ↔ Refused map_kinds bytes fault
+  map-fault_iff fault = exactly (Err (B.Set fault))
 
   -- TABLE exactly if the set is good and has more distinct prefixes than there are slots: with 253, and their number
-  pub map-table_iff : (name needs : ℕ) → (map_built_of bytes len ≡ B.Table name needs) ↔ MapTooFewSlots bytes len name needs
-  map-table_iff name needs = exactly (B.Table name needs)
+  pub map-table_iff : (name needs : ℕ) → (map_built_of bytes len ≡ Err (B.Table name needs)) ↔ MapTooFewSlots bytes len name needs
+  map-table_iff name needs = exactly (Err (B.Table name needs))
 
   -- building is done exactly if neither is
-  pub map-tags_iff : (count : ℕ) → (map_built_of bytes len ≡ B.Tags count) ↔ MapBuilds bytes len count
-  map-tags_iff count = exactly (B.Tags count)
+  pub map-tags_iff : (count : ℕ) → (map_built_of bytes len ≡ Ok count) ↔ MapBuilds bytes len count
+  map-tags_iff count = exactly (Ok count)
 
   -- EACH NUMBER IS GIVEN WITH ITS VALUES EXACTLY IF ITS CONDITION HOLDS AND NONE EARLIER DOES
   pub map-number_iff : (number : ℕ) (values : List ℕ)
@@ -136,18 +137,18 @@ accepted_bitmap bytes small ts a len = (there (dec_lt (slots_of len) (states ts)
 
     there : Dec (slots_of len < states ts) → built_number (map_built_of bytes len) ≡ 0 → most_states 8 ts 0 1 ≤ slots_of len
     there (yes h) e =
-        let f : map_built_of bytes len ≡ B.Table 253 (states ts) = on-good bytes small len ts a ∙ rw (room-short ts l (slots_of len) h) in
+        let f : map_built_of bytes len ≡ Err (B.Table 253 (states ts)) = on-good bytes small len ts a ∙ rw (room-short ts l (slots_of len) h) in
         absurd (omega (arith, e, ap built_number f))
     there (no h) e = omega (arith, most-whole ts l)
 
     back : most_states 8 ts 0 1 ≤ slots_of len → built_number (map_built_of bytes len) ≡ 0
     back h =
-        let f : map_built_of bytes len ≡ B.Tags (length ts) =
+        let f : map_built_of bytes len ≡ Ok (length ts) =
         on-good bytes small len ts a ∙ rw (room-enough ts l (slots_of len) (omega (arith, most-whole ts l))) in
         ap built_number f
 
 -- THE SLOTS THAT A BITMAP TABLE NEEDS are those that a whole-byte table needs
-pub needed_bitmap : (bytes : List ℕ) → Below 256 bytes → (slots none : ℕ) → needed_of whole_layout bytes ≡ N.Slots slots none → (len : ℕ)
+pub needed_bitmap : (bytes : List ℕ) → Below 256 bytes → (slots none : ℕ) → needed_of whole_layout bytes ≡ Ok (of_parts slots none) → (len : ℕ)
     → (built_number (map_built_of bytes len) ≡ 0) ↔ (slots ≤ slots_of len)
 needed_bitmap bytes small slots none e len =
     let n = (needed-slots_iff whole_layout bytes slots none).0 e in

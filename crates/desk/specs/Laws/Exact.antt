@@ -1,6 +1,6 @@
 -- How the exact conditions of the desk's answers are shown, case by case.
+use Rattle.std.specs.Prelude.{Ok}
 use Rattle.desk.specs.declared.TakeAnswer.TheVariants as K
-use Rattle.tables.specs.declared.Built.TheVariants as B
 use Rattle.std.specs.Prelude.{◌%◌, suc, ℕ, true, List, ◌∷◌, ◌↔◌, ◌≡◌, refl, get_or, length}
 use Rattle.std.proofs.Common.{◌∙◌, ap, sym, arith}
 use Rattle.desk.specs.Calls.{take_of}
@@ -92,7 +92,7 @@ replaces_exactly d order len = go _ (replaces d order len)
           (λ e. absurd (omega (arith, e.0)), λ g. absurd (omega (arith, ap built_number b, (k.1 g).0)));
       last_edition = (λ e. absurd (omega (arith, e)), λ p. absurd (l p.1));
       replaced = λ e count. (
-        λ q. let c : tags ≡ count = cc in ((desk-tags_iff order len count).0 (b ∙ ap B.Tags c), l, (cc)),
+        λ q. let c : tags ≡ count = cc in ((desk-tags_iff order len count).0 (b ∙ ap Ok c), l, (cc)),
         λ p. let t = (desk-tags_iff order len count).1 p.0 in let c : tags ≡ count = cc in cc,
       );
     }

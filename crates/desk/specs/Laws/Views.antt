@@ -1,11 +1,12 @@
 -- Each call by its cases, with what holds in each: shown once, and every fact about a call goes by these cases.
+use Rattle.std.specs.Prelude.{Err, Ok}
 use Rattle.desk.specs.declared.ReplaceAnswer.TheVariants as R
 use Rattle.desk.specs.declared.OpenAnswer.TheVariants as O
 use Rattle.desk.specs.declared.FeedAnswer.TheVariants as F
 use Rattle.desk.specs.declared.CloseAnswer.TheVariants as C
 use Rattle.desk.specs.declared.TakeAnswer.TheVariants as K
 use Rattle.desk.specs.declared.StateAnswer.TheVariants as A
-use Rattle.tables.specs.declared.Built.TheVariants as B
+use Rattle.tables.specs.declared.BuildFault.TheVariants as B
 use Rattle.std.specs.Prelude.{◌%◌, ◌+◌, ◌<◌, ◌≤◌, suc, zero, ℕ, Bool, ◌&&◌, false, not, true, ◌⊎◌, ◌≡◌, refl, eqb, ltb, get_or, length}
 use Rattle.std.proofs.Common.{true≢false, inl, inr, arith, eqb-true, ltb-false, ltb-true}
 use Rattle.std.proofs.lemmas.Bool.{eqb-false, not-true}
@@ -27,7 +28,7 @@ use Rattle.desk.specs.declared.Ticket.{Ticket}
 use Rattle.matching.specs.Laws.Bools.{and_l, and_r}
 use Rattle.matching.specs.Words.{Word}
 use Rattle.matching.specs.declared.Stop.TheVariants.{Damaged}
-use Rattle.tables.specs.declared.Built.{Built}
+use Rattle.tables.specs.Building.{Built}
 use Rattle.tagset.specs.declared.SetFault.{SetFault}
 use Rattle.desk.specs.Layout.{desk_built, desk_slots, Fits, Lent, lent_fits, Order, place_fits, Sizes, sizes_of}
 use Rattle.desk.specs.Laws.Layout.{fits_not, fits_so}
@@ -84,12 +85,12 @@ takes d = go _ refl
     go false p = take-oldest (pos _ (eqb-false _ _ p))
 
 pub data Replaces (d : Desk) (order : Order) (len : Sizes) : Replacing → Type 0 where
-  replace_fault : (fault : SetFault) → desk_built order len ≡ B.Fault fault → Replaces d order len (record { desk = d; answer = R.Fault fault })
-  replace_table : (machine needs : ℕ) → desk_built order len ≡ B.Table machine needs
+  replace_fault : (fault : SetFault) → desk_built order len ≡ Err (B.Set fault) → Replaces d order len (record { desk = d; answer = R.Fault fault })
+  replace_table : (machine needs : ℕ) → desk_built order len ≡ Err (B.Table machine needs)
       → Replaces d order len (record { desk = d; answer = R.Table machine needs })
-  replace_edition-end : (count : ℕ) → desk_built order len ≡ B.Tags count → d.edition.0 ≡ largest
+  replace_edition-end : (count : ℕ) → desk_built order len ≡ Ok count → d.edition.0 ≡ largest
       → Replaces d order len (record { desk = d; answer = R.EditionEnd })
-  replace_done : (count : ℕ) → desk_built order len ≡ B.Tags count → Not d.edition.0 largest
+  replace_done : (count : ℕ) → desk_built order len ≡ Ok count → Not d.edition.0 largest
       → Replaces d order len (record { desk = under_next d (desk_slots order len); answer = R.Replaced (edition_of (d.edition.0 + 1)) count })
 
 pub replaces : (d : Desk) (order : Order) (len : Sizes) → Replaces d order len (replace_of d order len)
@@ -97,10 +98,10 @@ unfolding replace_of
 replaces d order len = go _ _ refl refl
   where
     go : (b : Built) (e : Bool) → desk_built order len ≡ b → eqb d.edition.0 largest ≡ e → Replaces d order len (replace_by d (desk_slots order len) b e)
-    go (B.Fault fault) e p q = replace_fault fault p
-    go (B.Table machine needs) e p q = replace_table machine needs p
-    go (B.Tags count) true p q = replace_edition-end count p (eqb-true _ _ q)
-    go (B.Tags count) false p q = replace_done count p (eqb-false _ _ q)
+    go (Err (B.Set fault)) e p q = replace_fault fault p
+    go (Err (B.Table machine needs)) e p q = replace_table machine needs p
+    go (Ok count) true p q = replace_edition-end count p (eqb-true _ _ q)
+    go (Ok count) false p q = replace_done count p (eqb-false _ _ q)
 
 -- by the room that the serial has
 pub data Feeds (d : Desk) (i : ℕ) (table : Lent) (piece : Word) : Feeding → Type 0 where

@@ -1,7 +1,7 @@
 -- What an opening and a replacement answer, by counts of what was accepted before.
+use Rattle.std.specs.Prelude.{Ok}
 use Rattle.desk.specs.declared.OpenAnswer.TheVariants as O
 use Rattle.desk.specs.declared.ReplaceAnswer.TheVariants as R
-use Rattle.tables.specs.declared.Built.TheVariants as B
 use Rattle.std.specs.Prelude.{◌+◌, ◌<◌, ◌≤◌, suc, ℕ, ◌≡◌, refl, length}
 use Rattle.std.proofs.Common.{◌∙◌, sym, arith}
 use Rattle.desk.specs.Calls.{open_of}
@@ -111,7 +111,7 @@ module _ (d : Desk) (accepted : ℕ) (now : accepted ≡ d.edition.0) (few-editi
               let x : d.edition.0 + 1 ≡ i.0 = cc in
               ((desk-tags_iff order len n).0 (cc), few q, omega (arith, x, now))
 
-          so : (i : Edition) (n : ℕ) → desk_built order len ≡ B.Tags n → i.0 ≡ suc (accepted)
+          so : (i : Edition) (n : ℕ) → desk_built order len ≡ Ok n → i.0 ≡ suc (accepted)
               → R.Replaced (edition_of (d.edition.0 + 1)) c ≡ R.Replaced i n
           so i n e x =
               let y : d.edition.0 + 1 ≡ i.0 = omega (arith, x, now) in

@@ -1,5 +1,6 @@
 -- Building is refused, and done, exactly when the rules say so.
-use Rattle.tables.specs.declared.Built.TheVariants as B
+use Rattle.std.specs.Prelude.{Err, Ok}
+use Rattle.tables.specs.declared.BuildFault.TheVariants as B
 use Rattle.std.specs.Prelude.{ℕ, false, true, List, [], ◌∷◌, ◌↔◌, refl, eqb}
 use Rattle.std.proofs.Common.{◌∙◌, ap, sym}
 use Rattle.std.proofs.Math.Path.{◌≡◌, subst}
@@ -9,7 +10,7 @@ use Rattle.matching.specs.Parts.{Layout, kinds_for}
 use Rattle.tables.specs.Building.{built_number, built_of, built_values}
 use Rattle.tables.specs.Refusals.{Answers, AnswersBy, BuildExact, BuildExactBy, Builds, TooFewSlots}
 use Rattle.tables.specs.Refusals.{a_fault, a_table, a_tags}
-use Rattle.tables.specs.declared.Built.{Built}
+use Rattle.tables.specs.Building.{Built}
 use Rattle.tagset.specs.Laws.Exact.{as_fault, refused_iff}
 use Rattle.tagset.specs.Refusals.{Refused, RefusedAs, cut_as, empty_as, kind_as, length_as, many_as, repeat_as}
 use Rattle.tagset.specs.declared.SetFault.TheVariants.{Cut, Empty, Kind, Length, Many, Repeat}
@@ -31,10 +32,10 @@ module _ (Done : ℕ → Type 0) (Short : ℕ → ℕ → Type 0) (ks : List Tag
       back : (j : ℕ) (l : List ℕ) → AnswersBy Done Short ks bytes j l → (built_number b ≡ j) × (built_values b ≡ l)
       back j l (a_fault r) =
           let f = as_fault ks bytes j l r in
-          let e = (exactly (B.Fault f.fault)).1 ((refused_iff ks bytes f.fault).0 f.refused) in
+          let e = (exactly (Err (B.Set f.fault))).1 ((refused_iff ks bytes f.fault).0 f.refused) in
           (ap built_number e ∙ f.number_is, ap built_values e ∙ f.values_are)
-      back j l (a_table {name} {needs} t) = let e = (exactly (B.Table name needs)).1 t in (ap built_number e, ap built_values e)
-      back j l (a_tags {count} t) = let e = (exactly (B.Tags count)).1 t in (ap built_number e, ap built_values e)
+      back j l (a_table {name} {needs} t) = let e = (exactly (Err (B.Table name needs))).1 t in (ap built_number e, ap built_values e)
+      back j l (a_tags {count} t) = let e = (exactly (Ok count)).1 t in (ap built_number e, ap built_values e)
 
   -- what the row of a number says, by the number
   abbrev Row : ℕ → List ℕ → Type 0

@@ -1,34 +1,49 @@
--- `tables::build_whole` meets its contract. By the set's verdict: its fault, or its tags.
+-- `tables::build_whole` meets its contract. By the set's fault, then its one part, and then its tags.
 use mathlib.Core.Bool.{true}
 use mathlib.Core.List.{[], ◌∷◌}
+use borrow.Author.Rules.{rules}
 use lib.ListN.{length}
-use Rattle.kinds.specs.declared.Takes.TheVariants.{ExactAlone}
-use Rattle.matching.specs.Laws.Layouts.{whole_kinds}
-use Rattle.matching.specs.Parts.{whole_layout}
-use Rattle.tagset.specs.Laws.Lent.{taken_bad, taken-good}
-use Rattle.tagset.specs.Laws.Places.{below_all}
-use Rattle.tables.proofs.Answers.{fault-answer, fault-tables, good-answer, good-tables}
-use Rattle.tables.proofs.Held.{good-held, good-small}
+use Rattle.std.proofs.Common.{◌∙◌}
+use Rattle.std.proofs.lemmas.Result.{err_from_is_err_and}
+use Rattle.matching.specs.Kinds.{exact_kind}
+use Rattle.matching.specs.Parts.{Part, part, whole_layout}
+use Rattle.choosing.specs.Choosing.{lying_in}
+use Rattle.tables.proofs.Answers.{alone, done-answer, done-tables, one_table, room-enough, room-refused, set-refused}
+use Rattle.tables.proofs.OnePart.{tags-many}
+use Rattle.tables.proofs.Held.{whole_taken}
 use Rattle.tables.proofs.build_whole.Goals as goal
 
-pub returns-in-Err : goal.returns-in-Err
-returns-in-Err c =
-    let a = c.args in
-    let bad = taken_bad ExactAlone whole_kinds a.set.now c.in-Err.ensures in record { answer = fault-answer whole_layout a.set.now bad (length a.table.now ∷ []); left = fault-tables whole_layout a.set.now bad true (a.table.now ∷ []) }
+abbrev only_part : Part
+only_part = part exact_kind 8 1 254
 
-pub fold_set-folded-requires : goal.fold_set-folded-requires
-fold_set-folded-requires c =
-    let a = c.args in
-    good-small whole_layout (taken-good ExactAlone whole_kinds a.set.now _ c.in-Ok.ensures)
+pub returns-in_err-good : goal.returns-in_err-good
+returns-in_err-good c =
+    let (fault, is, same) = err_from_is_err_and c.from_residual.result c.from_residual.ensures.1 in
+    let r = set-refused whole_layout c.args.set.now (whole_taken _ c.in_err-good.ensures) true (c.args.table.now ∷ []) in
+    record { answer = rw (is, same) r.answer; left = r.left }
 
-pub build_whole_tags-requires : goal.build_whole_tags-requires
-build_whole_tags-requires c =
-    let a = c.args in
-    let g = taken-good ExactAlone whole_kinds a.set.now _ c.in-Ok.ensures in
-    good-held whole_layout g (below_all 256 a.set.now (λ i h. (c.shared_slice_known-1.given i).fits)) _ c.fold_set-folded.ensures
+pub returns-in_err-judge_part : goal.returns-in_err-judge_part
+returns-in_err-judge_part c =
+    let (fault, is, same) = err_from_is_err_and c.from_residual-in_err-judge_part.result c.from_residual-in_err-judge_part.ensures.1 in
+    let e = c.in_err-judge_part.ensures ∙ alone _ only_part (length c.args.table.now) in
+    let r = room-refused whole_layout c.args.set.now (whole_taken _ c.in_ok-good.ensures.1) _ true (c.args.table.now ∷ []) e in
+    record { answer = rw (is, same) r.answer; left = r.left }
+
+pub fill_part-requires : goal.fill_part-requires
+fill_part-requires c = (
+  search rules,
+  (room-enough whole_layout c.args.set.now (whole_taken _ c.in_ok-good.ensures.1) (c.args.table.now ∷ [])
+      (c.in_ok-judge_part.ensures ∙ alone _ only_part (length c.args.table.now))).0,
+)
 
 pub returns : goal.returns
 returns c =
     let a = c.args in
-    let built = c.build_whole_tags in
-    let g = taken-good ExactAlone whole_kinds a.set.now _ c.in-Ok.ensures in record { answer = good-answer whole_layout a.set.now g (length a.table.now ∷ []) built.result built.ensures.answer; left = good-tables whole_layout a.set.now g true (a.table.now ∷ []) _ built.ensures.left }
+    let good = c.in_ok-good.good in
+    let tags = lying_in good.bytes.now good.places in
+    let enough = c.in_ok-judge_part.ensures ∙ alone tags only_part (length a.table.now) in
+    record {
+      answer = done-answer whole_layout a.set.now (whole_taken _ c.in_ok-good.ensures.1) (a.table.now ∷ []) enough _ (tags-many good.held);
+      left = done-tables whole_layout a.set.now (whole_taken _ c.in_ok-good.ensures.1) (a.table.now ∷ []) enough _
+          (one_table tags only_part a.table.now _ c.fill_part.ensures);
+    }

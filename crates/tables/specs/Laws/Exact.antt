@@ -1,9 +1,11 @@
 -- Building is refused, and done, exactly when the rules say so.
-use Rattle.tables.specs.declared.Built.TheVariants as B
-use Rattle.tables.specs.declared.Needed.TheVariants as N
+use Rattle.std.specs.Prelude.{Err, Ok}
+use Rattle.tables.specs.declared.BuildFault.TheVariants as B
+use Rattle.tables.specs.Building.{of_parts}
+use Rattle.tables.specs.declared.Needed.{Needed}
 use Rattle.std.specs.Prelude.{◌+◌, ◌<◌, ◌≤◌, max, suc, zero, ℕ, List, ◌↔◌, refl}
 use Rattle.std.proofs.Common.{arith}
-use Rattle.std.proofs.Math.Path.{◌≡◌, subst}
+use Rattle.std.proofs.Math.Path.{◌≡◌, ap, subst, sym}
 use Rattle.std.proofs.Math.Decide.{ℕ_discrete}
 use Rattle.std.proofs.Math.ListN.{get_or}
 use Rattle.matching.specs.Kinds.{TagKind}
@@ -17,7 +19,7 @@ use Rattle.tables.specs.Building.{built_by, built_number, built_of, built_values
 use Rattle.tables.specs.Building.{slots_needed}
 use Rattle.tables.specs.Refusals.{AnswersBy, Builds, NeedsAs, TooFewSlots}
 use Rattle.tables.specs.Refusals.{a_fault, a_table, a_tags, needs_none, needs_slots}
-use Rattle.tables.specs.declared.Built.{Built}
+use Rattle.tables.specs.Building.{Built}
 use Rattle.tagset.specs.Grammar.{SetOf, set_of}
 use Rattle.tagset.specs.Laws.Exact.{SetCase, accepted_iff, as_fault, is_bad, is_good, numbered_as, refused_iff, set_case}
 use Rattle.tagset.specs.Refusals.{Accepted, Refused}
@@ -27,9 +29,9 @@ use Rattle.tagset.specs.declared.SetFault.{SetFault}
 
 -- when each answer is to be given, in the rules' words: where the set is at fault as they have it, and else where the builder's own condition holds
 abbrev pub WhenBy : (ℕ → Type 0) → (ℕ → ℕ → Type 0) → List TagKind → List ℕ → Built → Type 0
-WhenBy Done Short ks bytes (B.Fault fault) = Refused ks bytes fault
-WhenBy Done Short ks bytes (B.Table name needs) = Short name needs
-WhenBy Done Short ks bytes (B.Tags count) = Done count
+WhenBy Done Short ks bytes (Err (B.Set fault)) = Refused ks bytes fault
+WhenBy Done Short ks bytes (Err (B.Table name needs)) = Short name needs
+WhenBy Done Short ks bytes (Ok count) = Done count
 
 -- each answer is given exactly then, if what is given is so, and what is so is given
 pub exactly_when : (When : Built → Type 0) (b : Built) → When b → ((a : Built) → When a → b ≡ a) → (a : Built) → (b ≡ a) ↔ When a
@@ -38,9 +40,9 @@ exactly_when When b w so a = (λ e. subst When e w, so a)
 module _ (Done : ℕ → Type 0) (Short : ℕ → ℕ → Type 0) (ks : List TagKind) (bytes : List ℕ) (b : Built)
     (exactly : (a : Built) → (b ≡ a) ↔ WhenBy Done Short ks bytes a) where
   pub says : (a : Built) → WhenBy Done Short ks bytes a → AnswersBy Done Short ks bytes (built_number a) (built_values a)
-  says (B.Fault fault) r = a_fault (numbered_as ks bytes fault r)
-  says (B.Table name needs) t = a_table t
-  says (B.Tags count) t = a_tags t
+  says (Err (B.Set fault)) r = a_fault (numbered_as ks bytes fault r)
+  says (Err (B.Table name needs)) t = a_table t
+  says (Ok count) t = a_tags t
 
 -- ---- the builder of a layout
 
@@ -51,10 +53,10 @@ module _ (layout : Layout) (bytes lens : List ℕ) where
   -- what the rules say, the definition does
   built_so : (b : Built) → BuiltWhen b → built_of layout bytes lens ≡ b
   unfolding built_of
-  built_so (B.Fault fault) r = rw ((refused_iff (kinds_for layout) bytes fault).1 r)
-  built_so (B.Table name needs) t =
+  built_so (Err (B.Set fault)) r = rw ((refused_iff (kinds_for layout) bytes fault).1 r)
+  built_so (Err (B.Table name needs)) t =
       rw ((accepted_iff (kinds_for layout) bytes t.tags).1 t.set, (short_in_iff t.tags layout lens name needs).1 t.short)
-  built_so (B.Tags count) b =
+  built_so (Ok count) b =
       rw ((accepted_iff (kinds_for layout) bytes b.tags).1 b.set, (enough_in_iff b.tags layout lens).1 b.enough, b.counted)
 
   -- and what the definition does, the rules say
@@ -74,16 +76,16 @@ module _ (layout : Layout) (bytes lens : List ℕ) where
   exactly = exactly_when BuiltWhen (built_of layout bytes lens) built_when built_so
 
   -- a set fault is given exactly if the set is refused so
-  pub fault_iff : (fault : SetFault) → (built_of layout bytes lens ≡ B.Fault fault) ↔ Refused (kinds_for layout) bytes fault
-  fault_iff fault = exactly (B.Fault fault)
+  pub fault_iff : (fault : SetFault) → (built_of layout bytes lens ≡ Err (B.Set fault)) ↔ Refused (kinds_for layout) bytes fault
+  fault_iff fault = exactly (Err (B.Set fault))
 
   -- TABLE is given exactly if the set is good and some machine has more distinct prefixes than slots: with the lowest, and its count
-  pub table_iff : (name needs : ℕ) → (built_of layout bytes lens ≡ B.Table name needs) ↔ TooFewSlots layout bytes lens name needs
-  table_iff name needs = exactly (B.Table name needs)
+  pub table_iff : (name needs : ℕ) → (built_of layout bytes lens ≡ Err (B.Table name needs)) ↔ TooFewSlots layout bytes lens name needs
+  table_iff name needs = exactly (Err (B.Table name needs))
 
   -- building is done exactly if neither is
-  pub tags_iff : (count : ℕ) → (built_of layout bytes lens ≡ B.Tags count) ↔ Builds layout bytes lens count
-  tags_iff count = exactly (B.Tags count)
+  pub tags_iff : (count : ℕ) → (built_of layout bytes lens ≡ Ok count) ↔ Builds layout bytes lens count
+  tags_iff count = exactly (Ok count)
 
 -- ---- the slots that a set needs
 
@@ -103,18 +105,18 @@ most_iff n ts s (suc k) m =
     at h f j a b (no d) = f j (omega arith) (omega arith)
 
 module _ (layout : Layout) (bytes : List ℕ) where
-  pub needed-fault_iff : (fault : SetFault) → (needed_of layout bytes ≡ N.Fault fault) ↔ Refused (kinds_for layout) bytes fault
+  pub needed-fault_iff : (fault : SetFault) → (needed_of layout bytes ≡ Err fault) ↔ Refused (kinds_for layout) bytes fault
   unfolding needed_of
   needed-fault_iff fault = (
     λ e. go (set_of (kinds_for layout) bytes) (set_case (kinds_for layout) bytes) e,
     λ r. rw ((refused_iff (kinds_for layout) bytes fault).1 r),
   )
     where
-      go : (s : SetOf) → SetCase (kinds_for layout) bytes s → needed_by layout s ≡ N.Fault fault → Refused (kinds_for layout) bytes fault
+      go : (s : SetOf) → SetCase (kinds_for layout) bytes s → needed_by layout s ≡ Err fault → Refused (kinds_for layout) bytes fault
       go s (is_bad r) e = subst (Refused (kinds_for layout) bytes) (cc) r
       go s (is_good a) e = let z : ◌≡◌ {A = ℕ} 0 1 = cc in absurd (omega arith)
 
-  pub needed-slots_iff : (first second : ℕ) → (needed_of layout bytes ≡ N.Slots first second)
+  pub needed-slots_iff : (first second : ℕ) → (needed_of layout bytes ≡ Ok (of_parts first second))
       ↔ ((tags : Tags) × (Accepted (kinds_for layout) bytes tags) × (first ≡ get_or (slots_needed layout tags) 0 0)
       × (second ≡ get_or (slots_needed layout tags) 1 0))
   unfolding needed_of
@@ -123,11 +125,13 @@ module _ (layout : Layout) (bytes : List ℕ) where
     λ r. rw ((accepted_iff (kinds_for layout) bytes r.0).1 r.1, r.2, r.3),
   )
     where
-      go : (s : SetOf) → SetCase (kinds_for layout) bytes s → needed_by layout s ≡ N.Slots first second
+      go : (s : SetOf) → SetCase (kinds_for layout) bytes s → needed_by layout s ≡ Ok (of_parts first second)
           → (tags : Tags) × (Accepted (kinds_for layout) bytes tags) × (first ≡ get_or (slots_needed layout tags) 0 0)
           × (second ≡ get_or (slots_needed layout tags) 1 0)
       go s (is_bad r) e = let z : ◌≡◌ {A = ℕ} 0 1 = cc in absurd (omega arith)
-      go s (is_good {ts} a) e = (ts, a, (cc), (cc))
+      go s (is_good {ts} a) e =
+          let q : of_parts (get_or (slots_needed layout ts) 0 0) (get_or (slots_needed layout ts) 1 0) ≡ of_parts first second = cc in
+          (ts, a, sym (ap (λ (n : Needed). n.first) q), sym (ap (λ (n : Needed). n.second) q))
 
   -- EACH NUMBER IS GIVEN WITH ITS VALUES EXACTLY IF ITS ROW SAYS SO
   pub needed-number_iff : (number : ℕ) (values : List ℕ)

@@ -1,5 +1,6 @@
 -- What building leaves in the lent runs.
-use Rattle.tables.specs.declared.Built.TheVariants as B
+use Rattle.std.specs.Prelude.{Err, Ok}
+use Rattle.tables.specs.declared.BuildFault.TheVariants as B
 use Rattle.std.specs.Prelude.{◌<◌, ℕ, List, [], ◌∷◌, ◌≡◌, length}
 use Rattle.std.proofs.Common.{◌∙◌, ap, arith}
 use Rattle.std.proofs.Math.Path.{refl}
@@ -12,7 +13,7 @@ use Rattle.matching.specs.Words.{Below}
 use Rattle.tables.specs.Building.{built_by, built_number, built_of, on_set, on_set_tables, tables_by, tables_of}
 use Rattle.tables.specs.Laws.Exact.{BuiltWhen, built_when, tags_iff}
 use Rattle.tables.specs.Refusals.{Builds}
-use Rattle.tables.specs.declared.Built.{Built}
+use Rattle.tables.specs.Building.{Built}
 use Rattle.tagset.specs.Answer.{fault_number}
 use Rattle.tagset.specs.Grammar.{SetOf, bad_set, good_set, set_of}
 use Rattle.tagset.specs.Laws.Exact.{accepted_iff}
@@ -54,9 +55,9 @@ module _ (layout : Layout) (bytes : List ℕ) (runs : Runs) where
     where
       go : (b : Built) → built_of layout bytes (lengths runs) ≡ b → BuiltWhen layout bytes (lengths runs) b
           → lengths (tables_of layout bytes runs) ≡ lengths runs
-      go (B.Fault fault) e r = ap lengths (refused-kept (rw e (fault-some fault)))
-      go (B.Table name needs) e t = ap lengths (refused-kept (rw e (omega arith)))
-      go (B.Tags count) e t = ap lengths (built-left t) ∙ tables-lengths layout t.tags runs sized
+      go (Err (B.Set fault)) e r = ap lengths (refused-kept (rw e (fault-some fault)))
+      go (Err (B.Table name needs)) e t = ap lengths (refused-kept (rw e (omega arith)))
+      go (Ok count) e t = ap lengths (built-left t) ∙ tables-lengths layout t.tags runs sized
 
 -- each tag of a set that a layout takes has a part of it
 all-taken : (layout : Layout) (tags : Tags) → AllSized (kinds_for layout) tags → AllTaken layout tags
@@ -73,7 +74,7 @@ pub record Done (layout : Layout) (bytes : List ℕ) (runs : Runs) (count : ℕ)
   pub left : LeftIn layout tags (tables_for layout tags runs)
   pub number : count ≡ length tags
 
-pub done : (layout : Layout) (bytes : List ℕ) (runs : Runs) (count : ℕ) → built_of layout bytes (lengths runs) ≡ B.Tags count → Done layout bytes runs count
+pub done : (layout : Layout) (bytes : List ℕ) (runs : Runs) (count : ℕ) → built_of layout bytes (lengths runs) ≡ Ok count → Done layout bytes runs count
 done layout bytes runs count e =
     let b = (tags_iff layout bytes (lengths runs) count).0 e in
     let good = (accepted_iff (kinds_for layout) bytes b.tags).1 b.set in
