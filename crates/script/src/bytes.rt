@@ -35,6 +35,7 @@ fn hex(digits: &[u8], buffer: &mut [u8]) -> Option<usize>
 }
 
 // What stands behind the first quotation mark.
+#[tactic(auto, using(crate::specs::Laws::Words::reach_le), unfolding(crate::specs::Bytes::quoted_of))]
 fn quoted(rest: &[u8], buffer: &mut [u8]) -> Option<usize>
     requires { length rest.now ≤ length buffer.old }
     ensures result_after { bytes_in buffer.new result ≡ quoted_of rest.now }
@@ -48,26 +49,19 @@ fn quoted(rest: &[u8], buffer: &mut [u8]) -> Option<usize>
     Some(n)
 }
 
+#[tactic(auto, using(crate::specs::Laws::Bytes::by_first))]
 pub fn bytes_of(word: &[u8], buffer: &mut [u8]) -> Option<usize>
     requires { length word.now ≤ length buffer.old }
     ensures result_after { bytes_in buffer.new result ≡ bytes_of word.now }
     ensures result_in_bounds { count_of result ≤ length word.now }
 {
-    if word.is_empty() {
+    let [first, rest @ ..] = word else {
         return None;
+    };
+    match first {
+        b'x' => hex(rest, buffer),
+        b'"' => quoted(rest, buffer),
+        b'-' if rest.is_empty() => Some(0),
+        _ => None,
     }
-    let first = word[0];
-    if first == b'-' {
-        if word.len() == 1 {
-            return Some(0);
-        }
-        return None;
-    }
-    if first == b'x' {
-        return hex(&word[1..], buffer);
-    }
-    if first == b'"' {
-        return quoted(&word[1..], buffer);
-    }
-    None
 }

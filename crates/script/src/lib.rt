@@ -39,7 +39,8 @@ pub enum Table {
     Second,
 }
 
-// A call's numbers, and behind them its table; of its bytes, how many the buffer begins with.
+// What a line asks for: nothing, an answer that it is no call, or a call. These are three, so that no Option has their shape; the functions that
+// read a call's words give an Option of it. A call's numbers, and behind them its table; of its bytes, how many the buffer begins with.
 #[derive(Drop)]
 pub enum Call {
     PassedOver,

@@ -5,6 +5,9 @@ ghost use Rattle.script.specs.Words.{reach as reach·of};
 use crate::bytes::put;
 use crate::words::reach;
 
+// A line's buffer and the count of its bytes stand side by side: the caller holds the buffer as an array (no heap), and a struct of the two would
+// be built and taken apart by this one caller alone, so it is no plainer.
+
 // More bytes of a line behind the first n that are kept, as far as there is room; how many are kept then.
 fn keep(line: &mut [u8], n: usize, more: &[u8]) -> usize
     requires { n ≤ length line.old }
@@ -29,6 +32,7 @@ pub struct Part {
 }
 
 // Keeps what stands before the piece's first line end, behind the first n bytes of the line.
+#[tactic(auto, using(crate::specs::Laws::Words::reach_le))]
 pub fn line_part(line: &mut [u8], n: usize, piece: &[u8]) -> Part
     requires { n ≤ length line.old }
     ensures line_after { take result.kept line.new ≡ take (length line.old)

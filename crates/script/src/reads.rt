@@ -31,8 +31,7 @@ fn place_of(words: &[u8], k: usize) -> Option<[u16; 16]>
     let mut rest = words;
     for i in 0..k {
         numbers[i] = number_of(word(rest), 65535)? as u16;
-        let next = behind(rest);
-        rest = next;
+        rest = behind(rest);
     }
     Some(numbers)
 }

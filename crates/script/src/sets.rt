@@ -13,23 +13,22 @@ const MOST: usize = 4096;
 fn is_marked(words: &[u8]) -> bool
     ensures { result ≡ is_marked words.now }
 {
-    if words.is_empty() {
-        return false;
-    }
-    words[0] == b'~'
+    matches!(words, [b'~', ..])
 }
 
 // The words behind a tilde at the front.
+#[tactic(auto, unfolding(crate::specs::Sets::unmarked))]
 fn unmarked(words: &[u8]) -> &[u8]
     ensures { result.now ≡ unmarked·of words.now }
 {
-    if is_marked(words) {
-        return &words[1..];
+    match words {
+        [b'~', bare @ ..] => bare,
+        _ => words,
     }
-    &words[0..]
 }
 
 // The kind that the mark at the front, or that there is none, asks for.
+#[tactic(auto, unfolding(crate::specs::Sets::kind_at))]
 fn kind_at(words: &[u8]) -> u8
     ensures { result ≡ kind_at words.now }
 {
@@ -46,30 +45,26 @@ pub enum Quoted {
     Followed(usize),
 }
 
+#[tactic(auto, using(crate::specs::Laws::Words::reach_le), unfolding(crate::specs::Sets::quoted_at))]
 pub fn quoted_at(words: &[u8]) -> Option<Quoted>
     ensures { result ≡ quoted_at words.now }
 {
-    if words.is_empty() {
+    let [b'"', rest @ ..] = words else {
         return None;
+    };
+    let inside = reach(rest, b'"');
+    match &rest[inside..] {
+        [_] => Some(Quoted::Last(inside)),
+        [_, b' ', ..] => Some(Quoted::Followed(inside)),
+        _ => None,
     }
-    if words[0] != b'"' {
-        return None;
-    }
-    let inside = reach(&words[1..], b'"');
-    let end = inside + 2;
-    if words.len() < end {
-        return None;
-    }
-    if words.len() == end {
-        return Some(Quoted::Last(inside));
-    }
-    if words[end] != b' ' {
-        return None;
-    }
-    Some(Quoted::Followed(inside))
 }
 
+// The buffer has room for any line, and a count of the set's bytes beside it: a struct of the two would lend the buffer anew for each entry, and
+// say no more.
+
 // An entry of a kind behind the n bytes that the buffer begins with, unless the set grows too long.
+#[tactic(auto, using(crate::specs::Laws::Sets::entry_fits, crate::specs::Laws::Sets::entry_long))]
 fn put_entry(buffer: &mut [u8], n: usize, kind: u8, payload: &[u8]) -> Option<usize>
     requires { (n ≤ 4096) × (4096 ≤ length buffer.old) }
     ensures result_after { bytes_in buffer.new result ≡ within 4096 (Some (take n buffer.old ++ entry_of kind payload.now)) }
@@ -112,15 +107,14 @@ fn entries(words: &[u8], buffer: &mut [u8]) -> Option<usize>
 {
     let mut rest = words;
     let mut n: usize = 0;
-    for done in 0..words.len() {
+    for _done in 0..words.len() {
         let kind = kind_at(rest);
         let bare = unmarked(rest);
         match quoted_at(bare)? {
             Quoted::Last(k) => return put_quoted(buffer, n, kind, bare, k),
             Quoted::Followed(k) => {
                 n = put_quoted(buffer, n, kind, bare, k)?;
-                let next = behind_quoted(bare, k);
-                rest = next;
+                rest = behind_quoted(bare, k);
             }
         }
     }
@@ -131,16 +125,10 @@ fn entries(words: &[u8], buffer: &mut [u8]) -> Option<usize>
 fn has_quotation(words: &[u8]) -> bool
     ensures { result ≡ eqb (get_or words.now 0 0) 34 || is_marked words.now }
 {
-    if is_marked(words) {
-        return true;
-    }
-    if words.is_empty() {
-        return false;
-    }
-    words[0] == b'"'
+    matches!(words, [b'"' | b'~', ..])
 }
 
-#[tactic(auto, unfolding(crate::specs::Sets::set_of))]
+#[tactic(auto, using(crate::specs::Laws::Sets::no_set), unfolding(crate::specs::Sets::set_of))]
 pub fn set_bytes(words: &[u8], buffer: &mut [u8]) -> Option<usize>
     requires { (length words.now ≤ length buffer.old) × (4096 ≤ length buffer.old) }
     ensures result_after { bytes_in buffer.new result ≡ set_of words.now }

@@ -10,6 +10,7 @@ pub fn reach(bytes: &[u8], b: u8) -> usize
 }
 
 // The word at the front.
+#[tactic(auto, using(crate::specs::Laws::Words::reach_le), unfolding(crate::specs::Words::word_of))]
 pub fn word(bytes: &[u8]) -> &[u8]
     ensures { result.now ≡ Words.word_of bytes.now }
 {
@@ -18,6 +19,7 @@ pub fn word(bytes: &[u8]) -> &[u8]
 }
 
 // What stands behind the first blank.
+#[tactic(auto, using(crate::specs::Laws::Words::reach_le), unfolding(crate::specs::Words::behind))]
 pub fn behind(bytes: &[u8]) -> &[u8]
     ensures { result.now ≡ Words.behind bytes.now }
 {
@@ -29,13 +31,13 @@ pub fn behind(bytes: &[u8]) -> &[u8]
 }
 
 // What stands behind the first k words.
+#[tactic(auto, using(crate::specs::Laws::Words::skips))]
 pub fn skipped(bytes: &[u8], k: usize) -> &[u8]
     ensures { result.now ≡ Words.skipped k bytes.now }
 {
     let mut rest = bytes;
-    for i in 0..k {
-        let next = behind(rest);
-        rest = next;
+    for _i in 0..k {
+        rest = behind(rest);
     }
     rest
 }

@@ -118,6 +118,8 @@ unfolding bytes_of
 bytes-other [] h g f = refl
 bytes-other (b ∷ w) h g f = rw (ne_eqb b 45 h, ne_eqb b 120 g, ne_eqb b 34 f)
 
+pub ruleset by_first = (bytes-empty, bytes-alone, bytes_dash, bytes-other)
+
 -- what was read of a word that is known, beside the buffer
 pub bytes-said : (u b : List ℕ) {v : List ℕ} {r : Option ℕ} (x : Option ℕ) → bytes_in b r ≡ bytes_of v → v ≡ u → r ≡ x → bytes_of u ≡ bytes_in b x
 bytes-said u b x f e g = sym (ap bytes_of e) ∙ sym f ∙ ap (bytes_in b) g

@@ -148,6 +148,8 @@ pub set_plain : (w : List ℕ) (t : Bool) → t ≡ eqb (get_or w 0 0) 34 || is_
 unfolding set_of
 set_plain w t e q = ap (λ (b : Bool). within 4096 (cond b (entries_of (length w) w) (bytes_of w))) (sym e ∙ q)
 
+pub ruleset no_set = (set-none)
+
 -- bytes as they are written: too many, or few enough
 pub set-many : (w b : List ℕ) (n : ℕ) → set_of w ≡ within 4096 (bytes_of w) → bytes_of w ≡ Some (take n b) → n ≤ length b → 4096 < n → set_of w ≡ None
 set-many w b n q e m h = q ∙ ap (within 4096) e ∙ within-long 4096 (take n b) (rw (length-take-le n b m) h)

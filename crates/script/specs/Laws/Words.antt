@@ -81,5 +81,7 @@ pub skip_none : (k i : ℕ) (l : List ℕ) → k ≤ i → skipped (k - i) l ≡
 unfolding skipped
 skip_none k i l h = rw (let e : k - i ≡ 0 = omega arith in e)
 
+pub ruleset skips = (skip_one, skip_none)
+
 pub skip_all : (k : ℕ) (l : List ℕ) → skipped k l ≡ skipped (k - 0) l
 skip_all k l = ap (λ (n : ℕ). skipped n l) (let e : k ≡ k - 0 = omega arith in e)

@@ -12,7 +12,7 @@ loop-i-preserved c =
     let n = c.in_ok-numbers.field-0 in
     let g : l.i < length l.numbers = omega (arith, c.requires) in record {
       long = simp length-set l.invariant.long;
-      read = place-more a.k l.i n a.words.now l.rest.now c.behind-next.result.now l.numbers c.loop-i-test.true g
+      read = place-more a.k l.i n a.words.now l.rest.now c.behind-rest.result.now l.numbers c.loop-i-test.true g
           (number-said 65535 (word_of l.rest.now) (Some n) c.number_of.ensures.value c.word.ensures c.in_ok-numbers.was)
-          c.behind-next.ensures l.invariant.read;
+          c.behind-rest.ensures l.invariant.read;
     }

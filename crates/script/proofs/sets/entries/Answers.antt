@@ -36,8 +36,8 @@ returns-in_err-n-in-Followed-clause-result_after c =
     rw c.from_residual-in_err-n-in-Followed.ensures
     (entered_full c.in-Followed.k c.loop-done.invariant.1 (omega arith) w c.in_err-n-in-Followed.ensures.result_after)
 
-pub behind_quoted-next-requires : goal.behind_quoted-next-requires
-behind_quoted-next-requires c = followed-fits c.unmarked-bare.result.now c.in-Followed.k (sym c.in_ok-k.ensures ∙ ap Some c.in-Followed.is)
+pub behind_quoted-rest-requires : goal.behind_quoted-rest-requires
+behind_quoted-rest-requires c = followed-fits c.unmarked-bare.result.now c.in-Followed.k (sym c.in_ok-k.ensures ∙ ap Some c.in-Followed.is)
 
 pub loop-done-preserved : goal.loop-done-preserved
 loop-done-preserved c =
@@ -45,11 +45,11 @@ loop-done-preserved c =
     let put = c.put_quoted-in-Followed in
     let n = c.in_ok-n-in-Followed in
     let w = next c.unmarked-bare.ensures c.kind_at-kind.ensures (sym (ap Some c.in-Followed.is) ∙ c.in_ok-k.ensures) in
-    let one : length c.args.words.now - l.done - 1 ≡ length c.args.words.now - (l.done + 1) = omega arith in (
+    let one : length c.args.words.now - l._done - 1 ≡ length c.args.words.now - (l._done + 1) = omega arith in (
       put.auto.buffer ∙ l.invariant.0,
-      subst (λ (left : ℕ). Entered c.args.words.now put.new.buffer c.behind_quoted-next.result.now left n.n) one
+      subst (λ (left : ℕ). Entered c.args.words.now put.new.buffer c.behind_quoted-rest.result.now left n.n) one
           (entered_more c.in-Followed.k n.n put.new.buffer _ l.invariant.1 (omega arith) w n.ensures.result_after n.ensures.result_bound
-          put.auto.buffer c.behind_quoted-next.ensures),
+          put.auto.buffer c.behind_quoted-rest.ensures),
     )
 
 pub returns-clause-result_after : goal.returns-clause-result_after

@@ -5,4 +5,4 @@ use Rattle.script.specs.Words.{skipped}
 use Rattle.script.proofs.words.skipped.Given as goal
 
 abbrev pub invariant-loop-i : goal.invariant-loop-i
-invariant-loop-i l = skipped l.k l.bytes ≡ skipped (l.k - l.i) l.rest
+invariant-loop-i l = skipped l.k l.bytes ≡ skipped (l.k - l._i) l.rest
