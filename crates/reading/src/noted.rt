@@ -7,7 +7,7 @@ ghost use Rattle.reading.specs.Noted.{WroteTo};
 use crate::records::put_all;
 
 // The bytes whose records are written, and how many records there are then.
-#[derive(Drop)]
+#[derive(Clone, Copy)]
 pub struct Wrote {
     pub at: usize,
     pub records: usize,
@@ -20,21 +20,16 @@ fn write_rows(hits: &[u16; 256], end: usize, count: u32, list: &mut [u32], from:
     ensures { WroteTo (tag_rows (take end hits.now)) count list.old list.new from result }
 {
     let mut w = from;
-    let mut i: usize = 0;
-    while i < end {
+    for i in 0..end {
         let Some(x) = put_all(list, w, count + (i as u32) + 1, hits[i]) else {
             return Wrote { at: i, records: w };
         };
         w = x;
-        i += 1;
     }
-    Wrote { at: i, records: w }
-}
-
-fn clear(hits: &mut [u16; 256])
-    ensures { hits.new ≡ clean }
-{
-    *hits = [0; 256];
+    Wrote {
+        at: end,
+        records: w,
+    }
 }
 
 // The same, if something was noted; and then nothing is noted any more.
@@ -52,7 +47,7 @@ pub fn write_noted(
 {
     if loud {
         let r = write_rows(hits, end, count, list, from);
-        clear(hits);
+        *hits = [0; 256];
         return r;
     }
     Wrote {

@@ -27,11 +27,9 @@ fn put(list: &mut [u32], from: usize, end: u32, hits: u16) -> usize
 {
     let mut w = from;
     let mut rest = hits;
-    let mut tag: u32 = 0;
-    while tag < 16 {
+    for tag in 0..16 {
         w = put_bit(list, w, end, tag, rest % 2);
-        rest = rest / 2;
-        tag += 1;
+        rest /= 2;
     }
     w
 }
@@ -44,7 +42,7 @@ pub fn put_all(list: &mut [u32], w: usize, end: u32, hits: u16) -> Option<usize>
     if hits == 0 {
         return Some(w);
     }
-    let count = u16::count_ones(hits) as usize;
+    let count = hits.count_ones() as usize;
     if list.len() / 2 - w < count {
         return None;
     }

@@ -15,46 +15,32 @@ use matching::Stop;
 // Blocks are sized so that a list which fills costs no long walk that is thrown away. What is answered does not hang on their sizes.
 const FEW: usize = 4;
 
-fn at_most(n: usize) -> usize
-    ensures { result ≤ 256 }
-{
-    if n < MOST { n } else { MOST }
-}
-
 // The bytes of a piece's first block, for a list of so many numbers.
 fn first_size(list: usize) -> usize {
-    at_most(list / 4) + FEW
+    (list / 4).min(MOST) + FEW
 }
 
 // Those of the next, by how many records there are before and behind a block of so many bytes. Where it had none, twice as many;
 // else as many as have room at that rate, less a quarter.
 fn next_size(size: usize, before: usize, records: usize, list: usize) -> usize {
     if records <= before {
-        return at_most(size) * 2;
+        return size.min(MOST) * 2;
     }
     let found = records - before;
     let all = list / 2;
     if all <= records {
         return FEW;
     }
-    let room = at_most(all - records);
-    at_most(room * at_most(size) / found) * 3 / 4 + FEW
+    let room = (all - records).min(MOST);
+    (room * size.min(MOST) / found).min(MOST) * 3 / 4 + FEW
 }
 
-// At least one byte, and no more than a block has.
-fn some_of(size: usize) -> usize
-    ensures { (0 < result) × (result ≤ 256) }
-{
-    if size < MOST { size + 1 } else { MOST }
-}
-
-// Where a block of so many bytes ends that begins at a byte.
+// Where a block of about so many bytes ends that begins at a byte: it has at least one, where there is one, and no more than a block has.
 fn block_end(at: usize, len: usize, size: usize) -> usize
     requires { at ≤ len }
     ensures { (at ≤ result) × ((result ≤ len) × ((result - at ≤ 256) × (at < len → at < result))) }
 {
-    let most = some_of(size);
-    if len - at < most { len } else { at + most }
+    at + (len - at).min(size.min(MOST - 1) + 1)
 }
 
 // One block, its records behind the first so many of the list. While all is taken, nothing stays noted.
@@ -106,6 +92,7 @@ fn on_blocks(
     let mut size = first_size(list.len());
     let mut w: usize = 0;
     let mut i: usize = 0;
+    // A while, since a turn's step is what the block took: a for's step is 1.
     while i < piece.len() {
         let to = block_end(i, piece.len(), size);
         let block = &piece[i..to];

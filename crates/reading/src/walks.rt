@@ -24,6 +24,7 @@ pub fn on_whole(
     let mut q = start;
     let mut w: usize = 0;
     let mut i: usize = 0;
+    // A while, since a turn may pass over many bytes: a for's step is 1.
     while i < piece.len() {
         let Some(n) = table.next(q, piece[i]) else {
             return Went::stopped(i, q, w, Stop::Damaged);

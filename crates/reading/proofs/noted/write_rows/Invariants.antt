@@ -1,12 +1,8 @@
 -- The records of the first i bytes are written.
-use Prim.Native.Nat.{◌-◌, ◌≤◌}
 use Rattle.blocks.specs.Noting.{tag_rows}
 use Rattle.reading.specs.Noted.{Writing}
 use lib.ListN.{take}
 use Rattle.reading.proofs.noted.write_rows.Given as goal
 
 abbrev pub invariant-loop-i : goal.invariant-loop-i
-invariant-loop-i l = (l.i ≤ l.end) × Writing (tag_rows (take l.end l.hits)) l.count l.initial.list l.list l.from l.w l.i
-
-abbrev pub decreases-loop-i : goal.decreases-loop-i
-decreases-loop-i l = l.end - l.i
+invariant-loop-i l = Writing (tag_rows (take l.end l.hits)) l.count l.initial.list l.list l.from l.w l.i
