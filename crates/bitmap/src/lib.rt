@@ -3,6 +3,7 @@
 
 use std::cmp::Ord;
 
+pub mod slots;
 pub mod steps;
 
 ghost use Rattle.std.specs.Prelude.{◌≡◌};

@@ -6,21 +6,17 @@ ghost use Rattle.bitmap.specs.Steps.{ones_over};
 ghost use Rattle.bitmap_growing.specs.Growing.{Closable, Growing, closed, first_behind, inherits};
 
 use super::sowing::{Turn, sow};
-use bitmap::steps::{number, vector_of};
+use bitmap::slots::Slot;
 use bitmap_maps::counting::children;
 use bitmap_maps::laying::lay_map;
 use bitmap_maps::own::own_tags;
 use tagset::Words;
 
 // The vector of the state that q fails to; none for the start state.
-fn inherited(table: &[u16], q: usize, f: usize) -> u16
-    requires { f * 19 + 18 < length table.now }
-    ensures { result ≡ inherits q table.now f }
+fn inherited(q: usize, fails: &Slot) -> u16
+    ensures { result ≡ inherits q fails.now.table.now fails.now.state }
 {
-    if q == 0 {
-        return 0;
-    }
-    vector_of(table, f)
+    if q == 0 { 0 } else { fails.vector() }
 }
 
 // The first of n children behind k states.
@@ -35,8 +31,8 @@ fn close(table: &mut [u16], q: usize, k: usize, f: usize, own: u16) -> usize
     requires { Closable table.old q k f own }
     ensures { (result ≡ ones_over table.old q 0 16) × (result ≤ 256) × (table.new ≡ closed table.old q k f own) }
 {
-    let n = children(table, q);
-    let vector = inherited(table, q, f) + own;
+    let n = children(&Slot { table, state: q });
+    let vector = inherited(q, &Slot { table, state: f }) + own;
     let at = q * 19;
     table[at + 16] = first(k, n) as u16;
     table[at + 18] = vector;
@@ -48,12 +44,13 @@ pub fn settle(words: &Words, table: &mut [u16], s: usize, q: usize, k: usize) ->
     requires { let ts = words_of words.now in (q < length (by_level ts)) × (Growing ts s table.old q k) }
     ensures { Growing (words_of words.now) s table.new (q + 1) result }
 {
+    let slot = Slot { table, state: q };
     let turn = Turn {
         state: q,
         placed: k,
-        depth: usize::from(number(table, q, 0)),
-        fail: usize::from(number(table, q, 17)),
-        mask: number(table, q, 18),
+        depth: usize::from(slot.number(0)),
+        fail: slot.fail(),
+        mask: slot.vector(),
     };
     lay_map(words, table, q, turn.depth, turn.mask);
     let own = own_tags(words, turn.depth, turn.mask);

@@ -4,7 +4,8 @@ ghost use Rattle.tagset.specs.Cutting.{words_of};
 ghost use Rattle.bitmap.specs.Steps.{step, vector_at};
 ghost use Rattle.bitmap_growing.specs.Growing.{Found, Growing, Sowable, Sowing, fail_to, kids, placed, sown_by};
 
-use bitmap::steps::{next_state, ones_below};
+use bitmap::slots::Slot;
+use bitmap::steps::next_state;
 use bitmap_maps::masks::goes_through;
 use tagset::Words;
 
@@ -50,7 +51,11 @@ fn sow_one(table: &mut [u16], s: usize, turn: Turn, c: u8, u: usize)
     requires { Sowable table.old s turn.state turn.fail turn.depth turn.placed c u }
     ensures { table.new ≡ sown_by table.old s turn.state turn.fail turn.depth turn.placed c u }
 {
-    let r = turn.placed + ones_below(table, turn.state, c);
+    let slot = Slot {
+        table,
+        state: turn.state,
+    };
+    let r = turn.placed + slot.ones_below(c);
     let x = failing(table, s, turn.state, turn.fail, c);
     place(table, r, turn.depth + 1, x, u);
 }

@@ -2,11 +2,13 @@
 #![tactic(auto)]
 
 mod rows;
+mod tables;
 mod walks;
 
 ghost use Rattle.std.specs.Prelude.{length};
 ghost use Rattle.bitmap_reading.specs.Outside.{MapTells, read_map_of};
 
+use crate::tables::MapTable;
 use crate::walks::on_bitmap;
 use bitmap::map_slots;
 use reading::Answer;
@@ -30,9 +32,9 @@ pub fn read_bitmap(
     ensures { MapTells result place list.old list.new
         (read_map_of table.now place count piece.now (length list.old)) }
 {
-    let s = map_slots(table.len());
+    let states = map_slots(table.len());
     let start = usize::from(place);
-    let sound = start < s;
+    let sound = start < states;
     let long = too_long(count, piece.len());
     if let Err(why) = judge(sound, long) {
         let stays = Standing {
@@ -41,7 +43,11 @@ pub fn read_bitmap(
         };
         return Answer::refused(stays, why);
     }
-    let r = on_bitmap(table, s, start, count, piece, list);
+    let table = MapTable {
+        numbers: table,
+        states,
+    };
+    let r = on_bitmap(&table, start, count, piece, list);
     Answer {
         taken: r.taken,
         place: r.place,

@@ -1,10 +1,11 @@
 // Passing over quiet bytes. Most bytes are read near state 0: from a state that fails to it, and has the byte not in its map, a byte leads where it
 // leads from state 0. So a row of these is made once for a long piece, and asked by one test, which can be guessed.
-ghost use Rattle.std.specs.Prelude.{IfSome, ◌≡◌, ◌+◌, ◌*◌, ◌<◌, ◌≤◌, ◌^◌, length};
+ghost use Rattle.std.specs.Prelude.{IfSome, ◌≡◌, ◌*◌, ◌<◌, ◌≤◌, ◌^◌, length};
 ghost use Rattle.bitmap_reading.specs.Rows.{Row, Leads, Quick, Shallow, Few, PassedTo, moves_from};
 
+use crate::tables::MapTable;
 use bitmap::Reached;
-use bitmap::steps::{next_state, number, own_bit, vector_of};
+use bitmap::slots::Slot;
 
 // The state that each byte leads to from state 0; none, where a number on its way is wrong.
 pub type Leading = [Option<u16>; 256];
@@ -18,32 +19,32 @@ pub struct Came {
 }
 
 // Where a byte leads from state 0.
-fn leads(table: &[u16], s: usize, c: u8) -> Option<u16>
-    requires { (s * 19 ≤ length table.now) × ((0 < s) × (s ≤ 513)) }
-    ensures { Leads s table.now c result }
+fn leads(table: &MapTable, c: u8) -> Option<u16>
+    requires { 0 < table.now.states }
+    ensures { Leads table.now.states table.now.numbers.now c result }
 {
-    let to = next_state(table, s, 0, c)?;
+    let to = table.next(0, c)?;
     Some(to.state as u16)
 }
 
 // The row of state 0.
-fn row_of(table: &[u16], s: usize) -> Leading
-    requires { (s * 19 ≤ length table.now) × ((0 < s) × (s ≤ 513)) }
-    ensures { Row s table.now result }
+fn row_of(table: &MapTable) -> Leading
+    requires { 0 < table.now.states }
+    ensures { Row table.now.states table.now.numbers.now result }
 {
     let mut row: Leading = [None; 256];
     for c in 0..256 {
-        row[c] = leads(table, s, c as u8);
+        row[c] = leads(table, c as u8);
     }
     row
 }
 
 // A row for a piece that is long enough for it to pay.
-pub fn row_for(table: &[u16], s: usize, long: bool) -> Option<Leading>
-    requires { (s * 19 ≤ length table.now) × ((0 < s) × (s ≤ 513)) }
-    ensures { IfSome result (Row s table.now) }
+pub fn row_for(table: &MapTable, long: bool) -> Option<Leading>
+    requires { 0 < table.now.states }
+    ensures { IfSome result (Row table.now.states table.now.numbers.now) }
 {
-    if long { Some(row_of(table, s)) } else { None }
+    if long { Some(row_of(table)) } else { None }
 }
 
 fn times(q: usize, marks: u16) -> usize
@@ -55,11 +56,15 @@ fn times(q: usize, marks: u16) -> usize
 
 // Whether the row can't tell: the state is not 0, and has the byte or fails to another state than 0. It is a product, since the tests one by one
 // would be branches that text can't be guessed by.
-fn is_deep(table: &[u16], q: usize, c: u8) -> bool
-    requires { (q * 19 + 18 < length table.now) × (q ≤ 513) }
-    ensures { Shallow table.now q c result }
+fn is_deep(table: &MapTable, q: usize, c: u8) -> bool
+    requires { q < table.now.states }
+    ensures { Shallow table.now.numbers.now q c result }
 {
-    times(q, own_bit(table, q, c) | number(table, q, 17)) != 0
+    let slot = Slot {
+        table: table.numbers,
+        state: q,
+    };
+    times(q, slot.own_bit(c) | slot.number(17)) != 0
 }
 
 // Leaving a state is a move, staying in state 0 is none.
@@ -70,12 +75,12 @@ fn moves_from(q: usize) -> usize
 }
 
 // A byte's step, where it is found quickly: what it says is so, and it may say nothing.
-fn quick(table: &[u16], s: usize, row: &Leading, q: usize, c: u8) -> Option<Reached>
-    requires { (s * 19 ≤ length table.now) × ((q < s) × ((s ≤ 513) × (Row s table.now row.now))) }
-    ensures { Quick s table.now q c result }
+fn quick(table: &MapTable, row: &Leading, q: usize, c: u8) -> Option<Reached>
+    requires { (q < table.now.states) × Row table.now.states table.now.numbers.now row.now }
+    ensures { Quick table.now.states table.now.numbers.now q c result }
 {
     if is_deep(table, q, c) {
-        return next_state(table, s, q, c);
+        return table.next(q, c);
     }
     let n = row[usize::from(c)]?;
     Some(Reached {
@@ -86,17 +91,16 @@ fn quick(table: &[u16], s: usize, row: &Leading, q: usize, c: u8) -> Option<Reac
 
 // Over quiet bytes, as long as there are.
 pub fn pass(
-    table: &[u16],
-    s: usize,
+    table: &MapTable,
     row: &Leading,
     start: usize,
     moves: usize,
     piece: &[u8],
     from: usize,
 ) -> Came
-    requires s_in_bounds { (s * 19 ≤ length table.now) × ((start < s) × ((s ≤ 513) × (Row s table.now row.now))) }
+    requires s_in_bounds { (start < table.now.states) × Row table.now.states table.now.numbers.now row.now }
     requires from_in_bounds { (from ≤ length piece.now) × ((length piece.now < 2 ^ 32) × (Few moves from)) }
-    ensures { PassedTo s table.now piece.now start from moves result }
+    ensures { PassedTo table.now.states table.now.numbers.now piece.now start from moves result }
 {
     let mut came = Came {
         at: from,
@@ -104,10 +108,10 @@ pub fn pass(
         moves,
     };
     for i in from..piece.len() {
-        let Some(to) = quick(table, s, row, came.state, piece[i]) else {
+        let Some(to) = quick(table, row, came.state, piece[i]) else {
             break;
         };
-        if vector_of(table, to.state) != 0 {
+        if table.vector(to.state) != 0 {
             break;
         }
         came = Came {

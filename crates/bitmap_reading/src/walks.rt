@@ -1,11 +1,11 @@
 // The loop over a piece. Quiet bytes are passed over, but only after a byte without a match, so that input full of matches is no slower.
-ghost use Rattle.std.specs.Prelude.{◌≡◌, ◌+◌, ◌*◌, ◌/◌, ◌<◌, ◌≤◌, ◌^◌, length};
+ghost use Rattle.std.specs.Prelude.{◌≡◌, ◌+◌, ◌/◌, ◌<◌, ◌^◌, length};
 ghost use Rattle.bitmap_reading.specs.Reading.{read_map};
 ghost use Rattle.bitmap_reading.specs.Walks.{WalkedMap};
 
 use crate::Standing;
 use crate::rows::{pass, row_for};
-use bitmap::steps::{next_state, vector_of};
+use crate::tables::MapTable;
 use matching::Stop;
 use reading::records::put_all;
 use reading::went::Went;
@@ -24,28 +24,27 @@ fn standing(q: usize, moves: usize) -> Standing
 }
 
 pub fn on_bitmap(
-    table: &[u16],
-    s: usize,
+    table: &MapTable,
     start: usize,
     count: u32,
     piece: &[u8],
     list: &mut [u32],
 ) -> Went<Standing>
-    requires { (s * 19 ≤ length table.now) × ((s ≤ 513) × ((start < s) × (count + length piece.now < 2 ^ 32))) }
-    ensures { WalkedMap s result list.old list.new
-        (read_map s table.now start count (length list.old / 2) piece.now) }
+    requires { (start < table.now.states) × (count + length piece.now < 2 ^ 32) }
+    ensures { WalkedMap table.now.states result list.old list.new
+        (read_map table.now.states table.now.numbers.now start count (length list.old / 2) piece.now) }
 {
-    let row = row_for(table, s, LONG <= piece.len());
+    let row = row_for(table, LONG <= piece.len());
     let mut q = start;
     let mut w: usize = 0;
     let mut i: usize = 0;
     let mut moves: usize = 0;
     // A while, since a turn may pass over many bytes: a for's step is 1.
     while i < piece.len() {
-        let Some(to) = next_state(table, s, q, piece[i]) else {
+        let Some(to) = table.next(q, piece[i]) else {
             return Went::stopped(i, standing(q, moves), w, Stop::Damaged);
         };
-        let hits = vector_of(table, to.state);
+        let hits = table.vector(to.state);
         let Some(x) = put_all(list, w, count + (i as u32) + 1, hits) else {
             return Went::stopped(i, standing(q, moves), w, Stop::Full);
         };
@@ -57,7 +56,7 @@ pub fn on_bitmap(
         if hits == 0
             && let Some(row) = &row
         {
-            let p = pass(table, s, row, q, moves, piece, i);
+            let p = pass(table, row, q, moves, piece, i);
             q = p.state;
             i = p.at;
             moves = p.moves;

@@ -14,25 +14,25 @@ returns-in-Err c =
     let a = c.args in
     -- the verdict by what is refused
     let verdict = rw (c.from-start.ensures, c.too_long-long.ensures) at c.judge.ensures in
-    let m = c.map_slots-s in
+    let m = c.map_slots-states in
     rw (map-refused a.table.now a.place a.count a.piece.now (length a.list.now) m.result m.ensures
     c.in-Err.why (sym (ap verdict_number c.in-Err.is) ∙ verdict)) (c.refused.ensures, refl)
 
 pub on_bitmap-r-requires : goal.on_bitmap-r-requires
 on_bitmap-r-requires c =
     let a = c.args in
-    let m = c.map_slots-s in
+    let m = c.map_slots-states in
     let verdict = rw (c.from-start.ensures, c.too_long-long.ensures) at c.judge.ensures in
     -- where it is to go, the state is below s and the count has room
     let g = first-none _ _ (sym (ap verdict_number c.in_default.is) ∙ verdict) in
     let l = ltb-false 4294967295 (a.count + length a.piece.now) g.1 in
     let b = ltb-true a.place m.result g.0 in
-    (omega (arith, m.ensures), (omega (arith, m.ensures), (omega (arith, c.from-start.ensures, b), omega (arith, l))))
+    (omega (arith, c.from-start.ensures, b), omega (arith, l))
 
 pub returns : goal.returns
 returns c =
     let a = c.args in
-    let m = c.map_slots-s in
+    let m = c.map_slots-states in
     let w = c.from-start in
     let o = c.on_bitmap-r in
     let verdict = rw (c.from-start.ensures, c.too_long-long.ensures) at c.judge.ensures in

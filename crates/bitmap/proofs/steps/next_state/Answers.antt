@@ -5,33 +5,25 @@ use Rattle.bitmap.proofs.steps.next_state.Goals as goal
 
 pub returns-then-at-eq0 : goal.returns-then-at-eq0
 returns-then-at-eq0 c =
-    let l = c.loop-s in
-    followed_stay _ _ _ _ l.at l.moves l.invariant
-    (sym c.in_map.ensures ∙ c.loop-s-test.true) c.if-at-eq0.true
+    let l = c.fails in
+    followed_stay _ _ _ _ l.at l.moves l.invariant (sym c.has.ensures ∙ c.if-has.false) c.if-at-eq0.true
 
 pub returns-then-at-f : goal.returns-then-at-f
 returns-then-at-f c =
-    let l = c.loop-s in
-    followed_bad _ _ _ _ l.at l.moves l.invariant
-    (sym c.in_map.ensures ∙ c.loop-s-test.true) c.if-at-eq0.false _ c.fail_of-f.ensures
-    c.if-at-f.true
+    let l = c.fails in
+    followed_bad _ _ _ _ l.at l.moves l.invariant (sym c.has.ensures ∙ c.if-has.false) c.if-at-eq0.false _ c.fail-f.ensures c.if-at-f.true
 
-pub loop-s-preserved : goal.loop-s-preserved
-loop-s-preserved c =
-    let l = c.loop-s in
-    followed-on _ _ _ _ l.at l.moves l.invariant
-    (sym c.in_map.ensures ∙ c.loop-s-test.true) c.if-at-eq0.false _ c.fail_of-f.ensures c.if-at-f.false
+pub fails-preserved : goal.fails-preserved
+fails-preserved c =
+    let l = c.fails in
+    followed-on _ _ _ _ l.at l.moves l.invariant (sym c.has.ensures ∙ c.if-has.false) c.if-at-eq0.false _ c.fail-f.ensures c.if-at-f.false
 
 pub returns-then-s-n : goal.returns-then-s-n
 returns-then-s-n c =
-    let l = c.loop-s in
-    followed_far _ _ _ _ l.at l.moves l.invariant
-    (sym c.in_map.ensures ∙ c.loop-s-test.false) _
-    c.child_of-n.ensures c.if-s-n.true
+    let l = c.fails in
+    followed_far _ _ _ _ l.at l.moves l.invariant (sym c.has.ensures ∙ c.if-has.true) _ c.child-n.ensures c.if-s-n.true
 
-pub returns : goal.returns
-returns c =
-    let l = c.loop-s in
-    followed-there _ _ _ _ l.at l.moves l.invariant
-    (sym c.in_map.ensures ∙ c.loop-s-test.false) _
-    c.child_of-n.ensures c.if-s-n.false
+pub returns-then-has : goal.returns-then-has
+returns-then-has c =
+    let l = c.fails in
+    followed-there _ _ _ _ l.at l.moves l.invariant (sym c.has.ensures ∙ c.if-has.true) _ c.child-n.ensures c.if-s-n.false

@@ -2,8 +2,8 @@
 use Rattle.bitmap.specs.Laws.Loops.{Followed}
 use Rattle.bitmap.proofs.steps.next_state.Given as goal
 
-abbrev pub invariant-loop-s : goal.invariant-loop-s
-invariant-loop-s l = Followed l.s l.table l.q l.c l.at l.moves
+abbrev pub invariant-fails : goal.invariant-fails
+invariant-fails l = Followed l.s l.table l.q l.c l.at l.moves
 
-abbrev pub decreases-loop-s : goal.decreases-loop-s
-decreases-loop-s l = l.at
+abbrev pub decreases-fails : goal.decreases-fails
+decreases-fails l = l.at

@@ -5,8 +5,8 @@ use Rattle.bitmap_growing.proofs.settling.inherited.Goals as goal
 
 pub returns-then-q-eq0 : goal.returns-then-q-eq0
 returns-then-q-eq0 c =
-    let a = c.args in inherits-none a.q a.table.now a.f c.if-q-eq0.true
+    let slot = c.args.fails.now in inherits-none c.args.q slot.table.now slot.state c.if-q-eq0.true
 
-pub returns : goal.returns
-returns c =
-    let a = c.args in c.vector_of.ensures ∙ inherits-some a.q a.table.now a.f c.if-q-eq0.false
+pub returns-else-q-eq0 : goal.returns-else-q-eq0
+returns-else-q-eq0 c =
+    let slot = c.args.fails.now in c.vector.ensures ∙ inherits-some c.args.q slot.table.now slot.state c.if-q-eq0.false

@@ -3,4 +3,4 @@ use Rattle.bitmap_maps.specs.Laws.Counting.{Summed}
 use Rattle.bitmap_maps.proofs.counting.children.Given as goal
 
 abbrev pub invariant-loop-j : goal.invariant-loop-j
-invariant-loop-j l = Summed l.table l.q l.sum l.j
+invariant-loop-j l = Summed l.slot.table.now l.slot.state l.sum l.j

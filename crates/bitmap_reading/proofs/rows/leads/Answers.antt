@@ -7,11 +7,11 @@ use Rattle.bitmap_reading.proofs.rows.leads.Goals as goal
 pub overflow_cast-result : goal.overflow_cast-result
 overflow_cast-result c =
     let fine =
-    sound c.args.s c.args.table.now 0 c.args.c _ _ c.requires.1.0 c.in_ok-to.ensures
+    sound c.args.table.now.states c.args.table.now.numbers.now 0 c.args.c _ _ c.requires c.in_ok-to.ensures
     in
-    omega (arith, fine.0, c.requires.1.1)
+    omega (arith, fine.0, c.args.table.now.few)
 
 pub returns : goal.returns
 returns c =
-    leads_to c.args.s c.args.table.now c.args.c _ _ c.requires.1.0
+    leads_to c.args.table.now.states c.args.table.now.numbers.now c.args.c _ _ c.requires
     c.in_ok-to.ensures

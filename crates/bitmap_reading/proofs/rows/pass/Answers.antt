@@ -8,30 +8,30 @@ use Rattle.bitmap_reading.proofs.rows.pass.Goals as goal
 pub loop-i-init : goal.loop-i-init
 loop-i-init c = (
   refl,
-  passed_start c.args.s c.args.table.now c.args.piece.now c.args.start c.args.from c.args.moves c.requires.s_in_bounds.1.0 c.requires.from_in_bounds.0
+  passed_start c.args.table.now.states c.args.table.now.numbers.now c.args.piece.now c.args.start c.args.from c.args.moves c.requires.s_in_bounds.0 c.requires.from_in_bounds.0
       c.requires.from_in_bounds.1.1,
 )
 
-pub vector_of-requires : goal.vector_of-requires
-vector_of-requires c =
+pub vector-requires : goal.vector-requires
+vector-requires c =
     -- the state that the byte leads to, by how many moves
-    let fine = sound c.args.s c.args.table.now c.loop-i.came.state _ _ _ c.loop-i.invariant.1.below (sym (c.quick.ensures c.in-Some.to.state c.in-Some.to.moves c.in-Some.is)) in
-    omega (arith, fine.0, c.requires.s_in_bounds.0)
+    let fine = sound c.args.table.now.states c.args.table.now.numbers.now c.loop-i.came.state _ _ _ c.loop-i.invariant.1.below (sym (c.quick.ensures c.in-Some.to.state c.in-Some.to.moves c.in-Some.is)) in
+    fine.0
 
 pub overflow_add-came-in-loop-i : goal.overflow_add-came-in-loop-i
 overflow_add-came-in-loop-i c =
     -- the state that the byte leads to, by how many moves
-    let fine = sound c.args.s c.args.table.now c.loop-i.came.state _ _ _ c.loop-i.invariant.1.below (sym (c.quick.ensures c.in-Some.to.state c.in-Some.to.moves c.in-Some.is)) in
+    let fine = sound c.args.table.now.states c.args.table.now.numbers.now c.loop-i.came.state _ _ _ c.loop-i.invariant.1.below (sym (c.quick.ensures c.in-Some.to.state c.in-Some.to.moves c.in-Some.is)) in
     let l = c.loop-i in
     let p = l.invariant.1 in
-    omega (arith, fine.1, p.few, p.below, p.quiet.most, c.requires.s_in_bounds.1.1.0, c.requires.from_in_bounds.1.0)
+    omega (arith, fine.1, p.few, p.below, p.quiet.most, c.args.table.now.few, c.requires.from_in_bounds.1.0)
 
 pub loop-i-preserved : goal.loop-i-preserved
 loop-i-preserved c =
     let a = c.args in
     let l = c.loop-i in (
       refl,
-      passed-more a.s a.table.now a.piece.now a.start a.from a.moves l.i l.came.state l.came.moves (rw l.invariant.0 at l.invariant.1) (omega arith) c.requires.s_in_bounds.1.1.0 _ _
+      passed-more a.table.now.states a.table.now.numbers.now a.piece.now a.start a.from a.moves l.i l.came.state l.came.moves (rw l.invariant.0 at l.invariant.1) (omega arith) c.args.table.now.few _ _
           (c.quick.ensures c.in-Some.to.state c.in-Some.to.moves c.in-Some.is)
-          (sym c.vector_of.ensures ∙ c.if-vector_of-ne0.false),
+          (sym c.vector.ensures ∙ c.if-vector-ne0.false),
     )

@@ -8,30 +8,30 @@ use Rattle.bitmap_reading.proofs.walks.on_bitmap.Goals as goal
 pub loop-i-init : goal.loop-i-init
 loop-i-init c =
     let a = c.args in
-    map_begin a.s a.table.now a.count a.piece.now a.list.now a.start c.requires.1.1.0
+    map_begin a.table.now.states a.table.now.numbers.now a.count a.piece.now a.list.now a.start c.requires.0
 
 pub returns-in_default : goal.returns-in_default
 returns-in_default c =
     let a = c.args in
     let l = c.loop-i in
-    map_damaged a.s a.table.now a.count a.piece.now a.list.now a.start l.list l.q l.w l.i l.moves l.invariant
-    c.loop-i-test.true (sym c.next_state.ensures ∙ c.in_default.is) _
+    map_damaged a.table.now.states a.table.now.numbers.now a.count a.piece.now a.list.now a.start l.list l.q l.w l.i l.moves l.invariant
+    c.loop-i-test.true (sym c.next.ensures ∙ c.in_default.is) _
     (rw c.standing.ensures at c.stopped.ensures)
 
-pub vector_of-hits-requires : goal.vector_of-hits-requires
-vector_of-hits-requires c =
+pub vector-hits-requires : goal.vector-hits-requires
+vector-hits-requires c =
     let l = c.loop-i in
     let fine =
-    sound c.args.s c.args.table.now l.q _ _ _ l.invariant.below (sym c.in-Some.is ∙ c.next_state.ensures) in
-    omega (arith, fine.0, c.requires.0)
+    sound c.args.table.now.states c.args.table.now.numbers.now l.q _ _ _ l.invariant.below (sym c.in-Some.is ∙ c.next.ensures) in
+    fine.0
 
 pub returns-in_default-put_all : goal.returns-in_default-put_all
 returns-in_default-put_all c =
     let a = c.args in
     let l = c.loop-i in
-    map-full a.s a.table.now a.count a.piece.now a.list.now a.start l.list l.q l.w l.i l.moves l.invariant
+    map-full a.table.now.states a.table.now.numbers.now a.count a.piece.now a.list.now a.start l.list l.q l.w l.i l.moves l.invariant
     c.loop-i-test.true _ _
-    (sym c.next_state.ensures ∙ c.in-Some.is) c.vector_of-hits.result c.vector_of-hits.ensures
+    (sym c.next.ensures ∙ c.in-Some.is) c.vector-hits.result c.vector-hits.ensures
     (sym c.in_default-put_all.is ∙ c.put_all.ensures.0)
     c.put_all.new.list c.put_all.ensures.1 _
     (rw c.standing-in_default-put_all.ensures at c.stopped-in_default-put_all.ensures)
@@ -40,45 +40,45 @@ pub overflow_add-moves : goal.overflow_add-moves
 overflow_add-moves c =
     let l = c.loop-i in
     let fine =
-    sound c.args.s c.args.table.now l.q _ _ _ l.invariant.below
-    (sym c.in-Some.is ∙ c.next_state.ensures) in
-    omega (arith, fine.1, l.invariant.few, l.invariant.below, l.invariant.going.most, c.requires.1.0, c.requires.1.1.1)
+    sound c.args.table.now.states c.args.table.now.numbers.now l.q _ _ _ l.invariant.below
+    (sym c.in-Some.is ∙ c.next.ensures) in
+    omega (arith, fine.1, l.invariant.few, l.invariant.below, l.invariant.going.most, c.args.table.now.few, c.requires.1)
 
 pub pass-p-requires : goal.pass-p-requires
 pass-p-requires c =
     -- the byte is taken, and its records written
     let taken =
-    map-took c.args.s c.args.table.now c.args.count c.args.piece.now c.args.list.now c.args.start c.loop-i.list c.loop-i.q c.loop-i.w
-    c.loop-i.i c.loop-i.moves c.loop-i.invariant c.loop-i-test.true _ _ (sym c.next_state.ensures ∙ c.in-Some.is)
-    c.vector_of-hits.result c.vector_of-hits.ensures c.requires.1.0 _ (sym c.in-Some-put_all.is ∙ c.put_all.ensures.0) _ c.put_all.ensures.1 in
+    map-took c.args.table.now.states c.args.table.now.numbers.now c.args.count c.args.piece.now c.args.list.now c.args.start c.loop-i.list c.loop-i.q c.loop-i.w
+    c.loop-i.i c.loop-i.moves c.loop-i.invariant c.loop-i-test.true _ _ (sym c.next.ensures ∙ c.in-Some.is)
+    c.vector-hits.result c.vector-hits.ensures c.args.table.now.few _ (sym c.in-Some-put_all.is ∙ c.put_all.ensures.0) _ c.put_all.ensures.1 in
     record {
-      s_in_bounds = (c.requires.0, (taken.below, (c.requires.1.0, rw c.in-Some-row.is at c.row_for-row.ensures)));
-      from_in_bounds = (taken.going.most, (omega (arith, c.requires.1.1.1), taken.few));
+      s_in_bounds = (taken.below, rw c.in-Some-row.is at c.row_for-row.ensures);
+      from_in_bounds = (taken.going.most, (omega (arith, c.requires.1), taken.few));
     }
 
 pub loop-i-preserved-in-loop-i : goal.loop-i-preserved-in-loop-i
 loop-i-preserved-in-loop-i c =
     -- the byte is taken, and its records written
     let taken =
-    map-took c.args.s c.args.table.now c.args.count c.args.piece.now c.args.list.now c.args.start c.loop-i.list c.loop-i.q c.loop-i.w
-    c.loop-i.i c.loop-i.moves c.loop-i.invariant c.loop-i-test.true _ _ (sym c.next_state.ensures ∙ c.in-Some.is)
-    c.vector_of-hits.result c.vector_of-hits.ensures c.requires.1.0 _ (sym c.in-Some-put_all.is ∙ c.put_all.ensures.0) _ c.put_all.ensures.1 in
+    map-took c.args.table.now.states c.args.table.now.numbers.now c.args.count c.args.piece.now c.args.list.now c.args.start c.loop-i.list c.loop-i.q c.loop-i.w
+    c.loop-i.i c.loop-i.moves c.loop-i.invariant c.loop-i-test.true _ _ (sym c.next.ensures ∙ c.in-Some.is)
+    c.vector-hits.result c.vector-hits.ensures c.args.table.now.few _ (sym c.in-Some-put_all.is ∙ c.put_all.ensures.0) _ c.put_all.ensures.1 in
     let a = c.args in
-    map-pass a.s a.table.now a.count a.piece.now a.list.now a.start _ _ _ _ _ taken
+    map-pass a.table.now.states a.table.now.numbers.now a.count a.piece.now a.list.now a.start _ _ _ _ _ taken
     c.pass-p.result c.pass-p.ensures
 
 pub loop-i-preserved : goal.loop-i-preserved
 loop-i-preserved c =
     -- the byte is taken, and its records written
     let taken =
-    map-took c.args.s c.args.table.now c.args.count c.args.piece.now c.args.list.now c.args.start c.loop-i.list c.loop-i.q c.loop-i.w
-    c.loop-i.i c.loop-i.moves c.loop-i.invariant c.loop-i-test.true _ _ (sym c.next_state.ensures ∙ c.in-Some.is)
-    c.vector_of-hits.result c.vector_of-hits.ensures c.requires.1.0 _ (sym c.in-Some-put_all.is ∙ c.put_all.ensures.0) _ c.put_all.ensures.1 in
+    map-took c.args.table.now.states c.args.table.now.numbers.now c.args.count c.args.piece.now c.args.list.now c.args.start c.loop-i.list c.loop-i.q c.loop-i.w
+    c.loop-i.i c.loop-i.moves c.loop-i.invariant c.loop-i-test.true _ _ (sym c.next.ensures ∙ c.in-Some.is)
+    c.vector-hits.result c.vector-hits.ensures c.args.table.now.few _ (sym c.in-Some-put_all.is ∙ c.put_all.ensures.0) _ c.put_all.ensures.1 in
     taken
 
 pub returns : goal.returns
 returns c =
     let a = c.args in
     let l = c.loop-i in
-    map-all a.s a.table.now a.count a.piece.now a.list.now a.start l.list l.q l.w l.i l.moves l.invariant
+    map-all a.table.now.states a.table.now.numbers.now a.count a.piece.now a.list.now a.start l.list l.q l.w l.i l.moves l.invariant
     c.loop-i-test.false _ (rw c.standing-2.ensures at c.stopped-2.ensures)

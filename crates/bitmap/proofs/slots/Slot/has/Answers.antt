@@ -1,7 +1,7 @@
 -- By its bit.
 use mathlib.Core.Path.{refl}
 use Rattle.bitmap.specs.Steps.{in_map}
-use Rattle.bitmap.proofs.steps.in_map.Goals as goal
+use Rattle.bitmap.proofs.slots.Slot.has.Goals as goal
 
 pub returns : goal.returns
 unfolding in_map

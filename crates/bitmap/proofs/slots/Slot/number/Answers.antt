@@ -1,7 +1,7 @@
 -- A number of a slot.
 use borrow.Author.Rules.{rules}
 use Rattle.bitmap.specs.Steps.{number_at}
-use Rattle.bitmap.proofs.steps.number.Goals as goal
+use Rattle.bitmap.proofs.slots.Slot.number.Goals as goal
 
 pub returns : goal.returns
 unfolding number_at
