@@ -1,233 +1,229 @@
-// The answers of a replay script as text, put into the buffer of standard output. Each says how many bytes wait then.
-#![tactic(auto)]
+// The answers of a replay script as text, put into the buffer of standard output.
+#![tactic(auto, using(output::specs::Laws::Waiting::put_append), unfolding(output::specs::Buffer::put_bytes))]
 
 mod show;
 mod texts;
 
 ghost use Rattle.std.specs.Prelude.{◌∷◌, [], ◌++◌};
-ghost use Rattle.output.specs.Buffer.{buffer, Puts};
+ghost use Rattle.output.specs.Buffer.{Puts};
 ghost use Rattle.answers.specs.Answers.{listed, ended, stop_word, fed_part, held_part, state_part, record_line};
 ghost use Rattle.answers.specs.Answers.{replace_line, open_line, feed_line, close_line, state_line, take_line, built_line, numbers_line};
 ghost use Rattle.answers.specs.Answers.{records_part, place_part, stopped_lines, moved_lines, read_lines, map_lines};
 
 use desk::{CloseAnswer, Edition, FeedAnswer, OpenAnswer, ReplaceAnswer, StateAnswer, TakeAnswer};
 use numbers::Answer;
-use output::{put_line_end, put_words};
+use output::Buffer;
 use reading::Ending;
 pub use show::shown;
 use tables::BuildFault;
 pub use texts::{not_a_call, word_line};
 use texts::{put_blank_number, put_numbered, put_numbers, refused};
 
-pub fn replaced(out: &mut [u8; 65536], used: usize, answer: ReplaceAnswer) -> usize
-    ensures { Puts (buffer out.old used) (replace_line answer) (buffer out.new result) }
+pub fn replaced(out: &mut Buffer, answer: ReplaceAnswer)
+    ensures { Puts out.old (replace_line answer) out.new }
 {
     let said = numbers::of_replace(answer);
     let given = said.answer;
     if given.refusal > 0 {
-        return refused(out, used, said);
+        return refused(out, said);
     }
-    let n = put_numbered(out, used, b"edition ", given.a);
-    let n = put_numbered(out, n, b" tags ", given.b);
-    put_line_end(out, n)
+    put_numbered(out, b"edition ", given.a);
+    put_numbered(out, b" tags ", given.b);
+    out.put_line_end();
 }
 
-pub fn opened(out: &mut [u8; 65536], used: usize, answer: OpenAnswer) -> usize
-    ensures { Puts (buffer out.old used) (open_line answer) (buffer out.new result) }
+pub fn opened(out: &mut Buffer, answer: OpenAnswer)
+    ensures { Puts out.old (open_line answer) out.new }
 {
     let said = numbers::of_open(answer);
     let given = said.answer;
     if given.refusal > 0 {
-        return refused(out, used, said);
+        return refused(out, said);
     }
-    word_line(out, used, b"serial ", given.a)
+    word_line(out, b"serial ", given.a);
 }
 
-fn put_stop(out: &mut [u8; 65536], used: usize, stop: u64) -> usize
-    ensures { Puts (buffer out.old used) (stop_word stop) (buffer out.new result) }
+#[tactic(auto, using(crate::specs::Laws::Said::stop_damaged), unfolding(crate::specs::Answers::stop_word))]
+fn put_stop(out: &mut Buffer, stop: u64)
+    ensures { Puts out.old (stop_word stop) out.new }
 {
     if stop == 0 {
-        return put_words(out, used, b" stop ALL");
+        return out.put_words(b" stop ALL");
     }
     if stop == 1 {
-        return put_words(out, used, b" stop FULL");
+        return out.put_words(b" stop FULL");
     }
-    put_words(out, used, b" stop DAMAGED")
+    out.put_words(b" stop DAMAGED");
 }
 
-fn put_fed(out: &mut [u8; 65536], used: usize, given: Answer) -> usize
-    ensures { Puts (buffer out.old used) (fed_part given) (buffer out.new result) }
+fn put_fed(out: &mut Buffer, given: Answer)
+    ensures { Puts out.old (fed_part given) out.new }
 {
-    let n = put_numbered(out, used, b"taken ", given.a);
-    put_stop(out, n, given.b)
+    put_numbered(out, b"taken ", given.a);
+    put_stop(out, given.b);
 }
 
-pub fn fed(out: &mut [u8; 65536], used: usize, answer: FeedAnswer) -> usize
-    ensures { Puts (buffer out.old used) (feed_line answer) (buffer out.new result) }
+pub fn fed(out: &mut Buffer, answer: FeedAnswer)
+    ensures { Puts out.old (feed_line answer) out.new }
 {
     let said = numbers::of_feed(answer);
     let given = said.answer;
     if given.refusal > 0 {
-        return refused(out, used, said);
+        return refused(out, said);
     }
-    let n = put_fed(out, used, given);
-    put_line_end(out, n)
+    put_fed(out, given);
+    out.put_line_end();
 }
 
-pub fn closed(out: &mut [u8; 65536], used: usize, serial: u32, answer: CloseAnswer) -> usize
-    ensures { Puts (buffer out.old used) (close_line serial answer) (buffer out.new result) }
+pub fn closed(out: &mut Buffer, serial: u32, answer: CloseAnswer)
+    ensures { Puts out.old (close_line serial answer) out.new }
 {
     let said = numbers::of_close(answer);
     if said.answer.refusal > 0 {
-        return refused(out, used, said);
+        return refused(out, said);
     }
-    word_line(out, used, b"closed ", serial as u64)
+    word_line(out, b"closed ", serial as u64);
 }
 
-fn put_held(out: &mut [u8; 65536], used: usize, words: &[u8], edition: Edition, count: u32) -> usize
-    ensures { Puts (buffer out.old used) (held_part words.now edition count) (buffer out.new result) }
+fn put_held(out: &mut Buffer, words: &[u8], edition: Edition, count: u32)
+    ensures { Puts out.old (held_part words.now edition count) out.new }
 {
-    let n = put_numbered(out, used, words, edition.0 as u64);
-    let n = put_blank_number(out, n, count as u64);
-    put_line_end(out, n)
+    put_numbered(out, words, edition.0 as u64);
+    put_blank_number(out, count as u64);
+    out.put_line_end();
 }
 
-fn put_state(out: &mut [u8; 65536], used: usize, answer: StateAnswer) -> usize
-    ensures { Puts (buffer out.old used) (state_part answer) (buffer out.new result) }
+fn put_state(out: &mut Buffer, answer: StateAnswer)
+    ensures { Puts out.old (state_part answer) out.new }
 {
     match answer {
-        StateAnswer::Never => put_words(out, used, b" never\n"),
-        StateAnswer::Closed => put_words(out, used, b" closed\n"),
-        StateAnswer::Stale(edition, count) => put_held(out, used, b" stale ", edition, count),
-        StateAnswer::Open(edition, count) => put_held(out, used, b" open ", edition, count),
+        StateAnswer::Never => out.put_words(b" never\n"),
+        StateAnswer::Closed => out.put_words(b" closed\n"),
+        StateAnswer::Stale(edition, count) => put_held(out, b" stale ", edition, count),
+        StateAnswer::Open(edition, count) => put_held(out, b" open ", edition, count),
     }
 }
 
-pub fn told(out: &mut [u8; 65536], used: usize, serial: u32, answer: StateAnswer) -> usize
-    ensures { Puts (buffer out.old used) (state_line serial answer) (buffer out.new result) }
+pub fn told(out: &mut Buffer, serial: u32, answer: StateAnswer)
+    ensures { Puts out.old (state_line serial answer) out.new }
 {
-    let n = put_numbered(out, used, b"state ", serial as u64);
-    put_state(out, n, answer)
+    put_numbered(out, b"state ", serial as u64);
+    put_state(out, answer);
 }
 
-fn record_line(out: &mut [u8; 65536], used: usize, given: Answer) -> usize
-    ensures { Puts (buffer out.old used) (record_line given) (buffer out.new result) }
+fn record_line(out: &mut Buffer, given: Answer)
+    ensures { Puts out.old (record_line given) out.new }
 {
-    let n = put_numbered(out, used, b"record ", given.a);
-    let n = put_blank_number(out, n, given.b);
-    let n = put_blank_number(out, n, given.c);
-    let n = put_blank_number(out, n, given.d);
-    put_line_end(out, n)
+    put_numbered(out, b"record ", given.a);
+    put_blank_number(out, given.b);
+    put_blank_number(out, given.c);
+    put_blank_number(out, given.d);
+    out.put_line_end();
 }
 
-pub fn taken(out: &mut [u8; 65536], used: usize, answer: TakeAnswer) -> usize
-    ensures { Puts (buffer out.old used) (take_line answer) (buffer out.new result) }
+pub fn taken(out: &mut Buffer, answer: TakeAnswer)
+    ensures { Puts out.old (take_line answer) out.new }
 {
     let said = numbers::of_take(answer);
     let given = said.answer;
     if given.refusal > 0 {
-        return refused(out, used, said);
+        return refused(out, said);
     }
-    record_line(out, used, given)
+    record_line(out, given);
 }
 
-pub fn built_line(out: &mut [u8; 65536], used: usize, answer: Result<usize, BuildFault>) -> usize
-    ensures { Puts (buffer out.old used) (built_line answer) (buffer out.new result) }
+pub fn built_line(out: &mut Buffer, answer: Result<usize, BuildFault>)
+    ensures { Puts out.old (built_line answer) out.new }
 {
     let said = numbers::of_built(answer);
     let given = said.answer;
     if given.refusal > 0 {
-        return refused(out, used, said);
+        return refused(out, said);
     }
-    word_line(out, used, b"tags ", given.a)
+    word_line(out, b"tags ", given.a);
 }
 
-pub fn numbers_line(out: &mut [u8; 65536], used: usize, numbers: &[u16]) -> usize
-    ensures { Puts (buffer out.old used) (numbers_line numbers.now) (buffer out.new result) }
+pub fn numbers_line(out: &mut Buffer, numbers: &[u16])
+    ensures { Puts out.old (numbers_line numbers.now) out.new }
 {
-    let n = put_words(out, used, b"numbers");
-    let n = put_numbers(out, n, numbers);
-    put_line_end(out, n)
+    out.put_words(b"numbers");
+    put_numbers(out, numbers);
+    out.put_line_end();
 }
 
-fn put_list(out: &mut [u8; 65536], used: usize, list: &[u32]) -> usize
-    ensures { Puts (buffer out.old used)
-        (ended ((108 ∷ 105 ∷ 115 ∷ 116 ∷ []) ++ listed [] list.now)) (buffer out.new result) }
+fn put_list(out: &mut Buffer, list: &[u32])
+    ensures { Puts out.old (ended ((108 ∷ 105 ∷ 115 ∷ 116 ∷ []) ++ listed [] list.now)) out.new }
 {
-    let n = put_words(out, used, b"list");
-    let n = texts::put_wide_numbers(out, n, list);
-    put_line_end(out, n)
+    out.put_words(b"list");
+    texts::put_wide_numbers(out, list);
+    out.put_line_end();
 }
 
-fn put_read(out: &mut [u8; 65536], used: usize, given: Answer) -> usize
-    ensures { Puts (buffer out.old used) (records_part given) (buffer out.new result) }
+fn put_read(out: &mut Buffer, given: Answer)
+    ensures { Puts out.old (records_part given) out.new }
 {
-    let n = put_fed(out, used, given);
-    put_numbered(out, n, b" records ", given.c)
+    put_fed(out, given);
+    put_numbered(out, b" records ", given.c);
 }
 
-fn put_place(out: &mut [u8; 65536], used: usize, place: &[u16], list: &[u32]) -> usize
-    ensures { Puts (buffer out.old used) (place_part place.now list.now) (buffer out.new result) }
+fn put_place(out: &mut Buffer, place: &[u16], list: &[u32])
+    ensures { Puts out.old (place_part place.now list.now) out.new }
 {
-    let n = put_words(out, used, b" place");
-    let n = put_numbers(out, n, place);
-    let n = put_line_end(out, n);
-    put_list(out, n, list)
+    out.put_words(b" place");
+    put_numbers(out, place);
+    out.put_line_end();
+    put_list(out, list);
 }
 
-fn stopped(out: &mut [u8; 65536], used: usize, given: Answer, place: &[u16], list: &[u32]) -> usize
-    ensures { Puts (buffer out.old used) (stopped_lines place.now list.now given) (buffer out.new result) }
+fn stopped(out: &mut Buffer, given: Answer, place: &[u16], list: &[u32])
+    ensures { Puts out.old (stopped_lines place.now list.now given) out.new }
 {
-    let n = put_read(out, used, given);
-    put_place(out, n, place, list)
+    put_read(out, given);
+    put_place(out, place, list);
 }
 
 pub fn read_lines(
-    out: &mut [u8; 65536],
-    used: usize,
+    out: &mut Buffer,
     taken: usize,
     ending: Ending,
     records: usize,
     place: &[u16],
     list: &[u32],
-) -> usize
-    ensures { Puts (buffer out.old used)
-        (read_lines taken ending records place.now list.now) (buffer out.new result) }
+)
+    ensures { Puts out.old (read_lines taken ending records place.now list.now) out.new }
 {
     let said = numbers::of_read(taken, records, ending);
     let given = said.answer;
     if given.refusal > 0 {
-        return refused(out, used, said);
+        return refused(out, said);
     }
-    stopped(out, used, given, place, list)
+    stopped(out, given, place, list);
 }
 
-fn moved(out: &mut [u8; 65536], used: usize, given: Answer, place: &[u16], list: &[u32]) -> usize
-    ensures { Puts (buffer out.old used) (moved_lines place.now list.now given) (buffer out.new result) }
+fn moved(out: &mut Buffer, given: Answer, place: &[u16], list: &[u32])
+    ensures { Puts out.old (moved_lines place.now list.now given) out.new }
 {
-    let n = put_read(out, used, given);
-    let n = put_numbered(out, n, b" moves ", given.d);
-    put_place(out, n, place, list)
+    put_read(out, given);
+    put_numbered(out, b" moves ", given.d);
+    put_place(out, place, list);
 }
 
 // The same over a bitmap table, with the failure moves of the bytes taken.
 pub fn map_lines(
-    out: &mut [u8; 65536],
-    used: usize,
+    out: &mut Buffer,
     taken: usize,
     ending: Ending,
     records: usize,
     moves: usize,
     place: &[u16],
     list: &[u32],
-) -> usize
-    ensures { Puts (buffer out.old used)
-        (map_lines taken ending records moves place.now list.now) (buffer out.new result) }
+)
+    ensures { Puts out.old (map_lines taken ending records moves place.now list.now) out.new }
 {
     let said = numbers::of_map_read(taken, records, moves, ending);
     let given = said.answer;
     if given.refusal > 0 {
-        return refused(out, used, said);
+        return refused(out, said);
     }
-    moved(out, used, given, place, list)
+    moved(out, given, place, list);
 }

@@ -7,6 +7,7 @@ ghost use Rattle.desk.specs.Calls.{new_desk};
 ghost use Rattle.desk.specs.Replace.{replace_of, replaced_run};
 
 use desk::{Desk, OpenAnswer, ReplaceAnswer, Replacing, Serial};
+use output::Buffer;
 use std::fs::File;
 use std::io::Read;
 
@@ -75,11 +76,10 @@ fn serial_of(answer: OpenAnswer) -> Serial {
     }
 }
 
-// The desk and the bytes that wait after a piece, and whether there may be more.
+// The desk after a piece, and whether there may be more.
 #[derive(Drop)]
 struct Turn {
     desk: Desk,
-    used: usize,
     more: bool,
 }
 
@@ -90,23 +90,17 @@ fn next_piece(
     serial: Serial,
     first: &[u16; 11496],
     second: &[u16; 11496],
-    out: &mut [u8; 65536],
-    used: usize,
+    out: &mut Buffer,
 ) -> Turn {
     let mut piece = [0u8; 4096];
     let n = read_full(file, &mut piece);
     if n == 0 {
-        return Turn {
-            desk,
-            used,
-            more: false,
-        };
+        return Turn { desk, more: false };
     }
-    let fed = serving::feed_piece(desk, serial, first, second, &piece[..n], out, used);
+    let fed = serving::feed_piece(desk, serial, first, second, &piece[..n], out);
     let next = fed.desk;
     Turn {
         desk: next,
-        used: fed.used,
         more: fed.taken == n,
     }
 }
@@ -126,23 +120,17 @@ fn feed_all(
     serial: Serial,
     first: &[u16; 11496],
     second: &[u16; 11496],
-    out: &mut [u8; 65536],
-    used: usize,
-) -> usize {
+    out: &mut Buffer,
+) {
     let mut now = desk;
-    let mut put = used;
-    let mut turns = u64::MAX;
-    while turns > 0 {
-        let turn = next_piece(file, now, serial, first, second, out, put);
+    for _ in 0..u64::MAX {
+        let turn = next_piece(file, now, serial, first, second, out);
         let next = turn.desk;
         now = next;
-        put = turn.used;
         if !turn.more {
-            return serving::lines::put_taken(out, put, taken_in_all(now));
+            return serving::lines::put_taken(out, taken_in_all(now));
         }
-        turns -= 1;
     }
-    put
 }
 
 // Opens the ticket and feeds it the whole input; nothing where that is missing.
@@ -151,33 +139,33 @@ fn serve(
     desk: Desk,
     first: &[u16; 11496],
     second: &[u16; 11496],
-    out: &mut [u8; 65536],
-    used: usize,
-) -> usize {
+    out: &mut Buffer,
+) {
     let opening = desk.open();
     let opened = opening.desk;
     let answer = opening.answer;
     let serial = serial_of(answer);
     let Ok(mut file) = File::open(rt, "input.bin") else {
-        return serving::lines::put_taken(out, used, taken_in_all(opened));
+        return serving::lines::put_taken(out, taken_in_all(opened));
     };
-    feed_all(&mut file, opened, serial, first, second, out, used)
+    feed_all(&mut file, opened, serial, first, second, out);
 }
 
 fn main(rt: HostRuntime) {
     let mut set = [0u8; 4096];
     let mut first = new_table();
     let mut second = new_table();
-    let mut out = [0u8; 65536];
+    let mut out = Buffer {
+        bytes: [0u8; 65536],
+        used: 0,
+    };
     let n = read_set(&rt, &mut set);
     let replacing = replaced(&set, n, &mut first, &mut second);
     let desk = replacing.desk;
     let answer = replacing.answer;
-    let used = serving::lines::put_answer(&mut out, 0, answer);
-    if !is_replaced(answer) {
-        output::flush(&out, used);
-        return;
+    serving::lines::put_answer(&mut out, answer);
+    if is_replaced(answer) {
+        serve(&rt, desk, &first, &second, &mut out);
     }
-    let end = serve(&rt, desk, &first, &second, &mut out, used);
-    output::flush(&out, end);
+    out.flush();
 }

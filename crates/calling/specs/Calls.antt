@@ -24,7 +24,8 @@ use Rattle.bitmap_tables.specs.Building.{map_built_of, map_table_of}
 use Rattle.matching.specs.Parts.{first_run, split_layout, whole_layout}
 use Rattle.tables.specs.Building.{built_of, tables_of}
 use Rattle.tables.specs.Building.{Built}
-use Rattle.output.specs.Buffer.{Buffer, Puts}
+use Rattle.output.specs.Buffer.{Puts}
+use Rattle.output.specs.declared.Buffer.{Buffer}
 use Rattle.desk.specs.Layout.{Lent, Sizes, by_set, lens_of, lent, lent_from, one_bit, runs_of, sizes, sizes_of}
 
 -- one desk, one set, the numbers of both tables, and how many of the first numbers of each are lent

@@ -21,7 +21,8 @@ use Rattle.calling.specs.Calls.{Held, answered, build_on, built_by, Did, feed_on
 use Rattle.calling.specs.Calls.{tables_by, with_desk}
 use Rattle.calling.specs.declared.State.{State}
 use Rattle.tables.specs.Building.{Built}
-use Rattle.output.specs.Buffer.{Buffer, Puts}
+use Rattle.output.specs.Buffer.{Puts}
+use Rattle.output.specs.declared.Buffer.{Buffer}
 use Rattle.desk.specs.Layout.{Lent, Sizes, by_set, lent, sizes, sizes_of}
 
 -- a text that is known under another name

@@ -1,57 +1,56 @@
 // The set, the numbers of the tables, and lines that are no calls.
 ghost use Rattle.std.specs.Prelude.{List, [], ◌≡◌, ℕ, ◌+◌, ◌≤◌, ◌<◌, length, take, drop};
 ghost use Rattle.desk.specs.Layout.{Lent, lent};
-ghost use Rattle.output.specs.Buffer.{buffer, Puts};
+ghost use Rattle.output.specs.Buffer.{Puts};
 ghost use Rattle.script.specs.Calls.{size_of};
 ghost use Rattle.answers.specs.Answers.{not_acall_line, numbers_line};
 ghost use Rattle.calling.specs.Calls.{answered, held_by, Within, Did, put_at, set_on, lend_on, poke_on, table_at};
 
 use crate::State;
+use output::Buffer;
 use script::Table;
 
-pub fn not_a_call(s: State, n: u64, out: &mut [u8; 65536]) -> State
+pub fn not_a_call(s: State, n: u64, out: &mut Buffer) -> State
     requires { Within s }
-    ensures by_index { (bytes : List ℕ) (tables : Lent) → Did (answered (held_by s bytes tables) (not_acall_line n)) (buffer out.old s.used)
-        (held_by result bytes tables) (buffer out.new result.used) }
+    ensures by_index { (bytes : List ℕ) (tables : Lent) → Did (answered (held_by s bytes tables) (not_acall_line n)) out.old
+        (held_by result bytes tables) out.new }
     ensures within { Within result }
 {
     let desk = s.desk;
-    let used = answers::not_a_call(out, s.used, n);
+    answers::not_a_call(out, n);
     State {
         desk,
         held: s.held,
         first: s.first,
         second: s.second,
-        used,
     }
 }
 
-pub fn set_to(s: State, bytes: &[u8], set: &mut [u8], out: &mut [u8; 65536]) -> State
+pub fn set_to(s: State, bytes: &[u8], set: &mut [u8], out: &mut Buffer) -> State
     requires { (Within s) × (length bytes.now ≤ 4096) × (4096 ≤ length set.old) }
-    ensures did { (tables : Lent) → Did (set_on (held_by s [] tables) bytes.now) (buffer out.old s.used)
-        (held_by result set.new tables) (buffer out.new result.used) }
+    ensures did { (tables : Lent) → Did (set_on (held_by s [] tables) bytes.now) out.old
+        (held_by result set.new tables) out.new }
     ensures within { Within result }
 {
     let desk = s.desk;
     script::put(set, 0, bytes);
-    let used = answers::word_line(out, s.used, b"set ", bytes.len() as u64);
+    answers::word_line(out, b"set ", bytes.len() as u64);
     State {
         desk,
         held: bytes.len(),
         first: s.first,
         second: s.second,
-        used,
     }
 }
 
-pub fn lend(s: State, lent: usize, table: Table, out: &mut [u8; 65536]) -> State
+pub fn lend(s: State, lent: usize, table: Table, out: &mut Buffer) -> State
     requires { (Within s) × (lent ≤ size_of table) }
-    ensures by_index { (bytes : List ℕ) (tables : Lent) → Did (lend_on (held_by s bytes tables) lent table) (buffer out.old s.used)
-        (held_by result bytes tables) (buffer out.new result.used) }
+    ensures by_index { (bytes : List ℕ) (tables : Lent) → Did (lend_on (held_by s bytes tables) lent table) out.old
+        (held_by result bytes tables) out.new }
     ensures within { Within result }
 {
     let desk = s.desk;
-    let used = answers::word_line(out, s.used, b"lent ", lent as u64);
+    answers::word_line(out, b"lent ", lent as u64);
     let (first, second) = match table {
         Table::First => (lent, s.second),
         Table::Second => (s.first, lent),
@@ -61,7 +60,6 @@ pub fn lend(s: State, lent: usize, table: Table, out: &mut [u8; 65536]) -> State
         held: s.held,
         first,
         second,
-        used,
     }
 }
 
@@ -83,22 +81,21 @@ pub fn poke(
     table: Table,
     first: &mut [u16],
     second: &mut [u16],
-    out: &mut [u8; 65536],
+    out: &mut Buffer,
 ) -> State
     requires { (Within s) × (at < size_of table) × (131841 ≤ length first.old) × (16384 ≤ length second.old) }
-    ensures by_index { (bytes : List ℕ) → Did (poke_on (held_by s bytes (lent first.old second.old)) at value table) (buffer out.old s.used)
-        (held_by result bytes (lent first.new second.new)) (buffer out.new result.used) }
+    ensures by_index { (bytes : List ℕ) → Did (poke_on (held_by s bytes (lent first.old second.old)) at value table) out.old
+        (held_by result bytes (lent first.new second.new)) out.new }
     ensures within { Within result }
 {
     let desk = s.desk;
     put_at(first, second, at, value, table);
-    let used = answers::word_line(out, s.used, b"poked ", at as u64);
+    answers::word_line(out, b"poked ", at as u64);
     State {
         desk,
         held: s.held,
         first: s.first,
         second: s.second,
-        used,
     }
 }
 
@@ -109,17 +106,16 @@ fn numbers_at(
     at: usize,
     count: usize,
     table: Table,
-    out: &mut [u8; 65536],
-    used: usize,
-) -> usize
+    out: &mut Buffer,
+)
     requires { (at + count ≤ size_of table) × (131841 ≤ length first.now) × (16384 ≤ length second.now) }
-    ensures { Puts (buffer out.old used) (numbers_line (take count (drop at (table_at (lent first.now second.now) table)))) (buffer out.new result) }
+    ensures { Puts out.old (numbers_line (take count (drop at (table_at (lent first.now second.now) table)))) out.new }
 {
     let numbers = match table {
         Table::First => first,
         Table::Second => second,
     };
-    answers::numbers_line(out, used, &numbers[at..at + count])
+    answers::numbers_line(out, &numbers[at..at + count]);
 }
 
 pub fn peek(
@@ -129,21 +125,20 @@ pub fn peek(
     table: Table,
     first: &[u16],
     second: &[u16],
-    out: &mut [u8; 65536],
+    out: &mut Buffer,
 ) -> State
     requires { (Within s) × (at + count ≤ size_of table) × (131841 ≤ length first.now) × (16384 ≤ length second.now) }
     ensures by_index { (bytes : List ℕ) → Did (answered (held_by s bytes (lent first.now second.now))
-        (numbers_line (take count (drop at (table_at (lent first.now second.now) table))))) (buffer out.old s.used)
-        (held_by result bytes (lent first.now second.now)) (buffer out.new result.used) }
+        (numbers_line (take count (drop at (table_at (lent first.now second.now) table))))) out.old
+        (held_by result bytes (lent first.now second.now)) out.new }
     ensures within { Within result }
 {
     let desk = s.desk;
-    let used = numbers_at(first, second, at, count, table, out, s.used);
+    numbers_at(first, second, at, count, table, out);
     State {
         desk,
         held: s.held,
         first: s.first,
         second: s.second,
-        used,
     }
 }

@@ -1,23 +1,23 @@
 // The calls on the desk.
 ghost use Rattle.std.specs.Prelude.{List, ℕ, ◌≤◌, length};
 ghost use Rattle.desk.specs.Layout.{Lent, lent};
-ghost use Rattle.output.specs.Buffer.{buffer};
 ghost use Rattle.answers.specs.Show.{show_lines};
 ghost use Rattle.calling.specs.Calls.{answered, held_by, Within, Did, replace_on, open_on, feed_on, close_on, state_on, take_on};
 
 use crate::State;
 use desk::Serial;
+use output::Buffer;
 
 pub fn replace(
     s: State,
     set: &[u8],
     first: &mut [u16],
     second: &mut [u16],
-    out: &mut [u8; 65536],
+    out: &mut Buffer,
 ) -> State
     requires { (Within s) × (4096 ≤ length set.now) × (131841 ≤ length first.old) × (16384 ≤ length second.old) }
-    ensures did { Did (replace_on (held_by s set.now (lent first.old second.old))) (buffer out.old s.used)
-        (held_by result set.now (lent first.new second.new)) (buffer out.new result.used) }
+    ensures did { Did (replace_on (held_by s set.now (lent first.old second.old))) out.old
+        (held_by result set.now (lent first.new second.new)) out.new }
     ensures within { Within result }
 {
     let before = s.desk;
@@ -27,33 +27,31 @@ pub fn replace(
     let r = before.replace(&set[0..held], &mut first[0..a], &mut second[0..b]);
     let desk = r.desk;
     let answer = r.answer;
-    let used = answers::replaced(out, s.used, answer);
+    answers::replaced(out, answer);
     State {
         desk,
         held,
         first: a,
         second: b,
-        used,
     }
 }
 
-pub fn open(s: State, out: &mut [u8; 65536]) -> State
+pub fn open(s: State, out: &mut Buffer) -> State
     requires { Within s }
-    ensures by_index { (bytes : List ℕ) (tables : Lent) → Did (open_on (held_by s bytes tables)) (buffer out.old s.used) (held_by result bytes tables)
-        (buffer out.new result.used) }
+    ensures by_index { (bytes : List ℕ) (tables : Lent) → Did (open_on (held_by s bytes tables)) out.old (held_by result bytes tables)
+        out.new }
     ensures within { Within result }
 {
     let before = s.desk;
     let r = before.open();
     let desk = r.desk;
     let answer = r.answer;
-    let used = answers::opened(out, s.used, answer);
+    answers::opened(out, answer);
     State {
         desk,
         held: s.held,
         first: s.first,
         second: s.second,
-        used,
     }
 }
 
@@ -63,11 +61,11 @@ pub fn feed(
     piece: &[u8],
     first: &[u16],
     second: &[u16],
-    out: &mut [u8; 65536],
+    out: &mut Buffer,
 ) -> State
     requires { (Within s) × (131841 ≤ length first.now) × (16384 ≤ length second.now) }
     ensures by_index { (bytes : List ℕ) → Did (feed_on (held_by s bytes (lent first.now second.now)) serial piece.now)
-        (buffer out.old s.used) (held_by result bytes (lent first.now second.now)) (buffer out.new result.used) }
+        out.old (held_by result bytes (lent first.now second.now)) out.new }
     ensures within { Within result }
 {
     let before = s.desk;
@@ -76,87 +74,82 @@ pub fn feed(
     let r = before.feed(Serial(serial), &first[0..a], &second[0..b], piece);
     let desk = r.desk;
     let answer = r.answer;
-    let used = answers::fed(out, s.used, answer);
+    answers::fed(out, answer);
     State {
         desk,
         held: s.held,
         first: a,
         second: b,
-        used,
     }
 }
 
-pub fn close(s: State, serial: u32, out: &mut [u8; 65536]) -> State
+pub fn close(s: State, serial: u32, out: &mut Buffer) -> State
     requires { Within s }
-    ensures by_index { (bytes : List ℕ) (tables : Lent) → Did (close_on (held_by s bytes tables) serial) (buffer out.old s.used)
-        (held_by result bytes tables) (buffer out.new result.used) }
+    ensures by_index { (bytes : List ℕ) (tables : Lent) → Did (close_on (held_by s bytes tables) serial) out.old
+        (held_by result bytes tables) out.new }
     ensures within { Within result }
 {
     let before = s.desk;
     let r = before.close(Serial(serial));
     let desk = r.desk;
     let answer = r.answer;
-    let used = answers::closed(out, s.used, serial, answer);
+    answers::closed(out, serial, answer);
     State {
         desk,
         held: s.held,
         first: s.first,
         second: s.second,
-        used,
     }
 }
 
-pub fn tell(s: State, serial: u32, out: &mut [u8; 65536]) -> State
+pub fn tell(s: State, serial: u32, out: &mut Buffer) -> State
     requires { Within s }
-    ensures by_index { (bytes : List ℕ) (tables : Lent) → Did (state_on (held_by s bytes tables) serial) (buffer out.old s.used)
-        (held_by result bytes tables) (buffer out.new result.used) }
+    ensures by_index { (bytes : List ℕ) (tables : Lent) → Did (state_on (held_by s bytes tables) serial) out.old
+        (held_by result bytes tables) out.new }
     ensures within { Within result }
 {
     let desk = s.desk;
     let answer = desk.state(Serial(serial));
-    let used = answers::told(out, s.used, serial, answer);
+    answers::told(out, serial, answer);
     State {
         desk,
         held: s.held,
         first: s.first,
         second: s.second,
-        used,
     }
 }
 
-pub fn take(s: State, out: &mut [u8; 65536]) -> State
+pub fn take(s: State, out: &mut Buffer) -> State
     requires { Within s }
-    ensures by_index { (bytes : List ℕ) (tables : Lent) → Did (take_on (held_by s bytes tables)) (buffer out.old s.used) (held_by result bytes tables)
-        (buffer out.new result.used) }
+    ensures by_index { (bytes : List ℕ) (tables : Lent) → Did (take_on (held_by s bytes tables)) out.old (held_by result bytes tables)
+        out.new }
     ensures within { Within result }
 {
     let before = s.desk;
     let r = before.take();
     let desk = r.desk;
     let answer = r.answer;
-    let used = answers::taken(out, s.used, answer);
+    answers::taken(out, answer);
     State {
         desk,
         held: s.held,
         first: s.first,
         second: s.second,
-        used,
     }
 }
 
-pub fn show(s: State, out: &mut [u8; 65536]) -> State
+pub fn show(s: State, out: &mut Buffer) -> State
     requires { Within s }
-    ensures by_index { (bytes : List ℕ) (tables : Lent) → Did (answered (held_by s bytes tables) (show_lines s.desk)) (buffer out.old s.used)
-        (held_by result bytes tables) (buffer out.new result.used) }
+    ensures by_index { (bytes : List ℕ) (tables : Lent) → Did (answered (held_by s bytes tables) (show_lines s.desk)) out.old
+        (held_by result bytes tables) out.new }
     ensures within { Within result }
 {
     let desk = s.desk;
-    let used = answers::shown(out, s.used, desk);
+    answers::shown(out, desk);
     State {
         desk,
         held: s.held,
         first: s.first,
         second: s.second,
-        used,
     }
 }

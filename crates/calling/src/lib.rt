@@ -6,7 +6,6 @@ mod desk_calls;
 mod outside;
 
 ghost use Rattle.std.specs.Prelude.{◌≡◌, ◌≤◌, length};
-ghost use Rattle.output.specs.Buffer.{buffer};
 ghost use Rattle.desk.specs.Layout.{lent, one_bit};
 ghost use Rattle.desk.specs.Calls.{new_desk};
 ghost use Rattle.script.specs.Calls.{Bounded, meant, call_of};
@@ -15,22 +14,22 @@ ghost use Rattle.calling.specs.Calls.{held_by, Within, Did, call_on};
 use buffers::{lend, not_a_call, peek, poke, set_to};
 use desk::Desk;
 use desk_calls::{close, feed, open, replace, show, take, tell};
+use output::Buffer;
 use outside::{build, read};
 use script::Call;
 
-// The set is the first `held` bytes of its buffer, the first `first` numbers of the first table and the first `second` of the second are lent, and
-// `used` bytes of output wait.
+// The set is the first `held` bytes of its buffer, and the first `first` numbers of the first table and the first `second` of the second
+// are lent.
 #[derive(Drop)]
 pub struct State {
     pub desk: Desk,
     pub held: usize,
     pub first: usize,
     pub second: usize,
-    pub used: usize,
 }
 
 pub fn new_state() -> State
-    ensures { (result.desk ≡ new_desk one_bit) × (result.held ≡ 0) × (result.first ≡ 11496) × (result.second ≡ 11496) × (result.used ≡ 0) }
+    ensures { (result.desk ≡ new_desk one_bit) × (result.held ≡ 0) × (result.first ≡ 11496) × (result.second ≡ 11496) }
 {
     let desk = Desk::new();
     State {
@@ -38,7 +37,6 @@ pub fn new_state() -> State
         held: 0,
         first: 11496,
         second: 11496,
-        used: 0,
     }
 }
 
@@ -53,12 +51,12 @@ fn make(
     first: &mut [u16],
     second: &mut [u16],
     list: &mut [u32],
-    out: &mut [u8; 65536],
+    out: &mut Buffer,
 ) -> State
     requires { (Within s) × (Bounded call) × (20000 ≤ length bytes.now) × (4096 ≤ length set.old)
         × (131841 ≤ length first.old) × (16384 ≤ length second.old) × (2048 ≤ length list.old) }
     ensures did { Did (call_on (held_by s set.old (lent first.old second.old)) n (meant place bytes.now call))
-        (buffer out.old s.used) (held_by result set.new (lent first.new second.new)) (buffer out.new result.used) }
+        out.old (held_by result set.new (lent first.new second.new)) out.new }
     ensures within { Within result }
 {
     match call {
@@ -90,11 +88,11 @@ pub fn answer_line(
     first: &mut [u16; 131841],
     second: &mut [u16; 16384],
     list: &mut [u32; 2048],
-    out: &mut [u8; 65536],
+    out: &mut Buffer,
 ) -> State
     requires { Within s }
     ensures did { Did (call_on (held_by s set.old (lent first.old second.old)) n (call_of line.now))
-        (buffer out.old s.used) (held_by result set.new (lent first.new second.new)) (buffer out.new result.used) }
+        out.old (held_by result set.new (lent first.new second.new)) out.new }
     ensures within { Within result }
 {
     let called = script::call_of(line, bytes);

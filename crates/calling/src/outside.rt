@@ -1,11 +1,12 @@
 // Building and reading outside the desk.
 ghost use Rattle.std.specs.Prelude.{◌≡◌, List, [], ◌∷◌, ℕ, ◌≤◌, length, take as take·of};
 ghost use Rattle.desk.specs.Layout.{lent, sizes};
-ghost use Rattle.output.specs.Buffer.{buffer, Puts};
+ghost use Rattle.output.specs.Buffer.{Puts};
 ghost use Rattle.script.specs.Calls.{machines_of};
 ghost use Rattle.calling.specs.Calls.{answered, held_by, Within, Did, build_on, built_by, front_of, tables_by, sevens, read_text};
 
 use crate::State;
+use output::Buffer;
 use script::{Layout, ReadCall};
 use tables::BuildFault;
 
@@ -26,11 +27,11 @@ pub fn build(
     set: &[u8],
     first: &mut [u16],
     second: &mut [u16],
-    out: &mut [u8; 65536],
+    out: &mut Buffer,
 ) -> State
     requires { (Within s) × (4096 ≤ length set.now) × (131841 ≤ length first.old) × (16384 ≤ length second.old) }
-    ensures did { Did (build_on (held_by s set.now (lent first.old second.old)) layout) (buffer out.old s.used)
-        (held_by result set.now (lent first.new second.new)) (buffer out.new result.used) }
+    ensures did { Did (build_on (held_by s set.now (lent first.old second.old)) layout) out.old
+        (held_by result set.now (lent first.new second.new)) out.new }
     ensures within { Within result }
 {
     let desk = s.desk;
@@ -38,13 +39,12 @@ pub fn build(
     let a = s.first;
     let b = s.second;
     let built = build_by(layout, &set[0..held], &mut first[0..a], &mut second[0..b]);
-    let used = answers::built_line(out, s.used, built);
+    answers::built_line(out, built);
     State {
         desk,
         held,
         first: a,
         second: b,
-        used,
     }
 }
 
@@ -60,69 +60,64 @@ fn fill(list: &mut [u32])
 }
 
 fn read_split(
-    used: usize,
     count: u32,
     place: [u16; 16],
     first: &[u16],
     second: &[u16],
     piece: &[u8],
     list: &mut [u32],
-    out: &mut [u8; 65536],
-) -> usize
-    ensures { Puts (buffer out.old used) (read_text (lent first.now second.now) Layout.Split count (length list.old) place
-        piece.now) (buffer out.new result) }
+    out: &mut Buffer,
+)
+    ensures { Puts out.old (read_text (lent first.now second.now) Layout.Split count (length list.old) place
+        piece.now) out.new }
 {
     fill(list);
     let r = reading::read_split(first, second, place, count, piece, list);
-    answers::read_lines(out, used, r.taken, r.ending, r.records, &r.place, list)
+    answers::read_lines(out, r.taken, r.ending, r.records, &r.place, list);
 }
 
 fn read_whole(
-    used: usize,
     count: u32,
     place: u16,
     table: &[u16],
     piece: &[u8],
     list: &mut [u32],
-    out: &mut [u8; 65536],
-) -> usize
-    ensures { Puts (buffer out.old used) (read_text (lent table.now []) Layout.Whole count (length list.old)
-        (place ∷ []) piece.now) (buffer out.new result) }
+    out: &mut Buffer,
+)
+    ensures { Puts out.old (read_text (lent table.now []) Layout.Whole count (length list.old)
+        (place ∷ []) piece.now) out.new }
 {
     fill(list);
     let r = reading::read_whole(table, place, count, piece, list);
-    answers::read_lines(out, used, r.taken, r.ending, r.records, &[r.place], list)
+    answers::read_lines(out, r.taken, r.ending, r.records, &[r.place], list);
 }
 
 fn read_bitmap(
-    used: usize,
     count: u32,
     place: u16,
     table: &[u16],
     piece: &[u8],
     list: &mut [u32],
-    out: &mut [u8; 65536],
-) -> usize
-    ensures { Puts (buffer out.old used) (read_text (lent table.now []) Layout.Bitmap count (length list.old)
-        (place ∷ []) piece.now) (buffer out.new result) }
+    out: &mut Buffer,
+)
+    ensures { Puts out.old (read_text (lent table.now []) Layout.Bitmap count (length list.old)
+        (place ∷ []) piece.now) out.new }
 {
     fill(list);
     let r = bitmap_reading::read_bitmap(table, place, count, piece, list);
     let at = r.place;
     answers::map_lines(
         out,
-        used,
         r.taken,
         r.ending,
         r.records,
         at.moves,
         &[at.state],
         list,
-    )
+    );
 }
 
 fn read_by(
-    used: usize,
     layout: Layout,
     count: u32,
     place: [u16; 16],
@@ -130,15 +125,15 @@ fn read_by(
     second: &[u16],
     piece: &[u8],
     list: &mut [u32],
-    out: &mut [u8; 65536],
-) -> usize
-    ensures { Puts (buffer out.old used) (read_text (lent first.now second.now) layout count (length list.old)
-        (take·of (machines_of layout) place) piece.now) (buffer out.new result) }
+    out: &mut Buffer,
+)
+    ensures { Puts out.old (read_text (lent first.now second.now) layout count (length list.old)
+        (take·of (machines_of layout) place) piece.now) out.new }
 {
     match layout {
-        Layout::Split => read_split(used, count, place, first, second, piece, list, out),
-        Layout::Whole => read_whole(used, count, place[0], first, piece, list, out),
-        Layout::Bitmap => read_bitmap(used, count, place[0], first, piece, list, out),
+        Layout::Split => read_split(count, place, first, second, piece, list, out),
+        Layout::Whole => read_whole(count, place[0], first, piece, list, out),
+        Layout::Bitmap => read_bitmap(count, place[0], first, piece, list, out),
     }
 }
 
@@ -151,14 +146,14 @@ pub fn read(
     first: &[u16],
     second: &[u16],
     list: &mut [u32],
-    out: &mut [u8; 65536],
+    out: &mut Buffer,
 ) -> State
     requires { (Within s) × (131841 ≤ length first.now) × (16384 ≤ length second.now) × (reading.room ≤ length list.old)
         × (reading.piece ≤ length bytes.now) }
     ensures by_index { (set : List ℕ) → Did (answered (held_by s set (lent first.now second.now))
         (read_text (front_of (sizes s.first s.second) (lent first.now second.now)) reading.layout reading.count reading.room
-        (take·of (machines_of reading.layout) place) (take·of reading.piece bytes.now))) (buffer out.old s.used)
-        (held_by result set (lent first.now second.now)) (buffer out.new result.used) }
+        (take·of (machines_of reading.layout) place) (take·of reading.piece bytes.now))) out.old
+        (held_by result set (lent first.now second.now)) out.new }
     ensures within { Within result }
 {
     let desk = s.desk;
@@ -171,8 +166,7 @@ pub fn read(
     let folded = &second[0..b];
     let piece = &bytes[0..k];
     let list = &mut list[0..room];
-    let used = read_by(
-        s.used,
+    read_by(
         layout,
         reading.count,
         place,
@@ -187,6 +181,5 @@ pub fn read(
         held: s.held,
         first: a,
         second: b,
-        used,
     }
 }

@@ -1,9 +1,6 @@
 -- A buffer of 65,536 bytes on their way out: as many as are used wait at its front.
+use Rattle.output.specs.declared.Buffer.{Buffer}
 use Rattle.std.specs.Prelude.{ℕ, ◌+◌, Bool, true, false, List, [], ◌∷◌, ◌++◌, ◌≡◌, ltb, set, take}
-
-pub record Buffer : Type 0 where
-  pub bytes : List ℕ
-  pub used : ℕ
 
 abbrev pub buffer : List ℕ → ℕ → Buffer
 buffer bytes used = record { bytes = bytes; used = used }

@@ -1,8 +1,8 @@
-// What a program writes on standard output, gathered in a buffer: the bytes at its front wait, `used` says how many.
-// They are handed to the system when the buffer is full, and at a flush. A write that fails loses bytes and stops nothing.
+// What a program writes on standard output, gathered in a buffer and handed to the system when that is full, and at a flush. A write
+// that fails loses bytes and stops nothing.
 #![tactic(auto)]
 
-ghost use Rattle.std.specs.Prelude.{◌∷◌, []};
+ghost use Rattle.std.specs.Prelude.{◌≡◌, ◌∷◌, []};
 ghost use Rattle.output.specs.Buffer.{buffer, Puts};
 ghost use Rattle.output.specs.Decimal.{decimal_of};
 
@@ -11,53 +11,67 @@ const SIZE: usize = 65536;
 // The descriptor of standard output.
 const STDOUT: i32 = 1;
 
-// One byte more; answers how many wait then.
-pub fn put_byte(out: &mut [u8; 65536], used: usize, byte: u8) -> usize
-    ensures { Puts (buffer out.old used) (byte ∷ []) (buffer out.new result) }
-{
-    if used < SIZE {
-        out[used] = byte;
-        return used + 1;
+// The first `used` bytes wait: all of them where `used` is more than there are.
+#[derive(Drop)]
+pub struct Buffer {
+    pub bytes: [u8; 65536],
+    pub used: usize,
+}
+
+impl Buffer {
+    // One byte more.
+    #[tactic(auto, unfolding(crate::specs::Buffer::put_bytes, crate::specs::Buffer::put_byte, crate::specs::Buffer::put_by))]
+    pub fn put_byte(&mut self, byte: u8)
+        ensures { Puts self.old (byte ∷ []) self.new }
+    {
+        let used = self.used;
+        if used < SIZE {
+            self.bytes[used] = byte;
+            self.used = used + 1;
+            return;
+        }
+        self.flush();
+        self.bytes[0] = byte;
+        self.used = 1;
     }
-    flush(out, SIZE);
-    out[0] = byte;
-    1
-}
 
-// Bytes as they are.
-pub fn put_words(out: &mut [u8; 65536], used: usize, words: &[u8]) -> usize
-    ensures { Puts (buffer out.old used) words.now (buffer out.new result) }
-{
-    let mut n = used;
-    let mut i = 0;
-    while i < words.len() {
-        n = put_byte(out, n, words[i]);
-        i += 1;
+    // Bytes as they are.
+    pub fn put_words(&mut self, words: &[u8])
+        ensures { Puts self.old words.now self.new }
+    {
+        let used = self.used;
+        if used < SIZE && words.len() < SIZE - used {
+            let end = used + words.len();
+            self.bytes[used..end].copy_from_slice(words);
+            self.used = end;
+            return;
+        }
+        for byte in words {
+            self.put_byte(*byte);
+        }
     }
-    n
-}
 
-// The decimal digits of a number.
-pub fn put_number(out: &mut [u8; 65536], used: usize, number: u64) -> usize
-    ensures { Puts (buffer out.old used) (decimal_of number) (buffer out.new result) }
-{
-    let mut digits = [0u8; 20];
-    let places = io::decimal(number, &mut digits);
-    put_words(out, used, &digits[..places])
-}
+    // The decimal digits of a number.
+    #[tactic(auto, using(crate::specs::Laws::Decimal::decimal_digits))]
+    pub fn put_number(&mut self, number: u64)
+        ensures { Puts self.old (decimal_of number) self.new }
+    {
+        let mut digits = [0u8; 20];
+        let places = io::decimal(number, &mut digits);
+        self.put_words(&digits[..places]);
+    }
 
-pub fn put_line_end(out: &mut [u8; 65536], used: usize) -> usize
-    ensures { Puts (buffer out.old used) (10 ∷ []) (buffer out.new result) }
-{
-    put_byte(out, used, b'\n')
-}
+    pub fn put_line_end(&mut self)
+        ensures { Puts self.old (10 ∷ []) self.new }
+    {
+        self.put_byte(b'\n');
+    }
 
-// Hands the bytes that wait to the system; a buffer then has none.
-pub fn flush(out: &[u8; 65536], used: usize) {
-    let bytes: &[u8] = out;
-    if used < bytes.len() {
-        io::write_all(STDOUT, &bytes[0..used]);
-    } else {
-        io::write_all(STDOUT, bytes);
+    // Hands the bytes that wait to the system; then none waits.
+    pub fn flush(&mut self)
+        ensures { self.new ≡ buffer self.old.bytes 0 }
+    {
+        io::write_all(STDOUT, &self.bytes[..self.used.min(SIZE)]);
+        self.used = 0;
     }
 }

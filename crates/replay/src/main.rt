@@ -8,6 +8,7 @@ ghost use Rattle.calling.specs.Calls.{Within};
 
 use calling::State;
 use lines::Span;
+use output::Buffer;
 use std::env::{Env, FillError};
 use std::fs::File;
 use std::io::{Error, ErrorKind, Read};
@@ -60,7 +61,7 @@ fn one_line<R: Read>(
     first: &mut [u16; 131841],
     second: &mut [u16; 16384],
     list: &mut [u32; 2048],
-    out: &mut [u8; 65536],
+    out: &mut Buffer,
 ) -> Turn
     requires { Within s }
     ensures { Within result.state }
@@ -68,7 +69,7 @@ fn one_line<R: Read>(
     let gathered = lines::gather(reader, input, rest, line);
     let after = gathered.rest;
     if !gathered.begun {
-        output::flush(out, s.used);
+        out.flush();
         return Turn {
             state: s,
             rest: after,
@@ -93,7 +94,10 @@ fn run<R: Read>(reader: &mut R) -> Option<Error> {
     let mut first = new_first();
     let mut second = new_second();
     let mut list = new_list();
-    let mut out = [0u8; 65536];
+    let mut out = Buffer {
+        bytes: [0u8; 65536],
+        used: 0,
+    };
     let mut s = calling::new_state();
     let mut rest = Span {
         from: 0,

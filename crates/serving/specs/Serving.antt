@@ -5,7 +5,8 @@ use Rattle.desk.specs.declared.Serial.{Serial}
 use Rattle.desk.specs.Feed.{feed_of, taken_by}
 use Rattle.desk.specs.TakeMany.{many_of, oldest, take_many_of}
 use Rattle.matching.specs.Words.{Word}
-use Rattle.output.specs.Buffer.{Buffer, Puts}
+use Rattle.output.specs.Buffer.{Puts}
+use Rattle.output.specs.declared.Buffer.{Buffer}
 use Rattle.serving.specs.Lines.{lines_of}
 use Rattle.serving.specs.declared.Fed.{Fed}
 use Rattle.desk.specs.Layout.{Lent}

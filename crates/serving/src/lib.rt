@@ -1,20 +1,19 @@
 // What the bench program does between its files: feeding a piece to the ticket, taking all records whenever a feed stops, and the lines.
-#![tactic(auto)]
+#![tactic(auto, using(output::specs::Laws::Waiting::put_append), unfolding(output::specs::Buffer::put_bytes))]
 
 pub mod lines;
 
 ghost use Rattle.desk.specs.Layout.{lent};
-ghost use Rattle.output.specs.Buffer.{buffer};
 ghost use Rattle.serving.specs.Serving.{FeedsRest, FeedsPiece};
 
 use desk::pieces::{new_list, taken_by};
 use desk::{Desk, Serial};
+use output::Buffer;
 
-// The desk and the bytes that wait after a step, and what it took.
+// The desk after a step, and how many bytes it took.
 #[derive(Drop)]
 pub struct Fed {
     pub desk: Desk,
-    pub used: usize,
     pub taken: usize,
 }
 
@@ -25,11 +24,9 @@ fn feed_rest(
     first: &[u16],
     second: &[u16],
     rest: &[u8],
-    out: &mut [u8; 65536],
-    used: usize,
+    out: &mut Buffer,
 ) -> Fed
-    ensures { FeedsRest serial (lent first.now second.now) desk rest.now
-        (buffer out.old used) result (buffer out.new result.used) }
+    ensures { FeedsRest serial (lent first.now second.now) desk rest.now out.old result out.new }
 {
     let feeding = desk.feed(serial, first, second, rest);
     let fed = feeding.desk;
@@ -37,10 +34,9 @@ fn feed_rest(
     let mut list = new_list();
     let taking = fed.take_many(&mut list);
     let next = taking.desk;
-    let put = lines::put_records(out, used, &list, taking.count);
+    lines::put_records(out, &list, taking.count);
     Fed {
         desk: next,
-        used: put,
         taken: taken_by(answer),
     }
 }
@@ -52,32 +48,26 @@ pub fn feed_piece(
     first: &[u16],
     second: &[u16],
     piece: &[u8],
-    out: &mut [u8; 65536],
-    used: usize,
+    out: &mut Buffer,
 ) -> Fed
-    ensures { FeedsPiece serial (lent first.now second.now) desk piece.now
-        (buffer out.old used) result (buffer out.new result.used) }
+    ensures { FeedsPiece serial (lent first.now second.now) desk piece.now out.old result out.new }
 {
     let mut now = desk;
-    let mut put = used;
     let mut from: usize = 0;
     while from < piece.len() {
-        let fed = feed_rest(now, serial, first, second, &piece[from..], out, put);
+        let fed = feed_rest(now, serial, first, second, &piece[from..], out);
         let next = fed.desk;
         now = next;
-        put = fed.used;
         if fed.taken == 0 {
             return Fed {
                 desk: now,
-                used: put,
                 taken: from,
             };
         }
-        from = from + fed.taken;
+        from += fed.taken;
     }
     Fed {
         desk: now,
-        used: put,
         taken: from,
     }
 }

@@ -1,57 +1,48 @@
 // The lines that the bench program writes.
 ghost use Rattle.std.specs.Prelude.{◌≤◌};
-ghost use Rattle.output.specs.Buffer.{buffer, Puts};
+ghost use Rattle.output.specs.Buffer.{Puts};
 ghost use Rattle.serving.specs.Lines.{answer_line, record_line, record_lines, taken_line};
 
 use desk::ReplaceAnswer;
-use output::{put_byte, put_line_end, put_number};
+use output::Buffer;
 
 // The line for the set, as `replay` writes it; of TABLE the number alone.
-pub fn put_answer(out: &mut [u8; 65536], used: usize, answer: ReplaceAnswer) -> usize
-    ensures { Puts (buffer out.old used) (answer_line answer) (buffer out.new result) }
+pub fn put_answer(out: &mut Buffer, answer: ReplaceAnswer)
+    ensures { Puts out.old (answer_line answer) out.new }
 {
     let said = numbers::of_replace(answer).answer;
     match answer {
-        ReplaceAnswer::Replaced(_, _) => answers::replaced(out, used, answer),
-        ReplaceAnswer::Fault(_) => answers::replaced(out, used, answer),
-        ReplaceAnswer::Table(_, _) => answers::word_line(out, used, b"refused ", said.refusal),
-        ReplaceAnswer::EditionEnd => answers::replaced(out, used, answer),
+        ReplaceAnswer::Replaced(_, _) => answers::replaced(out, answer),
+        ReplaceAnswer::Fault(_) => answers::replaced(out, answer),
+        ReplaceAnswer::Table(_, _) => answers::word_line(out, b"refused ", said.refusal),
+        ReplaceAnswer::EditionEnd => answers::replaced(out, answer),
     }
 }
 
-fn put_record(out: &mut [u8; 65536], used: usize, serial: u32, end: u32, tag: u32) -> usize
-    ensures { Puts (buffer out.old used) (record_line serial end tag) (buffer out.new result) }
+fn put_record(out: &mut Buffer, serial: u32, end: u32, tag: u32)
+    ensures { Puts out.old (record_line serial end tag) out.new }
 {
-    let a = put_number(out, used, serial as u64);
-    let b = put_byte(out, a, b' ');
-    let c = put_number(out, b, end as u64);
-    let d = put_byte(out, c, b' ');
-    let e = put_number(out, d, tag as u64);
-    put_line_end(out, e)
+    out.put_number(u64::from(serial));
+    out.put_byte(b' ');
+    out.put_number(u64::from(end));
+    out.put_byte(b' ');
+    out.put_number(u64::from(tag));
+    out.put_line_end();
 }
 
 // A line for each of the first records of a list, four numbers each: serial, edition, end, tag.
-pub(crate) fn put_records(
-    out: &mut [u8; 65536],
-    used: usize,
-    list: &[u32; 1024],
-    count: usize,
-) -> usize
+pub(crate) fn put_records(out: &mut Buffer, list: &[u32; 1024], count: usize)
     requires { count ≤ 256 }
-    ensures { Puts (buffer out.old used) (record_lines count list.now) (buffer out.new result) }
+    ensures { Puts out.old (record_lines count list.now) out.new }
 {
-    let mut n = used;
-    let mut j: usize = 0;
-    while j < count {
+    for j in 0..count {
         let i = 4 * j;
-        n = put_record(out, n, list[i], list[i + 2], list[i + 3]);
-        j += 1;
+        put_record(out, list[i], list[i + 2], list[i + 3]);
     }
-    n
 }
 
-pub fn put_taken(out: &mut [u8; 65536], used: usize, taken: u32) -> usize
-    ensures { Puts (buffer out.old used) (taken_line taken) (buffer out.new result) }
+pub fn put_taken(out: &mut Buffer, taken: u32)
+    ensures { Puts out.old (taken_line taken) out.new }
 {
-    answers::word_line(out, used, b"taken ", taken as u64)
+    answers::word_line(out, b"taken ", u64::from(taken));
 }

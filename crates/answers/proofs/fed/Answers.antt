@@ -11,4 +11,4 @@ returns-then-given-gt0 c =
 pub returns : goal.returns
 returns c =
     say_given _ _ _ c.of_feed-said.ensures
-    c.if-given-gt0.false (put_then c.put_fed-n.ensures c.put_line_end.ensures)
+    c.if-given-gt0.false (put_then c.put_fed.ensures c.put_line_end.ensures)

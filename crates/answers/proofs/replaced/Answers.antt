@@ -11,4 +11,4 @@ returns-then-given-gt0 c =
 pub returns : goal.returns
 returns c =
     say_given _ _ _ c.of_replace-said.ensures c.if-given-gt0.false
-    (put_then (put_then c.put_numbered-n.ensures c.put_numbered-n-2.ensures) c.put_line_end.ensures)
+    (put_then (put_then c.put_numbered.ensures c.put_numbered-2.ensures) c.put_line_end.ensures)

@@ -1,7 +1,8 @@
 -- Numbers are put one after another.
 use Rattle.std.specs.Prelude.{ℕ, ◌+◌, ◌<◌, ◌≤◌, List, [], ◌∷◌, ◌++◌, ◌≡◌, refl, length, get_or, take}
 use Rattle.std.proofs.Common.{add-one, take-suc, take_all}
-use Rattle.output.specs.Buffer.{Buffer, Puts}
+use Rattle.output.specs.Buffer.{Puts}
+use Rattle.output.specs.declared.Buffer.{Buffer}
 use Rattle.output.specs.Laws.Waiting.{put_then}
 use Rattle.answers.specs.Answers.{numbered, listed}
 

@@ -7,7 +7,8 @@ use Rattle.numbers.specs.Answers.{answer_of, said_of}
 use Rattle.numbers.specs.Laws.{Few, refusal_is}
 use Rattle.numbers.specs.declared.Answer.{Answer}
 use Rattle.numbers.specs.declared.Said.{Said}
-use Rattle.output.specs.Buffer.{Buffer, Puts}
+use Rattle.output.specs.Buffer.{Puts}
+use Rattle.output.specs.declared.Buffer.{Buffer}
 use Rattle.answers.specs.Answers.{answer_line, first_two, refused_line, said_line, stop_word}
 
 first_two_lem : (values : List ℕ) → first_two (length values) (get_or values 0 0) (get_or values 1 0) ≡ take 2 values

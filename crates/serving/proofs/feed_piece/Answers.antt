@@ -11,7 +11,7 @@ pub returns-then-fed-eq0 : goal.returns-then-fed-eq0
 returns-then-fed-eq0 c =
     let feed-rest = c.feed_rest-fed in
     let loop = c.loop-from in
-    so_far_idle _ _ _ _ _ loop.invariant.0 (left-fed _ loop.from feed-rest.ensures) (search rules) c.if-fed-eq0.true _
+    so_far_idle _ _ _ _ _ loop.invariant.0 (left-fed _ loop.from feed-rest.ensures) (search rules) c.if-fed-eq0.true
 
 pub overflow_add-from : goal.overflow_add-from
 overflow_add-from c =
@@ -26,4 +26,4 @@ loop-from-preserved c =
     (so_far_more _ _ _ _ _ loop.invariant.0 (left-fed _ loop.from feed-rest.ensures) (search rules), search rules)
 
 pub returns : goal.returns
-returns c = so_far_all _ _ _ _ _ c.loop-from.invariant.0 (search rules) _
+returns c = so_far_all _ _ _ _ _ c.loop-from.invariant.0 (search rules)

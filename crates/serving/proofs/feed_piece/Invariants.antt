@@ -2,12 +2,11 @@
 use Rattle.desk.specs.Layout.{lent}
 use Prim.Native.Nat.{◌-◌, ◌<◌}
 use lib.ListN.{length}
-use Rattle.output.specs.Buffer.{buffer}
 use Rattle.serving.specs.Laws.Serving.{SoFar}
 use Rattle.serving.proofs.feed_piece.Given as goal
 
 abbrev pub invariant-loop-from : goal.invariant-loop-from
-invariant-loop-from l = SoFar l.serial (lent l.first l.second) l.initial.now l.piece (buffer l.initial.out l.used) l.now l.from (buffer l.out l.put) × (length l.piece < 18446744073709551616)
+invariant-loop-from l = SoFar l.serial (lent l.first l.second) l.initial.now l.piece l.initial.out l.now l.from l.out × (length l.piece < 18446744073709551616)
 
 abbrev pub decreases-loop-from : goal.decreases-loop-from
 decreases-loop-from l = length l.piece - l.from

@@ -11,7 +11,8 @@ use Rattle.desk.specs.TakeMany.{list_taken, many_of, oldest, take_many_of}
 use Rattle.desk.specs.declared.TakingMany.{TakingMany}
 use Rattle.serving.specs.Laws.Lines.{numbered-lines}
 use Rattle.serving.specs.Lines.{lines_of, record_lines}
-use Rattle.output.specs.Buffer.{Buffer, Puts}
+use Rattle.output.specs.Buffer.{Puts}
+use Rattle.output.specs.declared.Buffer.{Buffer}
 use Rattle.output.specs.Laws.Waiting.{put-none, put_then}
 use Rattle.serving.specs.Serving.{FeedsPiece, FeedsRest, Served, all-taken, none-taken, rest_desk, rest_lines, rest_taken, some-taken}
 use Rattle.serving.specs.declared.Fed.{Fed}
@@ -19,13 +20,13 @@ use Rattle.desk.specs.Layout.{Lent}
 
 -- the parts of a feed of what is left, together
 pub rest-fed : (s : Serial) (table : Lent) (d : Desk) (rest : Word) (before after : Buffer) (f : Feeding) (t : TakingMany) (list filled : List ℕ)
-    (used count : ℕ)
+    (count : ℕ)
     → f ≡ feed_of d s table rest → 1024 ≡ length list → t ≡ take_many_of f.desk (length list)
     → filled ≡ list_taken f.desk list (many_of f.desk (length list)) → count ≡ taken_by f.answer
     → Puts before (record_lines t.count filled) after
-    → FeedsRest s table d rest before (record { desk = t.desk; used = used; taken = count }) after
+    → FeedsRest s table d rest before (record { desk = t.desk; taken = count }) after
 unfolding take_many_of list_taken
-rest-fed s table d rest before after f t list filled used count fed long many taken counted put = record {
+rest-fed s table d rest before after f t list filled count fed long many taken counted put = record {
   desk = ap (λ (x : TakingMany). x.desk) many ∙ ap (λ (k : ℕ). (take_many_of f.desk k).desk) (sym long)
       ∙ ap (λ (x : Feeding). (take_many_of x.desk 1024).desk) fed;
   taken = counted ∙ ap (λ (x : Feeding). taken_by x.answer) fed;
@@ -84,9 +85,9 @@ module _ (s : Serial) (table : Lent) (d : Desk) (piece : Word) (before : Buffer)
             rw (append_assoc far.lines (rest_lines s table now (drop from piece)) more, fed.taken, add_assoc from t n)
             (far.on e _ _ (some-taken (rw fed.taken at h) rest))
 
-    pub so_far_idle : from < length piece → r.taken ≡ 0 → (used : ℕ) → FeedsPiece s table d piece before
-        (record { desk = r.desk; used = used; taken = from }) after
-    so_far_idle h z used =
+    pub so_far_idle : from < length piece → r.taken ≡ 0 → FeedsPiece s table d piece before
+        (record { desk = r.desk; taken = from }) after
+    so_far_idle h z =
         let some : 0 < length (drop from piece) = simp length-drop (omega arith) in
         record {
           lines = far.lines ++ rest_lines s table now (drop from piece);
@@ -94,9 +95,9 @@ module _ (s : Serial) (table : Lent) (d : Desk) (piece : Word) (before : Buffer)
           put = put_then far.put fed.lines;
         }
 
-  pub so_far_all : {now : Desk} {from : ℕ} {after : Buffer} → SoFar now from after → length piece ≤ from → (used : ℕ)
-      → FeedsPiece s table d piece before (record { desk = now; used = used; taken = from }) after
-  so_far_all {now} {from} {after} far h used = record {
+  pub so_far_all : {now : Desk} {from : ℕ} {after : Buffer} → SoFar now from after → length piece ≤ from
+      → FeedsPiece s table d piece before (record { desk = now; taken = from }) after
+  so_far_all {now} {from} {after} far h = record {
     lines = far.lines ++ [];
     served = rw (add-zero from) at (far.on now [] 0 (rw (drop_of_length-le piece h) all-taken));
     put = put_then far.put (put-none after);

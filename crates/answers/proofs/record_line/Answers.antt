@@ -1,8 +1,0 @@
-use Rattle.output.specs.Laws.Waiting.{put_then}
-use Rattle.answers.proofs.record_line.Goals as goal
-
-pub returns : goal.returns
-returns c =
-    put_then (put_then (put_then (put_then c.put_numbered-n.ensures
-    c.put_blank_number-n.ensures) c.put_blank_number-n-2.ensures)
-    c.put_blank_number-n-3.ensures) c.put_line_end.ensures
