@@ -1,14 +1,10 @@
 -- Answers as text: words, and each number in decimal with a blank before it.
+use Rattle.desk.specs.Given.{OpenAnswer, FeedAnswer, CloseAnswer, TakeAnswer, ReplaceAnswer}
 use Rattle.desk.specs.declared.StateAnswer.TheVariants as A
 use Rattle.std.specs.Prelude.{ℕ, zero, suc, List, [], ◌∷◌, ◌++◌}
 use Rattle.desk.specs.Numbers.{close_number, close_values, feed_number, feed_values, open_number, open_values, replace_number, replace_values, take_number, take_values}
-use Rattle.desk.specs.declared.CloseAnswer.{CloseAnswer}
 use Rattle.desk.specs.declared.Edition.{Edition}
-use Rattle.desk.specs.declared.FeedAnswer.{FeedAnswer}
-use Rattle.desk.specs.declared.OpenAnswer.{OpenAnswer}
-use Rattle.desk.specs.declared.ReplaceAnswer.{ReplaceAnswer}
 use Rattle.desk.specs.declared.StateAnswer.{StateAnswer}
-use Rattle.desk.specs.declared.TakeAnswer.{TakeAnswer}
 use Rattle.numbers.specs.Answers.{answer_of, ending_number, ending_values, moved_values}
 use Rattle.numbers.specs.declared.Answer.{Answer}
 use Rattle.numbers.specs.declared.Said.{Said}

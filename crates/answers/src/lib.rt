@@ -10,7 +10,10 @@ ghost use Rattle.answers.specs.Answers.{listed, ended, stop_word, fed_part, held
 ghost use Rattle.answers.specs.Answers.{replace_line, open_line, feed_line, close_line, state_line, take_line, built_line, numbers_line};
 ghost use Rattle.answers.specs.Answers.{records_part, place_part, stopped_lines, moved_lines, read_lines, map_lines};
 
-use desk::{CloseAnswer, Edition, FeedAnswer, OpenAnswer, ReplaceAnswer, StateAnswer, TakeAnswer};
+use desk::{
+    Advance, Edition, FeedRefusal, NoTicket, OpenRefusal, Record, ReplaceRefusal, Replaced, Serial,
+    StateAnswer,
+};
 use numbers::Answer;
 use output::Buffer;
 use reading::Ending;
@@ -19,7 +22,7 @@ use tables::BuildFault;
 pub use texts::{not_a_call, word_line};
 use texts::{put_blank_number, put_numbered, put_numbers, refused};
 
-pub fn replaced(out: &mut Buffer, answer: ReplaceAnswer)
+pub fn replaced(out: &mut Buffer, answer: Result<Replaced, ReplaceRefusal>)
     ensures { Puts out.old (replace_line answer) out.new }
 {
     let said = numbers::of_replace(answer);
@@ -32,7 +35,7 @@ pub fn replaced(out: &mut Buffer, answer: ReplaceAnswer)
     out.put_line_end();
 }
 
-pub fn opened(out: &mut Buffer, answer: OpenAnswer)
+pub fn opened(out: &mut Buffer, answer: Result<Serial, OpenRefusal>)
     ensures { Puts out.old (open_line answer) out.new }
 {
     let said = numbers::of_open(answer);
@@ -63,7 +66,7 @@ fn put_fed(out: &mut Buffer, given: Answer)
     put_stop(out, given.b);
 }
 
-pub fn fed(out: &mut Buffer, answer: FeedAnswer)
+pub fn fed(out: &mut Buffer, answer: Result<Advance, FeedRefusal>)
     ensures { Puts out.old (feed_line answer) out.new }
 {
     let said = numbers::of_feed(answer);
@@ -75,7 +78,7 @@ pub fn fed(out: &mut Buffer, answer: FeedAnswer)
     out.put_line_end();
 }
 
-pub fn closed(out: &mut Buffer, serial: u32, answer: CloseAnswer)
+pub fn closed(out: &mut Buffer, serial: u32, answer: Result<(), NoTicket>)
     ensures { Puts out.old (close_line serial answer) out.new }
 {
     let said = numbers::of_close(answer);
@@ -121,7 +124,7 @@ fn record_line(out: &mut Buffer, given: Answer)
     out.put_line_end();
 }
 
-pub fn taken(out: &mut Buffer, answer: TakeAnswer)
+pub fn taken(out: &mut Buffer, answer: Option<Record>)
     ensures { Puts out.old (take_line answer) out.new }
 {
     let said = numbers::of_take(answer);

@@ -6,7 +6,7 @@ ghost use Rattle.desk.specs.Layout.{by_set, lent, one_bit, sizes};
 ghost use Rattle.desk.specs.Calls.{new_desk};
 ghost use Rattle.desk.specs.Replace.{replace_of, replaced_run};
 
-use desk::{Desk, OpenAnswer, ReplaceAnswer, Replacing, Serial};
+use desk::{After, Desk, ReplaceRefusal, Replaced, Serial};
 use output::Buffer;
 use std::fs::File;
 use std::io::Read;
@@ -49,7 +49,7 @@ fn replaced(
     n: usize,
     first: &mut [u16; 11496],
     second: &mut [u16; 11496],
-) -> Replacing
+) -> After<Result<Replaced, ReplaceRefusal>>
     ensures value { result ≡ replace_of (new_desk one_bit) (by_set (take n set.now))
         (sizes (length first.old) (length second.old)) }
     ensures second_after { lent first.new second.new
@@ -60,20 +60,6 @@ fn replaced(
         return Desk::new().replace(&bytes[0..n], first, second);
     }
     Desk::new().replace(bytes, first, second)
-}
-
-fn is_replaced(answer: ReplaceAnswer) -> bool {
-    match answer {
-        ReplaceAnswer::Replaced(_, _) => true,
-        _ => false,
-    }
-}
-
-fn serial_of(answer: OpenAnswer) -> Serial {
-    match answer {
-        OpenAnswer::Opened(serial) => serial,
-        _ => Serial(0),
-    }
 }
 
 // The desk after a piece, and whether there may be more.
@@ -144,7 +130,7 @@ fn serve(
     let opening = desk.open();
     let opened = opening.desk;
     let answer = opening.answer;
-    let serial = serial_of(answer);
+    let serial = answer.unwrap_or(Serial(0));
     let Ok(mut file) = File::open(rt, "input.bin") else {
         return serving::lines::put_taken(out, taken_in_all(opened));
     };
@@ -164,7 +150,7 @@ fn main(rt: HostRuntime) {
     let desk = replacing.desk;
     let answer = replacing.answer;
     serving::lines::put_answer(&mut out, answer);
-    if is_replaced(answer) {
+    if answer.is_ok() {
         serve(&rt, desk, &first, &second, &mut out);
     }
     out.flush();

@@ -1,7 +1,7 @@
 -- WHAT THE BENCH PROGRAM WRITES. Under a set that is accepted, with one ticket and the list emptied whenever a feed stops, the lines of
 -- records are the occurrences of the set's tags in the bytes taken, in order, however the input is cut into pieces.
-use Rattle.desk.specs.declared.ReplaceAnswer.TheVariants as R
-use Rattle.std.specs.Prelude.{ℕ, ◌+◌, ◌<◌, Bool, true, false, cond, List, [], ◌∷◌, ◌++◌, ◌≡◌, refl, eqb, get_or, length}
+use Rattle.desk.specs.Given.{Replacing, replaced_as}
+use Rattle.std.specs.Prelude.{ℕ, ◌<◌, Bool, true, false, cond, List, [], ◌∷◌, ◌++◌, ◌≡◌, refl, eqb, get_or, length, Ok}
 use Rattle.std.proofs.Common.{append-nil, ◌∙◌, sym, ap, arith, eq-eqb}
 use Rattle.std.proofs.lemmas.Bool.{eqb-false}
 use Rattle.desk.specs.Calls.{new_desk, open_of}
@@ -14,7 +14,6 @@ use Rattle.desk.specs.Shared.{held, records_for, records_of}
 use Rattle.desk.specs.declared.Desk.{Desk}
 use Rattle.desk.specs.declared.Edition.{Edition}
 use Rattle.desk.specs.declared.Record.{Record}
-use Rattle.desk.specs.declared.Replacing.{Replacing}
 use Rattle.history.specs.Demand3.{first_part, no-others, numbered}
 use Rattle.history.specs.History.{Account, account_at, grown, no_account, on_serial, Proper, records_due, replacing, run, start, step, stream, World}
 use Rattle.matching.specs.Words.{AllBelow, Below, Word}
@@ -57,13 +56,13 @@ pub record Begun (ts : Tags) (w : World) (d : Desk) (table : Lent) : Type 0 wher
   pub empty : w.desk.records.count ≡ 0
 
 pub begun : (set : List ℕ) (lent : Lent) (ts : Tags) (edition : Edition) (count : ℕ) → desk_set set ≡ good_set ts
-    → (replace_of (new_desk one_bit) (by_set set) (sizes_of lent)).answer ≡ R.Replaced edition count
+    → (replace_of (new_desk one_bit) (by_set set) (sizes_of lent)).answer ≡ Ok (replaced_as edition count)
     → Begun ts (step (step (start one_bit) (call_replace (by_set set) lent)) call_open)
     (open_of (replace_of (new_desk one_bit) (by_set set) (sizes_of lent)).desk).desk (replaced_run (new_desk one_bit) (by_set set) lent)
 unfolding open_of first_room
 begun set lent ts edition count tags accepted = go _ (replaces (new_desk one_bit) (by_set set) (sizes_of lent)) accepted
   where
-    go : (r : Replacing) → Replaces (new_desk one_bit) (by_set set) (sizes_of lent) r → r.answer ≡ R.Replaced edition count
+    go : (r : Replacing) → Replaces (new_desk one_bit) (by_set set) (sizes_of lent) r → r.answer ≡ Ok (replaced_as edition count)
         → Begun ts (step (replacing (start one_bit) (by_set set) lent r.desk r.answer) call_open) (open_of r.desk).desk
         (replaced_run (new_desk one_bit) (by_set set) lent)
     go r (replace_fault fault p) q = absurd (let z : ◌≡◌ {A = ℕ} 0 1 = cc in omega arith)
@@ -87,7 +86,7 @@ none-held d e = length_none (held d.records) (held-length d.records ∙ e)
 
 pub writes_the_occurrences : (set : List ℕ) (lent : Lent) (ts : Tags) (edition : Edition) (count : ℕ) (pieces : List Word) (e : Desk) (lines : List ℕ)
     (bytes : Word)
-    → Below 256 set → desk_set set ≡ good_set ts → (replace_of (new_desk one_bit) (by_set set) (sizes_of lent)).answer ≡ R.Replaced edition count → AllBelow 256 pieces
+    → Below 256 set → desk_set set ≡ good_set ts → (replace_of (new_desk one_bit) (by_set set) (sizes_of lent)).answer ≡ Ok (replaced_as edition count) → AllBelow 256 pieces
     → ServedAll (serial_of 1) (replaced_run (new_desk one_bit) (by_set set) lent)
     (open_of (replace_of (new_desk one_bit) (by_set set) (sizes_of lent)).desk).desk pieces e lines bytes
     → lines ≡ lines_of (records_of (serial_of 1) (edition_of 1) (found_in ts bytes))

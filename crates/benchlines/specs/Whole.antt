@@ -1,8 +1,8 @@
 -- An input of no more than 4,294,967,295 bytes is taken whole: only LONG ends the run before the input ends.
-use Rattle.desk.specs.declared.FeedAnswer.TheVariants as F
-use Rattle.desk.specs.declared.ReplaceAnswer.TheVariants as R
+use Rattle.desk.specs.Given.{Feeding, replaced_as}
+use Rattle.desk.specs.declared.FeedRefusal.TheVariants as F
 use Rattle.desk.specs.declared.StateAnswer.TheVariants as A
-use Rattle.std.specs.Prelude.{ℕ, ◌+◌, ◌<◌, ◌≤◌, ◌≡◌, refl, drop, get_or, length, take}
+use Rattle.std.specs.Prelude.{ℕ, ◌+◌, ◌<◌, ◌≤◌, ◌≡◌, refl, drop, get_or, length, take, Ok, Err}
 use mathlib.Core.List.{List, [], ◌∷◌, ◌++◌}
 use Rattle.std.proofs.Common.{◌∙◌, arith, length-append, length-drop, length-take-le, take_all}
 use Rattle.std.proofs.Math.Path.{ap}
@@ -17,7 +17,6 @@ use Rattle.desk.specs.Shared.{records_of}
 use Rattle.desk.specs.State.{state_of}
 use Rattle.desk.specs.declared.Desk.{Desk}
 use Rattle.desk.specs.declared.Edition.{Edition}
-use Rattle.desk.specs.declared.Feeding.{Feeding}
 use Rattle.history.specs.History.{Account, account_at, grown, no_account, on_serial, Proper, run, start, step, World}
 use Rattle.history.specs.Laws.Becomes.{proper_append, proper-one, run_append}
 use Rattle.history.specs.Laws.Feeding.{agrees}
@@ -62,10 +61,10 @@ module _ {ts : Tags} {before : Word} {calls : List Call} (ready : Ready ts befor
   ticket_open = state-is w v 0 one ∙ ap (λ (a : Account). state_of_account w.edition a) account
       ∙ ap (λ (e : ℕ). state_of_account e (account_of ts before)) ready.edition-is
 
-  not-long : (piece : Word) → length before + length piece ≤ largest → (feed_of w.desk (serial_of 1) w.table piece).answer ≡ F.Long → ⊥
+  not-long : (piece : Word) → length before + length piece ≤ largest → (feed_of w.desk (serial_of 1) w.table piece).answer ≡ Err F.Long → ⊥
   not-long piece few e = go _ (feeds w.desk (serial_of 1) w.table piece) e
     where
-      go : (r : Feeding) → Feeds w.desk (room_of w.desk.tickets (serial_of 1)) w.table piece r → r.answer ≡ F.Long → ⊥
+      go : (r : Feeding) → Feeds w.desk (room_of w.desk.tickets (serial_of 1)) w.table piece r → r.answer ≡ Err F.Long → ⊥
       go r (feed_no-ticket h) q = absurd (let z : ◌≡◌ {A = ℕ} 0 1 = cc in omega arith)
       go r (feed_stale h n) q = absurd (let z : ◌≡◌ {A = ℕ} 0 1 = cc in omega arith)
       go r (feed_other-slots h n m) q = absurd (let z : ◌≡◌ {A = ℕ} 0 1 = cc in omega arith)
@@ -138,7 +137,7 @@ whole_input {before = before} calls ready at lent below few (one_piece {piece = 
 -- so bench writes the occurrences in the whole input
 pub whole_input_written : (set : List ℕ) (lent : Lent) (ts : Tags) (edition : Edition) (count : ℕ) (pieces : List Word) (e : Desk) (lines : List ℕ)
     (bytes : Word)
-    → Below 256 set → desk_set set ≡ good_set ts → (replace_of (new_desk one_bit) (by_set set) (sizes_of lent)).answer ≡ R.Replaced edition count → AllBelow 256 pieces
+    → Below 256 set → desk_set set ≡ good_set ts → (replace_of (new_desk one_bit) (by_set set) (sizes_of lent)).answer ≡ Ok (replaced_as edition count) → AllBelow 256 pieces
     → length (joined pieces) ≤ largest
     → ServedAll (serial_of 1) (replaced_run (new_desk one_bit) (by_set set) lent)
     (open_of (replace_of (new_desk one_bit) (by_set set) (sizes_of lent)).desk).desk pieces e lines bytes

@@ -1,4 +1,5 @@
 -- Laws of calls: from what the parts of a call ensure to what the call did.
+use Rattle.desk.specs.Given.{Feeding, Replacing}
 use Rattle.std.specs.Prelude.{ℕ, ◌+◌, ◌-◌, ◌≤◌, List, ◌++◌, ◌≡◌, refl, length, take, drop, set}
 use Rattle.std.proofs.Common.{arith, ap, ap₂, subst, sym, ◌∙◌, length-take-le}
 use Rattle.std.proofs.lemmas.List.{length-replicate}
@@ -8,8 +9,6 @@ use Rattle.desk.specs.Feed.{feed_of}
 use Rattle.desk.specs.Replace.{replace_of, replaced_run}
 use Rattle.desk.specs.Rooms.{serial_of}
 use Rattle.desk.specs.declared.Desk.{Desk}
-use Rattle.desk.specs.declared.Feeding.{Feeding}
-use Rattle.desk.specs.declared.Replacing.{Replacing}
 use Rattle.reading.specs.Outside.{ReadAt, list_by}
 use Rattle.script.specs.Laws.Bytes.{front-put}
 use Rattle.script.specs.Calls.{Bounded, size_of}

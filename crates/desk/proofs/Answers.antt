@@ -1,6 +1,6 @@
 -- What the desk's calls give, and what is returned with their refusals.
-use Rattle.desk.specs.declared.FeedAnswer.TheVariants as F
-use Rattle.std.specs.Prelude.{◌-◌, [], ◌∷◌, ◌≡◌, refl, length}
+use Rattle.desk.specs.Given.{Feeding}
+use Rattle.std.specs.Prelude.{◌-◌, [], ◌∷◌, ◌≡◌, refl, length, Ok}
 use Rattle.std.proofs.Common.{ap, subst, sym, arith}
 use Rattle.desk.specs.Conditions.{Current, HasRoom, SameSlots, TooLong, ticket_of}
 use Rattle.desk.specs.Feed.{advance, fed_by, feed_of, read_on}
@@ -15,7 +15,6 @@ use Rattle.desk.specs.Reached.{Reached}
 use Rattle.desk.specs.Rooms.{room_of}
 use Rattle.desk.specs.Shared.{records_of}
 use Rattle.desk.specs.declared.Desk.{Desk}
-use Rattle.desk.specs.declared.Feeding.{Feeding}
 use Rattle.desk.specs.declared.Serial.{Serial}
 use Rattle.matching.specs.Words.{Word}
 use Rattle.matching.specs.declared.Stop.TheVariants.{Damaged}
@@ -42,10 +41,10 @@ module _ (d : Desk) (s : Serial) (table : Lent) (piece : Word) where
       go r (feed_read h x l m) = (λ e. absurd (omega (arith, e)), λ a b. absurd (a refl))
 
   -- a run whose slot count differs from that at replacement: DAMAGED with 0 taken, and the desk as it was
-  pub other-slots : HasRoom d s → Current d s → (SameSlots d table → ⊥) → feed_of d s table piece ≡ record { desk = d; answer = F.Fed (advance 0 0 Damaged) }
+  pub other-slots : HasRoom d s → Current d s → (SameSlots d table → ⊥) → feed_of d s table piece ≡ record { desk = d; answer = Ok (advance 0 0 Damaged) }
   other-slots room current other = go _ (feeds d s table piece)
     where
-      go : (r : Feeding) → Feeds d (room_of d.tickets s) table piece r → r ≡ record { desk = d; answer = F.Fed (advance 0 0 Damaged) }
+      go : (r : Feeding) → Feeds d (room_of d.tickets s) table piece r → r ≡ record { desk = d; answer = Ok (advance 0 0 Damaged) }
       go r (feed_no-ticket h) = absurd (omega arith)
       go r (feed_stale h x) = absurd (x current)
       go r (feed_other-slots h x l) = refl
@@ -66,7 +65,7 @@ module _ (d : Desk) (s : Serial) (table : Lent) (piece : Word) where
         go r (feed_read h x l m) = refl
 
     -- the answer is the reading's: the bytes taken, the number of records and the reason for stopping
-    pub feed_reads : (feed_of d s table piece).answer ≡ F.Fed (advance (reading d s table piece).taken (length (reading d s table piece).found) (reading d s table piece).stop)
+    pub feed_reads : (feed_of d s table piece).answer ≡ Ok (advance (reading d s table piece).taken (length (reading d s table piece).found) (reading d s table piece).stop)
     feed_reads = ap (λ (f : Feeding). f.answer) read-then
 
     -- and what it leaves is the reading's too

@@ -1,4 +1,5 @@
 -- How the loop of `hand_out` goes on: what is left is still to be taken, and written where it belongs.
+use Rattle.desk.specs.Given.{TakingMany}
 use Prim.Native.Nat.{◌%◌, ◌*◌, ◌+◌, ◌-◌, ◌/◌, ◌<◌, ◌≤◌, suc, zero, ℕ}
 use mathlib.Core.List.{List, ◌++◌, ◌∷◌}
 use mathlib.Core.Path.{◌∙◌, ◌≡◌, ap, ap₂, refl, subst}
@@ -13,7 +14,6 @@ use Rattle.desk.specs.TakeMany.{list_taken, many_of, oldest, record_numbers, tak
 use Rattle.desk.specs.declared.Desk.{Desk}
 use Rattle.desk.specs.declared.Record.{Record}
 use Rattle.desk.specs.declared.Records.{Records}
-use Rattle.desk.specs.declared.TakingMany.{TakingMany}
 
 pub record HandingOut (q₀ : Records) (n : ℕ) (l₀ : List ℕ) (q : Records) (l : List ℕ) (j : ℕ) : Type 0 where
   pub most : j ≤ n
@@ -77,13 +77,13 @@ numbers_length (suc n) q = omega (arith, numbers_length n (popped q))
 -- what `take_many` returns and leaves
 pub taken-many : (d : Desk) (l l' : List ℕ) (n : ℕ) (q : Records) → n ≡ many_of d (length l) → q ≡ without n d.records
     → l' ≡ sets l 0 (record_numbers (oldest n d.records))
-    → (◌≡◌ {A = TakingMany} (record { desk = with_records d q; count = n }) (take_many_of d (length l))) × (l' ≡ list_taken d l (many_of d (length l)))
+    → (◌≡◌ {A = TakingMany} (record { desk = with_records d q; answer = n }) (take_many_of d (length l))) × (l' ≡ list_taken d l (many_of d (length l)))
 unfolding take_many_of list_taken
 taken-many d l l' n q e f g =
     let s : length (record_numbers (oldest n d.records)) ≡ 4 * n = numbers_length n d.records in (
-      subst (λ (k : ℕ). ◌≡◌ {A = TakingMany} (record { desk = with_records d q; count = n })
-          (record { desk = with_records d (without k d.records); count = k })) e
-          (ap {B = TakingMany} (λ (x : Records). record { desk = with_records d x; count = n }) f),
+      subst (λ (k : ℕ). ◌≡◌ {A = TakingMany} (record { desk = with_records d q; answer = n })
+          (record { desk = with_records d (without k d.records); answer = k })) e
+          (ap {B = TakingMany} (λ (x : Records). record { desk = with_records d x; answer = n }) f),
       g ∙ sets-eq (record_numbers (oldest n d.records)) l 0 (omega (arith, s, e, min-le_right d.records.count (length l / 4)))
           ∙ ap (λ (k : ℕ). record_numbers (oldest n d.records) ++ drop k l) (ap (λ (k : ℕ). 0 + k) s ∙ zero-add (4 * n))
           ∙ ap (λ (k : ℕ). record_numbers (oldest k d.records) ++ drop (4 * k) l) e,

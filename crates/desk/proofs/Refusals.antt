@@ -1,6 +1,7 @@
 -- The refusals of the desk's calls but `replace`, whose rows `replace_exact` has, in their order: the number that a call gives is that of the first ground
 -- that holds, which `first_of_iff`
 -- (matching) says in full.
+use Rattle.desk.specs.Given.{Opening, Feeding, Closing}
 use Rattle.std.specs.Prelude.{suc, ◌≡◌, length}
 use Rattle.std.proofs.Common.{ap, sym, le_of_eq, le_trans, arith, eq-eqb, ne_eqb, lt-ltb, le-ltb}
 use Rattle.desk.specs.Calls.{close_of, open_of}
@@ -14,10 +15,7 @@ use Rattle.desk.proofs.Laws.Views.{feeds}
 use Rattle.desk.specs.Numbers.{close_number, feed_number, open_number}
 use Rattle.desk.specs.Reached.{Reached}
 use Rattle.desk.specs.Rooms.{room_of, tickets_held}
-use Rattle.desk.specs.declared.Closing.{Closing}
 use Rattle.desk.specs.declared.Desk.{Desk}
-use Rattle.desk.specs.declared.Feeding.{Feeding}
-use Rattle.desk.specs.declared.Opening.{Opening}
 use Rattle.desk.specs.declared.Serial.{Serial}
 use Rattle.matching.specs.Refusal.{first_of}
 use Rattle.matching.specs.Words.{Word}

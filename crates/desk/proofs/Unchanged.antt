@@ -1,6 +1,6 @@
 -- A refused call changes nothing at all, and neither does a feed that stops with no byte taken.
-use Rattle.desk.specs.declared.FeedAnswer.TheVariants as F
-use Rattle.std.specs.Prelude.{◌+◌, ◌-◌, suc, zero, ℕ, List, [], ◌∷◌, ◌≡◌, refl, set}
+use Rattle.desk.specs.Given.{Opening, Feeding, Closing}
+use Rattle.std.specs.Prelude.{◌+◌, ◌-◌, suc, zero, ℕ, List, [], ◌∷◌, ◌≡◌, refl, set, Ok}
 use Rattle.std.proofs.Common.{◌∙◌, ap, ap₂, arith}
 use Rattle.desk.specs.Calls.{close_of, open_of, with_records, with_tickets}
 use Rattle.desk.specs.Feed.{advance, fed_by, feed_of, read_for, read_on, taken_by}
@@ -10,10 +10,7 @@ use Rattle.desk.proofs.Laws.Views.{feeds}
 use Rattle.desk.specs.Numbers.{close_number, feed_number, open_number}
 use Rattle.desk.specs.Rooms.{room_of, ticket_in}
 use Rattle.desk.specs.Shared.{push_all, records_of}
-use Rattle.desk.specs.declared.Closing.{Closing}
 use Rattle.desk.specs.declared.Desk.{Desk}
-use Rattle.desk.specs.declared.Feeding.{Feeding}
-use Rattle.desk.specs.declared.Opening.{Opening}
 use Rattle.desk.specs.declared.Serial.{Serial}
 use Rattle.desk.specs.declared.Ticket.{Ticket}
 use Rattle.matching.specs.Occurrence.{Occurrence}
@@ -54,7 +51,7 @@ feed_refused d s table piece = go _ (feeds d s table piece)
 
 -- a stop with no byte taken changes nothing either, over any table
 pub feed_idle : (d : Desk) (s : Serial) (table : Lent) (piece : Word) → (records : ℕ) (stop : Stop)
-    → (feed_of d s table piece).answer ≡ F.Fed (advance 0 records stop) → (feed_of d s table piece).desk ≡ d
+    → (feed_of d s table piece).answer ≡ Ok (advance 0 records stop) → (feed_of d s table piece).desk ≡ d
 unfolding push_all
 feed_idle d s table piece records stop q = go _ (feeds d s table piece) q
   where
@@ -76,7 +73,7 @@ feed_idle d s table piece records stop q = go _ (feeds d s table piece) q
         set_back (x ∷ l) zero = refl
         set_back (x ∷ l) (suc j) = ap {B = List Ticket} (λ (y : List Ticket). x ∷ y) (set_back l j)
 
-    go : (r : Feeding) → Feeds d i table piece r → r.answer ≡ F.Fed (advance 0 records stop) → r.desk ≡ d
+    go : (r : Feeding) → Feeds d i table piece r → r.answer ≡ Ok (advance 0 records stop) → r.desk ≡ d
     go r (feed_no-ticket h) e = refl
     go r (feed_stale h x) e = refl
     go r (feed_other-slots h x l) e = refl

@@ -1,6 +1,7 @@
 -- The conditions under which each call is refused, in the rules' words; the grounds in their order; and for each number exactly when it
 -- is given: its condition holds and none earlier in the order does.
-use Rattle.std.specs.Prelude.{ℕ, ◌+◌, ◌<◌, not, List, [], ◌∷◌, ◌↔◌, ◌≡◌, eqb, ltb, length}
+use Rattle.desk.specs.Given.{OpenAnswer, FeedAnswer, CloseAnswer, TakeAnswer, ReplaceAnswer, replaced_as}
+use Rattle.std.specs.Prelude.{ℕ, ◌+◌, ◌<◌, not, List, [], ◌∷◌, ◌↔◌, ◌≡◌, eqb, ltb, length, Ok, Some}
 use Rattle.matching.specs.Refusal.{Ground, ◌if◌}
 use Rattle.matching.specs.Words.{Word}
 use Rattle.desk.specs.Rooms.{serial_of, edition_of, ticket_in, room_of, tickets_held}
@@ -11,14 +12,6 @@ use Rattle.desk.specs.declared.Edition.{Edition}
 use Rattle.desk.specs.declared.Ticket.{Ticket}
 use Rattle.desk.specs.declared.Record.{Record}
 use Rattle.desk.specs.declared.Desk.{Desk}
-use Rattle.desk.specs.declared.ReplaceAnswer.{ReplaceAnswer}
-use Rattle.desk.specs.declared.ReplaceAnswer.TheVariants as R
-use Rattle.desk.specs.declared.OpenAnswer.{OpenAnswer}
-use Rattle.desk.specs.declared.OpenAnswer.TheVariants as O
-use Rattle.desk.specs.declared.FeedAnswer.{FeedAnswer}
-use Rattle.desk.specs.declared.CloseAnswer.{CloseAnswer}
-use Rattle.desk.specs.declared.TakeAnswer.{TakeAnswer}
-use Rattle.desk.specs.declared.TakeAnswer.TheVariants as K
 use Rattle.desk.specs.Layout.{DeskAnswers, DeskBuilds, Fits, Lent, lent_fits, Order, Sizes, sizes_of}
 use Rattle.desk.specs.Limits.{most_tickets}
 use Rattle.matching.specs.Limits.{largest}
@@ -90,7 +83,7 @@ pub record OpenExact (d : Desk) (a : OpenAnswer) : Type 0 where
   pub no-set : (open_number a ≡ 9) ↔ NoSet d
   pub last_serial : (open_number a ≡ 10) ↔ ((NoSet d → ⊥) × LastSerial d)
   pub no_room : (open_number a ≡ 11) ↔ ((NoSet d → ⊥) × (LastSerial d → ⊥) × AllHeld d)
-  pub opened : (s : Serial) → (a ≡ O.Opened s) ↔ ((NoSet d → ⊥) × (LastSerial d → ⊥) × (AllHeld d → ⊥) × (s ≡ serial_of (d.serial.0 + 1)))
+  pub opened : (s : Serial) → (a ≡ Ok s) ↔ ((NoSet d → ⊥) × (LastSerial d → ⊥) × (AllHeld d → ⊥) × (s ≡ serial_of (d.serial.0 + 1)))
 
 -- feed: 12, 13, then a run of another slot count, which is a stop and no refusal, then 14; else none. What is answered then: `other-slots`, and
 -- `feed_reads`
@@ -108,11 +101,11 @@ pub record CloseExact (d : Desk) (s : Serial) (a : CloseAnswer) : Type 0 where
 -- take: 16; else the oldest of the records held
 pub record TakeExact (d : Desk) (a : TakeAnswer) : Type 0 where
   pub nothing : (take_number a ≡ 16) ↔ NoneHeld d
-  pub taken : (r : Record) → (a ≡ K.Taken r) ↔ ((rest : List Record) × (held d.records ≡ r ∷ rest))
+  pub taken : (r : Record) → (a ≡ Some r) ↔ ((rest : List Record) × (held d.records ≡ r ∷ rest))
 
 -- replace: set faults and TABLE with their values, as building gives them; then 8; else the next edition and the number of tags
 pub record ReplaceExact (d : Desk) (order : Order) (len : Sizes) (a : ReplaceAnswer) : Type 0 where
   pub building : (n : ℕ) (values : List ℕ) → 0 < n → n < 8 → ((replace_number a ≡ n) × (replace_values a ≡ values)) ↔ DeskAnswers order len n values
   pub last_edition : (replace_number a ≡ 8) ↔ (((count : ℕ) × DeskBuilds order len count) × LastEdition d)
-  pub replaced : (e : Edition) (count : ℕ) → (a ≡ R.Replaced e count) ↔
+  pub replaced : (e : Edition) (count : ℕ) → (a ≡ Ok (replaced_as e count)) ↔
       (DeskBuilds order len count × (LastEdition d → ⊥) × (e ≡ edition_of (d.edition.0 + 1)))

@@ -1,5 +1,6 @@
 -- Feeding a piece to one ticket.
-use Rattle.std.specs.Prelude.{ℕ, ◌+◌, ◌-◌, Bool, true, false, eqb, ltb, length}
+use Rattle.desk.specs.Given.{FeedAnswer, Feeding}
+use Rattle.std.specs.Prelude.{ℕ, ◌+◌, ◌-◌, Bool, true, false, eqb, ltb, length, Ok, Err}
 use Rattle.matching.specs.Words.{Word}
 use Rattle.matching.specs.Reading.{Outcome}
 use Rattle.matching.specs.declared.Stop.TheVariants.{Damaged}
@@ -9,9 +10,7 @@ use Rattle.desk.specs.Shared.{records_of, push_all}
 use Rattle.desk.specs.declared.Serial.{Serial}
 use Rattle.desk.specs.declared.Ticket.{Ticket}
 use Rattle.desk.specs.declared.Desk.{Desk}
-use Rattle.desk.specs.declared.Feeding.{Feeding}
-use Rattle.desk.specs.declared.FeedAnswer.{FeedAnswer}
-use Rattle.desk.specs.declared.FeedAnswer.TheVariants as F
+use Rattle.desk.specs.declared.FeedRefusal.TheVariants as F
 use Rattle.desk.specs.Layout.{Lent, desk_read, lent_fits, place_fits, sizes_of}
 use Rattle.desk.specs.Limits.{most_records, most_tickets}
 use Rattle.matching.specs.Limits.{largest}
@@ -34,18 +33,18 @@ advance taken records stop = record { taken = taken; records = records; stop = s
 abbrev pub fed_by : Desk → ℕ → Ticket → Outcome → Feeding
 fed_by d i t r = record {
   desk = with_records (with_ticket d i (read_on t r)) (push_all d.records (records_of t.serial t.edition r.found));
-  answer = F.Fed (advance r.taken (length r.found) r.stop);
+  answer = Ok (advance r.taken (length r.found) r.stop);
 }
 
 -- by whether the serial has a room, whether its ticket is of the edition in force, whether each run has the slots of the last
 -- replacement, whether the bytes taken and the piece pass 4,294,967,295, and whether the ticket's states are below the slots, as those of
 -- a desk that the calls have made always are
 abbrev pub feed_by : Desk → ℕ → Ticket → Lent → Word → Bool → Bool → Bool → Bool → Bool → Feeding
-feed_by d i t table piece false ours same long below = record { desk = d; answer = F.NoTicket }
-feed_by d i t table piece true false same long below = record { desk = d; answer = F.Stale t.edition }
-feed_by d i t table piece true true false long below = record { desk = d; answer = F.Fed (advance 0 0 Damaged) }
-feed_by d i t table piece true true true true below = record { desk = d; answer = F.Long }
-feed_by d i t table piece true true true false false = record { desk = d; answer = F.Fed (advance 0 0 Damaged) }
+feed_by d i t table piece false ours same long below = record { desk = d; answer = Err F.NoTicket }
+feed_by d i t table piece true false same long below = record { desk = d; answer = Err (F.Stale t.edition) }
+feed_by d i t table piece true true false long below = record { desk = d; answer = Ok (advance 0 0 Damaged) }
+feed_by d i t table piece true true true true below = record { desk = d; answer = Err F.Long }
+feed_by d i t table piece true true true false false = record { desk = d; answer = Ok (advance 0 0 Damaged) }
 feed_by d i t table piece true true true false true = fed_by d i t (read_for d t table piece)
 
 -- for the ticket in room i, once nothing refuses it
@@ -67,7 +66,5 @@ feed_of d s table piece = feed_in d (room_of d.tickets s) table piece
 
 -- the bytes that a feed took; none where it was refused
 abbrev pub taken_by : FeedAnswer → ℕ
-taken_by (F.Fed a) = a.taken
-taken_by F.NoTicket = 0
-taken_by (F.Stale edition) = 0
-taken_by F.Long = 0
+taken_by (Ok a) = a.taken
+taken_by (Err why) = 0

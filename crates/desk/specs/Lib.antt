@@ -1,4 +1,5 @@
 -- What the desk's calls answer and leave.
+pub mod Given
 pub mod Limits
 pub mod Layout
 pub mod Rooms

@@ -1,5 +1,5 @@
 -- Taking many records at once: as many of the oldest as a lent list has room for, four numbers each. It is so many takings in one call.
-use Rattle.desk.specs.declared.TakingMany.{TakingMany}
+use Rattle.desk.specs.Given.{TakingMany}
 use Rattle.std.specs.Prelude.{ℕ, zero, suc, ◌*◌, ◌/◌, ◌%◌, min, List, [], ◌∷◌, ◌++◌, drop, get_or}
 use Rattle.desk.specs.Calls.{with_records}
 use Rattle.desk.specs.Shared.{no_record, popped}
@@ -27,7 +27,7 @@ abbrev pub many_of : Desk → ℕ → ℕ
 many_of d len = min d.records.count (len / 4)
 
 unfoldable pub take_many_of : Desk → ℕ → TakingMany
-take_many_of d len = record { desk = with_records d (without (many_of d len) d.records); count = many_of d len }
+take_many_of d len = record { desk = with_records d (without (many_of d len) d.records); answer = many_of d len }
 
 -- the list after it
 unfoldable pub list_taken : Desk → List ℕ → ℕ → List ℕ

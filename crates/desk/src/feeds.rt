@@ -1,22 +1,22 @@
 // What a feed answers once its ticket is found and current.
-ghost use Rattle.std.specs.Prelude.{◌≡◌, ◌+◌, ◌<◌, ◌≤◌, length};
+ghost use Rattle.std.specs.Prelude.{◌≡◌, ◌+◌, ◌<◌, ◌≤◌, length, Ok};
 ghost use Rattle.matching.specs.Limits.{largest};
 ghost use Rattle.desk.specs.Limits.{most_tickets};
 ghost use Rattle.desk.specs.Feed.{advance, read_in};
 ghost use Rattle.desk.specs.Layout.{lent};
 
-use crate::{Advance, Desk, FeedAnswer, Feeding, Ticket, scan, shared};
+use crate::{Advance, After, Desk, FeedRefusal, Ticket, scan, shared};
 use matching::Stop;
 
-pub fn damaged(desk: Desk) -> Feeding
-    ensures { (result.desk ≡ desk) × (result.answer ≡ FeedAnswer.Fed (advance 0 0 Stop.Damaged)) }
+pub fn damaged(desk: Desk) -> After<Result<Advance, FeedRefusal>>
+    ensures { (result.desk ≡ desk) × (result.answer ≡ Ok (advance 0 0 Stop.Damaged)) }
 {
-    let answer = FeedAnswer::Fed(Advance {
+    let answer = Ok(Advance {
         taken: 0,
         records: 0,
         stop: Stop::Damaged,
     });
-    Feeding { desk, answer }
+    After { desk, answer }
 }
 
 // The reading for the ticket in room i, once nothing refuses it; its records go behind those held.
@@ -27,7 +27,7 @@ pub fn read_on(
     first: &[u16],
     second: &[u16],
     piece: &[u8],
-) -> Feeding
+) -> After<Result<Advance, FeedRefusal>>
     requires { (i < most_tickets) × (t.taken + length piece.now ≤ largest) }
     ensures { result ≡ read_in desk i t (lent first.now second.now) piece.now }
 {
@@ -52,10 +52,10 @@ pub fn read_on(
         place: after,
     };
     fed.records = records;
-    let answer = FeedAnswer::Fed(Advance {
+    let answer = Ok(Advance {
         taken: read.taken,
         records: read.records,
         stop,
     });
-    Feeding { desk: fed, answer }
+    After { desk: fed, answer }
 }

@@ -2,36 +2,41 @@
 ghost use Rattle.std.specs.Prelude.{◌≡◌, Ok, not, false, eqb};
 ghost use Rattle.desk.specs.Replace.{replace_by};
 
-use crate::{Desk, Edition, ReplaceAnswer, Replacing};
+use crate::{After, Desk, Edition, ReplaceRefusal, Replaced};
 use tables::BuildFault;
 
 // By what building answered, and whether an edition is left.
-pub fn replaced(desk: Desk, s: [usize; 2], built: Result<usize, BuildFault>, write: bool) -> Replacing
+pub fn replaced(
+    desk: Desk,
+    s: [usize; 2],
+    built: Result<usize, BuildFault>,
+    write: bool,
+) -> After<Result<Replaced, ReplaceRefusal>>
     requires { write ≡ not (eqb desk.edition.0 4294967295) }
     ensures { result ≡ replace_by desk s built (eqb desk.edition.0 4294967295) }
 {
     match built {
-        Err(BuildFault::Set(fault)) => Replacing {
+        Err(BuildFault::Set(fault)) => After {
             desk,
-            answer: ReplaceAnswer::Fault(fault),
+            answer: Err(ReplaceRefusal::Fault(fault)),
         },
-        Err(BuildFault::Table(machine, needs)) => Replacing {
+        Err(BuildFault::Table(machine, needs)) => After {
             desk,
-            answer: ReplaceAnswer::Table(machine, needs),
+            answer: Err(ReplaceRefusal::Table(machine, needs)),
         },
         Ok(count) => {
             if write {
                 return under_next(desk, s, count);
             }
-            Replacing {
+            After {
                 desk,
-                answer: ReplaceAnswer::EditionEnd,
+                answer: Err(ReplaceRefusal::EditionEnd),
             }
         }
     }
 }
 
-fn under_next(desk: Desk, s: [usize; 2], count: usize) -> Replacing
+fn under_next(desk: Desk, s: [usize; 2], count: usize) -> After<Result<Replaced, ReplaceRefusal>>
     requires { desk.edition.0 ≡ 4294967295 → ⊥ }
     ensures { result ≡ replace_by desk s (Ok count) false }
 {
@@ -40,8 +45,11 @@ fn under_next(desk: Desk, s: [usize; 2], count: usize) -> Replacing
     let mut raised = desk;
     raised.edition = next;
     raised.slots = s;
-    Replacing {
+    After {
         desk: raised,
-        answer: ReplaceAnswer::Replaced(next, count),
+        answer: Ok(Replaced {
+            edition: next,
+            tags: count,
+        }),
     }
 }

@@ -1,6 +1,6 @@
 // Looking for a room: a free one, or that of a serial.
-ghost use Rattle.std.specs.Prelude.{◌≡◌};
-ghost use Rattle.desk.specs.Rooms.{first_room, new_ticket};
+ghost use Rattle.std.specs.Prelude.{◌≡◌, position};
+ghost use Rattle.desk.specs.Rooms.{new_ticket};
 ghost use Rattle.desk.specs.Wanted.{is_wanted};
 
 use crate::{Edition, Serial, Ticket};
@@ -13,7 +13,7 @@ pub fn new_ticket(serial: Serial, edition: Edition) -> Ticket
         serial,
         edition,
         taken: 0,
-        place: [0u16; 16],
+        place: [0; 16],
     }
 }
 
@@ -23,32 +23,19 @@ pub enum Wanted {
     For(Serial),
 }
 
-pub fn is_wanted(t: Ticket, wanted: Wanted) -> bool
-    ensures { result ≡ is_wanted wanted t }
+pub fn is_wanted(t: &Ticket, wanted: Wanted) -> bool
+    ensures { result ≡ is_wanted wanted t.now }
 {
     let its = t.serial;
     match wanted {
         Wanted::Free => its.0 == 0,
-        Wanted::For(serial) => {
-            if its.0 == 0 {
-                return false;
-            }
-            its.0 == serial.0
-        }
+        Wanted::For(serial) => its.0 != 0 && its.0 == serial.0,
     }
 }
 
-// The first room that is wanted; 16 where none is.
-pub fn first_room(tickets: [Ticket; 16], wanted: Wanted) -> usize
-    ensures { result ≡ first_room (is_wanted wanted) tickets }
+// The first room that is wanted.
+pub fn first_room(tickets: &[Ticket; 16], wanted: Wanted) -> Option<usize>
+    ensures { result ≡ position (is_wanted wanted) tickets.now }
 {
-    let mut i = 0;
-    while i < 16 {
-        let t = tickets[i];
-        if is_wanted(t, wanted) {
-            return i;
-        }
-        i += 1;
-    }
-    i
+    tickets.iter().position(|t| is_wanted(t, wanted))
 }

@@ -1,15 +1,7 @@
 -- What a call of the library gives: the desk or the gate after it as the call itself leaves it, and its answer as numbers.
+use Rattle.desk.specs.Given.{Opening, Feeding, Closing, Taking, Replacing, TakingMany}
+use Rattle.gate.specs.Given.{Changing, Beginning, Piecing, Deciding}
 use Rattle.std.specs.Prelude.{List, ◌≡◌, ℕ}
-use Rattle.desk.specs.declared.Closing.{Closing}
-use Rattle.desk.specs.declared.Feeding.{Feeding}
-use Rattle.desk.specs.declared.Opening.{Opening}
-use Rattle.desk.specs.declared.Replacing.{Replacing}
-use Rattle.desk.specs.declared.Taking.{Taking}
-use Rattle.desk.specs.declared.TakingMany.{TakingMany}
-use Rattle.gate.specs.declared.Beginning.{Beginning}
-use Rattle.gate.specs.declared.Changing.{Changing}
-use Rattle.gate.specs.declared.Deciding.{Deciding}
-use Rattle.gate.specs.declared.Piecing.{Piecing}
 use Rattle.gate_numbers.specs.Answers.{piece_answer, verdict_answer}
 use Rattle.exports.specs.declared.GateReply.{GateReply}
 use Rattle.exports.specs.declared.MapReply.{MapReply}
@@ -42,7 +34,7 @@ abbrev pub TakeTold : Reply → Taking → Type 0
 TakeTold r x = (r.desk ≡ x.desk) × (r.answer ≡ take_answer x.answer)
 
 abbrev pub ManyTold : TakenMany → TakingMany → Type 0
-ManyTold r x = (r.desk ≡ x.desk) × (r.count ≡ x.count)
+ManyTold r x = (r.desk ≡ x.desk) × (r.count ≡ x.answer)
 
 -- ---- of the gate
 

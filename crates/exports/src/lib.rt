@@ -177,7 +177,7 @@ pub extern "C" fn sleet_desk_take_many(desk: Desk, list: &mut [u32]) -> TakenMan
     let after = r.desk;
     TakenMany {
         desk: after,
-        count: r.count as u64,
+        count: r.answer as u64,
     }
 }
 

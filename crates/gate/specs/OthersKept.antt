@@ -1,6 +1,7 @@
 -- A PIECE MARKS ITS OWN TICKET ONLY: whatever table it is lent, what is kept for every room of another serial is as before. And one feed of it
 -- notes each record that is held with its own, those of earlier feeds of other tickets too.
-use Rattle.std.specs.Prelude.{ℕ, zero, suc, ◌+◌, ◌-◌, ◌<◌, Bool, cond, false, not, true, List, [], ◌++◌, ◌≡◌, refl, eqb, ltb, drop, length}
+use Rattle.desk.specs.Given.{OpenAnswer, Opening, Feeding, Closing, Replacing}
+use Rattle.std.specs.Prelude.{ℕ, zero, suc, ◌+◌, ◌-◌, ◌<◌, Bool, cond, false, not, true, List, [], ◌++◌, ◌≡◌, refl, eqb, ltb, drop, length, Ok, Err}
 use Rattle.std.proofs.Common.{append-nil, ◌∙◌, ap, subst, sym, arith, length-set, get_or-set_other, ltb-true}
 use Rattle.std.proofs.Math.Decide.{ℕ_discrete}
 use Rattle.desk.specs.Calls.{open_of}
@@ -18,14 +19,8 @@ use Rattle.desk.proofs.Laws.Views.{feeds}
 use Rattle.desk.specs.Reached.{Reached, by_call, call_close, call_feed, call_open, call_replace, from_new}
 use Rattle.desk.specs.Rooms.{is_held, room_of, ticket_in}
 use Rattle.desk.specs.Shared.{held, records_for, records_of, round}
-use Rattle.desk.specs.declared.Closing.{Closing}
 use Rattle.desk.specs.declared.Desk.{Desk}
-use Rattle.desk.specs.declared.Feeding.{Feeding}
-use Rattle.desk.specs.declared.OpenAnswer.{OpenAnswer}
-use Rattle.desk.specs.declared.OpenAnswer.TheVariants as O
-use Rattle.desk.specs.declared.Opening.{Opening}
 use Rattle.desk.specs.declared.Record.{Record}
-use Rattle.desk.specs.declared.Replacing.{Replacing}
 use Rattle.desk.specs.declared.Serial.{Serial}
 use Rattle.desk.specs.declared.Ticket.{Ticket}
 use Rattle.gate.specs.Bits.{with_bits}
@@ -241,10 +236,8 @@ settled_begin g k =
     record { masks = wide (open_of g.desk).answer ∙ k.masks; reached = by_call k.reached call_open; none = ap held (go _ (opens g.desk)) ∙ k.none }
   where
     wide : (a : OpenAnswer) → length (begun_seen (open_of g.desk).desk g.seen a) ≡ length g.seen
-    wide (O.Opened s) = length-set g.seen (room_of (open_of g.desk).desk.tickets s) unseen
-    wide O.NoSet = refl
-    wide O.SerialEnd = refl
-    wide O.NoRoom = refl
+    wide (Ok s) = length-set g.seen (room_of (open_of g.desk).desk.tickets s) unseen
+    wide (Err why) = refl
 
     go : (r : Opening) → Opens g.desk r → r.desk.records ≡ g.desk.records
     go r (open_no-set a) = refl

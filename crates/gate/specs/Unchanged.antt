@@ -1,5 +1,6 @@
 -- A refused call of the gate changes nothing at all, whatever the gate, and a piece of no bytes changes nothing either.
-use Rattle.std.specs.Prelude.{ℕ, ◌<◌, Bool, cond, false, true, List, [], ◌≡◌, refl, eqb, ltb, length}
+use Rattle.desk.specs.Given.{OpenAnswer}
+use Rattle.std.specs.Prelude.{ℕ, ◌<◌, Bool, false, true, List, [], ◌≡◌, refl, eqb, ltb, length, Ok, Err}
 use Rattle.std.proofs.Common.{ap, ap₂, eq-eqb, lt-ltb}
 use Rattle.desk.specs.Calls.{open_of}
 use Rattle.desk.specs.Numbers.{open_number, replace_number}
@@ -8,18 +9,14 @@ use Rattle.desk.specs.Rooms.{room_of, ticket_in}
 use Rattle.desk.specs.Unchanged.{replace_refused}
 use Rattle.desk.proofs.Unchanged.{open_refused}
 use Rattle.desk.specs.declared.Desk.{Desk}
-use Rattle.desk.specs.declared.Edition.{Edition}
-use Rattle.desk.specs.declared.OpenAnswer.{OpenAnswer}
-use Rattle.desk.specs.declared.OpenAnswer.TheVariants as O
 use Rattle.desk.specs.declared.Serial.{Serial}
 use Rattle.gate.specs.Feeding.{fed_on}
-use Rattle.gate.specs.Gate.{begin_of, change_of, decide_by, decide_of, ended_by, piece_by, piece_of, verdict_by}
-use Rattle.gate.specs.Noting.{begun_seen, seen_in}
+use Rattle.gate.specs.Gate.{begin_of, change_of, decide_by, decide_of, ended_by, piece_by, piece_of}
+use Rattle.gate.specs.Noting.{begun_seen}
 use Rattle.gate.specs.Numbers.{piece_number, verdict_number}
 use Rattle.gate.specs.declared.Gate.{Gate}
-use Rattle.gate.specs.declared.PieceAnswer.TheVariants as P
+use Rattle.gate.specs.declared.Piece.TheVariants as P
 use Rattle.gate.specs.declared.Seen.{Seen}
-use Rattle.gate.specs.declared.Verdict.TheVariants as Q
 use Rattle.matching.specs.Words.{Word}
 use Rattle.desk.specs.Layout.{Lent, Order, sizes_of}
 use Rattle.desk.specs.Limits.{most_tickets}
@@ -53,26 +50,14 @@ piece-refused g s table piece =
 -- a decision refused NO TICKET
 pub decide_refused : (g : Gate) (s : Serial) → (verdict_number (decide_of g s).answer ≡ 0 → ⊥) → (decide_of g s).gate ≡ g
 unfolding decide_of
-decide_refused g s = room (ltb i most_tickets)
+decide_refused g s = go (ltb i most_tickets)
   where
     i : ℕ
     i = room_of g.desk.tickets s
 
-    its : Edition
-    its = (ticket_in g.desk.tickets i).edition
-
-    seen : (a b : Bool) → verdict_number (cond a (cond b Q.Pass (Q.Hold (seen_in g.seen i).mask)) Q.Unread) ≡ 0
-    seen true true = refl
-    seen true false = refl
-    seen false b = refl
-
-    given : (a : Bool) → verdict_number (verdict_by its (seen_in g.seen i) a) ≡ 0
-    given true = seen (eqb (seen_in g.seen i).unread 0) (eqb (seen_in g.seen i).mask 0)
-    given false = refl
-
-    room : (a : Bool) → (verdict_number (decide_by g s i a).answer ≡ 0 → ⊥) → (decide_by g s i a).gate ≡ g
-    room false n = refl
-    room true n = absurd (n (given (eqb its.0 g.desk.edition.0)))
+    go : (a : Bool) → (verdict_number (decide_by g s i a).answer ≡ 0 → ⊥) → (decide_by g s i a).gate ≡ g
+    go false n = refl
+    go true n = absurd (n refl)
 
 -- an opening refused as the desk refuses it
 pub begin_refused : (g : Gate) → (open_number (begin_of g).answer ≡ 0 → ⊥) → (begin_of g).gate ≡ g
@@ -81,10 +66,8 @@ begin_refused g n =
     ap₂ (λ (d : Desk) (l : List Seen). record { desk = d; seen = l }) (open_refused g.desk n) (go (open_of g.desk).answer n)
   where
     go : (a : OpenAnswer) → (open_number a ≡ 0 → ⊥) → begun_seen (open_of g.desk).desk g.seen a ≡ g.seen
-    go (O.Opened s) z = absurd (z refl)
-    go O.NoSet z = refl
-    go O.SerialEnd z = refl
-    go O.NoRoom z = refl
+    go (Ok s) z = absurd (z refl)
+    go (Err why) z = refl
 
 -- a replacement refused as the desk refuses it: the gate and the lent table hold what they held
 pub change_refused : (g : Gate) (order : Order) (run : Lent) → (replace_number (change_of g order (sizes_of run)).answer ≡ 0 → ⊥)
@@ -109,6 +92,6 @@ piece-empty g s table = go (ltb i most_tickets) (eqb (ticket_in g.desk.tickets i
 
 -- and for a ticket of the edition in force it is read
 pub piece-empty-read : (g : Gate) (s : Serial) (table : Lent) → room_of g.desk.tickets s < most_tickets
-    → (ticket_in g.desk.tickets (room_of g.desk.tickets s)).edition.0 ≡ g.desk.edition.0 → (piece_of g s table []).answer ≡ P.Read
+    → (ticket_in g.desk.tickets (room_of g.desk.tickets s)).edition.0 ≡ g.desk.edition.0 → (piece_of g s table []).answer ≡ Ok P.Read
 unfolding piece_of fed_on
 piece-empty-read g s table h e = rw (lt-ltb _ most_tickets h, eq-eqb _ _ e) refl

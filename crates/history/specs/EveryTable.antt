@@ -1,7 +1,7 @@
 -- Over every table, ours or not: in which order records are written and handed out, and that a closed serial stays one.
-use Rattle.desk.specs.declared.FeedAnswer.TheVariants as F
-use Rattle.desk.specs.declared.CloseAnswer.TheVariants as C
-use Rattle.std.specs.Prelude.{◌+◌, ◌/◌, ◌<◌, ℕ, Bool, false, true, List, ◌≡◌, ltb, length}
+use Rattle.desk.specs.Given.{not_held}
+use Rattle.desk.specs.declared.FeedRefusal.TheVariants as F
+use Rattle.std.specs.Prelude.{◌+◌, ◌/◌, ◌<◌, ℕ, Bool, false, true, List, ◌≡◌, ltb, length, Err}
 use Rattle.std.proofs.Common.{subst, le_trans}
 use Rattle.desk.specs.Calls.{close_of}
 use Rattle.desk.specs.Feed.{feed_of}
@@ -49,9 +49,9 @@ oldest-first = call_held
 pub closed_for_ever : (kind : Kind) (calls more : List Call) → AllBytes calls → AllBytes more → (k : ℕ) → k < length (run (start kind) calls).accounts
     → (account_at (run (start kind) calls) k).closed ≡ true → (table : Lent) (piece : Word)
     → (feed_of (run (run (start kind) calls) more).desk (serial_of (account_at (run (start kind) calls) k).serial) table piece
-    ≡ record { desk = (run (run (start kind) calls) more).desk; answer = F.NoTicket })
+    ≡ record { desk = (run (run (start kind) calls) more).desk; answer = Err F.NoTicket })
     × (close_of (run (run (start kind) calls) more).desk (serial_of (account_at (run (start kind) calls) k).serial)
-    ≡ record { desk = (run (run (start kind) calls) more).desk; answer = C.NoTicket })
+    ≡ record { desk = (run (run (start kind) calls) more).desk; answer = Err not_held })
 closed_for_ever kind calls more b c k h closed table piece =
     let w = run (start kind) calls in
     let v = run w more in
@@ -60,6 +60,6 @@ closed_for_ever kind calls more b c k h closed table piece =
     let g = goes-run w more c (λ z. absurd z) s.inv in
     let l = g.each k h in
     let none = closed-room v t.inv k (le_trans h g.accounts) (l.closed closed) in
-    subst (λ (n : ℕ). (feed_of v.desk (serial_of n) table piece ≡ record { desk = v.desk; answer = F.NoTicket })
-    × (close_of v.desk (serial_of n) ≡ record { desk = v.desk; answer = C.NoTicket })) l.serial
+    subst (λ (n : ℕ). (feed_of v.desk (serial_of n) table piece ≡ record { desk = v.desk; answer = Err F.NoTicket })
+    × (close_of v.desk (serial_of n) ≡ record { desk = v.desk; answer = Err not_held })) l.serial
     (no-room_feed v.desk _ table piece none, no-room_close v.desk _ none)

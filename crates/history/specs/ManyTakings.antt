@@ -1,8 +1,7 @@
 -- TAKING MANY IS TAKINGS, in a history's words: after any history, a taking of many leaves what as many takings as it answers leave, and
 -- writes the numbers of the records that those hand out, in order.
-use Rattle.desk.specs.declared.TakeAnswer.TheVariants as K
 use Rattle.desk.specs.Numbers.{take_values}
-use Rattle.std.specs.Prelude.{ℕ, zero, suc, ◌*◌, ◌/◌, ◌%◌, ◌≤◌, min, List, [], ◌∷◌, ◌++◌, ◌≡◌, refl, drop, get_or, length, replicate, take}
+use Rattle.std.specs.Prelude.{ℕ, zero, suc, ◌*◌, ◌/◌, ◌%◌, ◌≤◌, min, List, [], ◌∷◌, ◌++◌, ◌≡◌, refl, drop, get_or, length, replicate, take, Some}
 use Rattle.std.proofs.Common.{◌∙◌, ap, sym, arith}
 use Rattle.std.proofs.Math.Nat.{min-le_left}
 use Rattle.desk.specs.Laws.Shared.{held-length, held-popped}
@@ -23,7 +22,7 @@ handed_by w calls = drop (length w.out) (run w calls).out
 
 -- how many records a taking of many answers that is lent a list of so many numbers
 abbrev pub answered : World → ℕ → ℕ
-answered w len = (take_many_of w.desk len).count
+answered w len = (take_many_of w.desk len).answer
 
 -- the world after it: the desk as the call leaves it, and so many of the records that were held are handed out, the oldest first; nothing
 -- else changes
@@ -33,12 +32,12 @@ took_many w len = with_out w (take_many_of w.desk len).desk (w.out ++ take (answ
 -- what takings tell that hand out these records: the values of each answer, one answer behind another
 unfoldable pub told : List Record → List ℕ
 told [] = []
-told (r ∷ rs) = take_values (K.Taken r) ++ told rs
+told (r ∷ rs) = take_values (Some r) ++ told rs
 
 numbers_told : (rs : List Record) → record_numbers rs ≡ told rs
 unfolding told record_numbers
 numbers_told [] = refl
-numbers_told (r ∷ rs) = ap (λ (l : List ℕ). take_values (K.Taken r) ++ l) (numbers_told rs)
+numbers_told (r ∷ rs) = ap (λ (l : List ℕ). take_values (Some r) ++ l) (numbers_told rs)
 
 pub record ManyTakings (w : World) (list : List ℕ) : Type 0 where
   -- it answers the number of the records held, or of those that the list has room for, whichever is less

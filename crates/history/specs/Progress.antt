@@ -1,7 +1,8 @@
 -- A feed of an open ticket takes at least a byte, where the list holds no record and the tables are as the replacement left them.
-use Rattle.desk.specs.declared.FeedAnswer.TheVariants as F
+use Rattle.desk.specs.Given.{Feeding}
+use Rattle.desk.specs.declared.FeedRefusal.TheVariants as F
 use Rattle.desk.specs.declared.StateAnswer.TheVariants as A
-use Rattle.std.specs.Prelude.{◌-◌, ◌<◌, suc, ℕ, List, ◌∷◌, ◌≡◌, refl, length}
+use Rattle.std.specs.Prelude.{◌-◌, ◌<◌, suc, ℕ, List, ◌∷◌, ◌≡◌, refl, length, Err}
 use Rattle.std.proofs.Common.{◌∙◌, ap, sym, arith}
 use Rattle.desk.specs.Feed.{feed_of, taken_by}
 use Rattle.desk.specs.Laws.Good.{on-place, room-held}
@@ -13,7 +14,6 @@ use Rattle.desk.specs.Rooms.{room_of, ticket_in}
 use Rattle.desk.specs.State.{state_of}
 use Rattle.desk.specs.declared.Desk.{Desk}
 use Rattle.desk.specs.declared.Edition.{Edition}
-use Rattle.desk.specs.declared.Feeding.{Feeding}
 use Rattle.desk.specs.declared.Serial.{Serial}
 use Rattle.desk.specs.declared.StateAnswer.{StateAnswer}
 use Rattle.desk.specs.declared.Ticket.{Ticket}
@@ -46,7 +46,7 @@ open_has d s e n = go _ (states d s)
 pub takes_a-byte : (kind : Kind) (calls : List Call) → AllBytes calls → (s : Serial) → HasRoom (run (start kind) calls).desk s
     → Current (run (start kind) calls).desk s
     → NoneHeld (run (start kind) calls).desk → (c : ℕ) (piece : Word)
-    → ((feed_of (run (start kind) calls).desk s (run (start kind) calls).table (c ∷ piece)).answer ≡ F.Long → ⊥)
+    → ((feed_of (run (start kind) calls).desk s (run (start kind) calls).table (c ∷ piece)).answer ≡ Err F.Long → ⊥)
     → 0 < taken_by (feed_of (run (start kind) calls).desk s (run (start kind) calls).table (c ∷ piece)).answer
 takes_a-byte kind calls b s room current empty c piece not-long = go _ (feeds d s w.table (c ∷ piece)) refl
   where
@@ -85,6 +85,6 @@ takes_a-byte kind calls b s room current empty c piece not-long = go _ (feeds d 
 -- replacement left them, whatever tables earlier feeds were lent
 pub progress : (kind : Kind) (calls : List Call) → AllBytes calls → (s : Serial) (e : Edition) (n : ℕ) → state_of (run (start kind) calls).desk s ≡ A.Open e n
     → NoneHeld (run (start kind) calls).desk → (c : ℕ) (piece : Word)
-    → ((feed_of (run (start kind) calls).desk s (run (start kind) calls).table (c ∷ piece)).answer ≡ F.Long → ⊥)
+    → ((feed_of (run (start kind) calls).desk s (run (start kind) calls).table (c ∷ piece)).answer ≡ Err F.Long → ⊥)
     → 0 < taken_by (feed_of (run (start kind) calls).desk s (run (start kind) calls).table (c ∷ piece)).answer
 progress kind calls b s e n is_open = let have = open_has (run (start kind) calls).desk s e n is_open in takes_a-byte kind calls b s have.0 have.1

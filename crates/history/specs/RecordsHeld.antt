@@ -1,7 +1,5 @@
 -- What each call makes of the records that a desk holds, and of the stream of all records of a history.
-use Rattle.desk.specs.declared.FeedAnswer.TheVariants as F
-use Rattle.desk.specs.declared.TakeAnswer.TheVariants as K
-use Rattle.std.specs.Prelude.{◌+◌, ◌-◌, ℕ, List, [], ◌++◌, ◌∷◌, ◌≡◌, length}
+use Rattle.std.specs.Prelude.{◌+◌, ◌-◌, ℕ, List, [], ◌++◌, ◌∷◌, ◌≡◌, length, Ok, Some, None}
 use Rattle.desk.specs.Calls.{take_of}
 use Rattle.desk.specs.Conditions.{Current, HasRoom, SameSlots, TooLong, ticket_of}
 use Rattle.desk.specs.Feed.{feed_of}
@@ -21,8 +19,8 @@ use Rattle.desk.specs.declared.Advance.{Advance}
 
 -- a taking hands out the oldest of those held, and leaves the others; where none is held it hands out none
 pub record HandsOut (d : Desk) : Type 0 where
-  pub none : held d.records ≡ [] → ((take_of d).answer ≡ K.Nothing) × (held (take_of d).desk.records ≡ [])
-  pub oldest : (r : Record) (rest : List Record) → held d.records ≡ r ∷ rest → ((take_of d).answer ≡ K.Taken r) × (held (take_of d).desk.records ≡ rest)
+  pub none : held d.records ≡ [] → ((take_of d).answer ≡ None) × (held (take_of d).desk.records ≡ [])
+  pub oldest : (r : Record) (rest : List Record) → held d.records ≡ r ∷ rest → ((take_of d).answer ≡ Some r) × (held (take_of d).desk.records ≡ rest)
 
 -- a feed puts what it found behind all others, as records of its serial and its ticket's edition, by end and then by tag number; a refused
 -- one found nothing, one that reads found what the reading over the lent table finds, and the number that it answers is theirs
@@ -31,7 +29,7 @@ pub record PutsBehind (d : Desk) (s : Serial) (table : Lent) (piece : Word) : Ty
   pub ordered : Ordered found
   pub behind : held (feed_of d s table piece).desk.records ≡ held d.records ++ records_of s (ticket_of d s).edition found
   pub refused : (feed_number (feed_of d s table piece).answer ≡ 0 → ⊥) → found ≡ []
-  pub counted : (a : Advance) → (feed_of d s table piece).answer ≡ F.Fed a → a.records ≡ length found
+  pub counted : (a : Advance) → (feed_of d s table piece).answer ≡ Ok a → a.records ≡ length found
   pub read : HasRoom d s → Current d s → SameSlots d table → (TooLong d s piece → ⊥)
       → found ≡ (desk_read d.slots table (ticket_of d s).place (ticket_of d s).taken (most_records - d.records.count) piece).found
 

@@ -1,14 +1,13 @@
 -- The history in which the tickets of another history are served one after another, by serial. It is a history of the same calls, from
 -- a new desk.
+use Rattle.desk.specs.Given.{FeedAnswer}
 use Rattle.matching.specs.declared.Stop.TheVariants as S
-use Rattle.desk.specs.declared.FeedAnswer.TheVariants as F
-use Rattle.std.specs.Prelude.{◌+◌, ◌-◌, suc, zero, ℕ, Bool, false, true, List, [], ◌++◌, ◌∷◌, ◌≡◌, drop, length, replicate, take}
+use Rattle.std.specs.Prelude.{◌+◌, ◌-◌, suc, zero, ℕ, Bool, false, true, List, [], ◌++◌, ◌∷◌, ◌≡◌, drop, length, replicate, take, Ok, Err}
 use Rattle.desk.specs.Calls.{close_of, open_of, take_of}
 use Rattle.desk.specs.Feed.{feed_of}
 use Rattle.desk.specs.Numbers.{close_number, feed_number, open_number, replace_number, take_number}
 use Rattle.desk.specs.Replace.{replace_of}
 use Rattle.desk.specs.Rooms.{serial_of}
-use Rattle.desk.specs.declared.FeedAnswer.{FeedAnswer}
 use Rattle.desk.specs.declared.Serial.{Serial}
 use Rattle.history.specs.History.{Account, Replacement, run, start, step, World}
 use Rattle.matching.specs.Words.{Word}
@@ -43,10 +42,8 @@ on_full S.Full more = more
 on_full S.Damaged more = nothing
 
 abbrev pub after_full : FeedAnswer → (ℕ → Script) → Script
-after_full (F.Fed a) more = on_full a.stop (then emptied (more a.taken))
-after_full F.NoTicket more = nothing
-after_full (F.Stale e) more = nothing
-after_full F.Long more = nothing
+after_full (Ok a) more = on_full a.stop (then emptied (more a.taken))
+after_full (Err why) more = nothing
 
 -- bytes fed for a serial, in at most so many feeds
 unfoldable pub fed_whole : ℕ → Serial → Word → Script

@@ -1,9 +1,9 @@
 -- After a replacement an older ticket is stale and takes no byte, or stays closed.
-use Rattle.desk.specs.declared.FeedAnswer.TheVariants as F
-use Rattle.desk.specs.declared.CloseAnswer.TheVariants as C
-use Rattle.desk.specs.declared.ReplaceAnswer.TheVariants as R
+use Rattle.desk.specs.Given.{Feeding, Closing, ReplaceAnswer, Replacing, not_held, replaced_as}
+use Rattle.desk.specs.declared.Replaced.{Replaced}
+use Rattle.desk.specs.declared.FeedRefusal.TheVariants as F
 use Rattle.desk.specs.declared.StateAnswer.TheVariants as A
-use Rattle.std.specs.Prelude.{◌+◌, ◌<◌, suc, ℕ, Bool, false, not, true, List, ◌≡◌, refl, eqb, length}
+use Rattle.std.specs.Prelude.{◌+◌, ◌<◌, suc, ℕ, Bool, false, not, true, List, ◌≡◌, refl, eqb, length, Ok, Err}
 use Rattle.std.proofs.Common.{inr, ◌∙◌, ap, ap₂, subst, sym, le_trans, arith}
 use Rattle.desk.specs.Calls.{close_of}
 use Rattle.desk.specs.Feed.{feed_of}
@@ -14,10 +14,7 @@ use Rattle.desk.specs.Laws.Views.{Replaces, replace_done, replace_edition-end, r
 use Rattle.desk.specs.Replace.{replace_of}
 use Rattle.desk.specs.Rooms.{edition_of, room_of, serial_of, ticket_in}
 use Rattle.desk.specs.State.{state_by, state_of}
-use Rattle.desk.specs.declared.Closing.{Closing}
 use Rattle.desk.specs.declared.Edition.{Edition}
-use Rattle.desk.specs.declared.Feeding.{Feeding}
-use Rattle.desk.specs.declared.Replacing.{Replacing}
 use Rattle.desk.specs.declared.Serial.{Serial}
 use Rattle.history.specs.History.{Account, account_at, AllBytes, AsLeft, replacing, run, start, step, World}
 use Rattle.history.specs.Laws.Answering.{closed-room, open_room}
@@ -43,11 +40,11 @@ pub record Older (w : World) (a : Account) : Type 0 where
   pub stale-state : a.closed ≡ false → state_of w.desk (serial_of a.serial) ≡ A.Stale (edition_of a.edition) (length a.bytes)
   pub closed-state : a.closed ≡ true → state_of w.desk (serial_of a.serial) ≡ A.Closed
   pub stale_feed : a.closed ≡ false → (table : Lent) (piece : Word)
-      → feed_of w.desk (serial_of a.serial) table piece ≡ record { desk = w.desk; answer = F.Stale (edition_of a.edition) }
+      → feed_of w.desk (serial_of a.serial) table piece ≡ record { desk = w.desk; answer = Err (F.Stale (edition_of a.edition)) }
   pub closed_feed : a.closed ≡ true → (table : Lent) (piece : Word) → feed_of w.desk (serial_of a.serial) table piece
-      ≡ record { desk = w.desk; answer = F.NoTicket }
-  pub stale_close : a.closed ≡ false → (close_of w.desk (serial_of a.serial)).answer ≡ C.Closed
-  pub closed_close : a.closed ≡ true → close_of w.desk (serial_of a.serial) ≡ record { desk = w.desk; answer = C.NoTicket }
+      ≡ record { desk = w.desk; answer = Err F.NoTicket }
+  pub stale_close : a.closed ≡ false → (close_of w.desk (serial_of a.serial)).answer ≡ Ok tt
+  pub closed_close : a.closed ≡ true → close_of w.desk (serial_of a.serial) ≡ record { desk = w.desk; answer = Err not_held }
 
 module _ {Left : Type 0} (w : World) (v : Inv Left w) (k : ℕ) (hk : k < length w.accounts) where
   abbrev a : Account
@@ -57,21 +54,21 @@ module _ {Left : Type 0} (w : World) (v : Inv Left w) (k : ℕ) (hk : k < length
   s = serial_of a.serial
 
   -- a closed serial is refused by feed and close, over every table
-  closed_feed_is : a.closed ≡ true → (table : Lent) (piece : Word) → feed_of w.desk s table piece ≡ record { desk = w.desk; answer = F.NoTicket }
+  closed_feed_is : a.closed ≡ true → (table : Lent) (piece : Word) → feed_of w.desk s table piece ≡ record { desk = w.desk; answer = Err F.NoTicket }
   closed_feed_is c table piece = no-room_feed w.desk s table piece (closed-room w v k hk c)
 
-  closed_close_is : a.closed ≡ true → close_of w.desk s ≡ record { desk = w.desk; answer = C.NoTicket }
+  closed_close_is : a.closed ≡ true → close_of w.desk s ≡ record { desk = w.desk; answer = Err not_held }
   closed_close_is c = no-room_close w.desk s (closed-room w v k hk c)
 
-  open_close_is : a.closed ≡ false → (close_of w.desk s).answer ≡ C.Closed
+  open_close_is : a.closed ≡ false → (close_of w.desk s).answer ≡ Ok tt
   open_close_is c = go _ (closes w.desk s)
     where
-      go : (r : Closing) → Closes w.desk s r → r.answer ≡ C.Closed
+      go : (r : Closing) → Closes w.desk s r → r.answer ≡ Ok tt
       go r (close_no-ticket h) = absurd (omega (arith, h, (open_room w v k hk c).0))
       go r (close_done i e h) = refl
 
   stale_feed_is : a.closed ≡ false → a.edition < w.edition → (table : Lent) (piece : Word)
-      → feed_of w.desk s table piece ≡ record { desk = w.desk; answer = F.Stale (edition_of a.edition) }
+      → feed_of w.desk s table piece ≡ record { desk = w.desk; answer = Err (F.Stale (edition_of a.edition)) }
   stale_feed_is c old table piece = go _ (feeds w.desk s table piece)
     where
       room : (room_of w.desk.tickets s < most_tickets) × Agrees Left (ticket_in w.desk.tickets (room_of w.desk.tickets s)) a
@@ -81,9 +78,9 @@ module _ {Left : Type 0} (w : World) (v : Inv Left w) (k : ℕ) (hk : k < length
       older e = omega (arith, e, room.1.edition, old, v.edition)
 
       go : (r : Feeding) → Feeds w.desk (room_of w.desk.tickets s) table piece r
-          → r ≡ record { desk = w.desk; answer = F.Stale (edition_of a.edition) }
+          → r ≡ record { desk = w.desk; answer = Err (F.Stale (edition_of a.edition)) }
       go r (feed_no-ticket h) = absurd (omega (arith, h, room.0))
-      go r (feed_stale h e) = λ d. record { desk = w.desk; answer = F.Stale (record { 0 = room.1.edition d }) }
+      go r (feed_stale h e) = λ d. record { desk = w.desk; answer = Err (F.Stale (record { 0 = room.1.edition d })) }
       go r (feed_other-slots h e n) = absurd (older e)
       go r (feed_long h e l m) = absurd (older e)
       go r (feed_no-place h e l m n) = absurd (older e)
@@ -117,7 +114,7 @@ pub record AllOlder (w v : World) (e : Edition) : Type 0 where
 -- EVERY OPEN TICKET BECOMES STALE: where a replacement is accepted, each ticket from before it is of an edition below the new one, and is stale
 -- then, or closed if it was closed
 pub replaced-all-stale : (kind : Kind) (calls : List Call) → AllBytes calls → (order : Order) (table : Lent) → OrderBytes order → (e : Edition) (count : ℕ)
-    → (replace_of (run (start kind) calls).desk order (sizes_of table)).answer ≡ R.Replaced e count
+    → (replace_of (run (start kind) calls).desk order (sizes_of table)).answer ≡ Ok (replaced_as e count)
     → AllOlder (run (start kind) calls) (step (run (start kind) calls) (call_replace order table)) e
 replaced-all-stale kind calls b order table c e count = go _ (replaces w.desk order (sizes_of table)) (inv_step w (call_replace order table) c (λ l. tt) v)
   where
@@ -127,11 +124,11 @@ replaced-all-stale kind calls b order table c e count = go _ (replaces w.desk or
     v : Inv (AsLeft (start kind) calls) w
     v = (sound kind calls b).inv
 
-    number : {x : Edition} {m : ℕ} → R.Replaced x m ≡ R.Replaced e count → x.0 ≡ e.0
-    number q = cc
+    number : {x : Edition} {m : ℕ} → ◌≡◌ {A = ReplaceAnswer} (Ok (replaced_as x m)) (Ok (replaced_as e count)) → x.0 ≡ e.0
+    number {x} {m} q = let given : replaced_as x m ≡ replaced_as e count = cc in ap (λ (y : Replaced). y.edition.0) given
 
     go : (r : Replacing) → Replaces w.desk order (sizes_of table) r → Inv (AsLeft (start kind) calls) (replacing w order table r.desk r.answer)
-        → r.answer ≡ R.Replaced e count
+        → r.answer ≡ Ok (replaced_as e count)
         → AllOlder w (replacing w order table r.desk r.answer) e
     go r (replace_fault fault p) i q = differ cc
     go r (replace_table machine short p) i q = differ cc

@@ -1,13 +1,9 @@
 -- Answers as numbers, for C and Rust: the number of a refusal in the rules' table and what is returned with it; or 0 and what the call gives.
+use Rattle.desk.specs.Given.{OpenAnswer, FeedAnswer, CloseAnswer, TakeAnswer, ReplaceAnswer}
 use Rattle.std.specs.Prelude.{Err, Ok, ℕ, List, [], ◌∷◌, get_or, length}
 use Rattle.desk.specs.Numbers.{close_number, close_values, feed_number, feed_values, open_number, open_values, replace_number, replace_values}
 use Rattle.desk.specs.Numbers.{state_values, stop_number, take_number, take_values}
-use Rattle.desk.specs.declared.CloseAnswer.{CloseAnswer}
-use Rattle.desk.specs.declared.FeedAnswer.{FeedAnswer}
-use Rattle.desk.specs.declared.OpenAnswer.{OpenAnswer}
-use Rattle.desk.specs.declared.ReplaceAnswer.{ReplaceAnswer}
 use Rattle.desk.specs.declared.StateAnswer.{StateAnswer}
-use Rattle.desk.specs.declared.TakeAnswer.{TakeAnswer}
 use Rattle.numbers.specs.declared.Answer.{Answer}
 use Rattle.numbers.specs.declared.Said.{Said}
 use Rattle.reading.specs.Outside.{Ending, read_number, read_values}

@@ -1,20 +1,11 @@
 -- Laws of answers as numbers, for the proofs.
-use Rattle.std.specs.Prelude.{Err, Ok}
-use Rattle.std.specs.Prelude.{ℕ, ◌<◌, List, ◌≡◌, refl, take}
+use Rattle.desk.specs.declared.FeedRefusal.TheVariants as F
+use Rattle.desk.specs.Given.{OpenAnswer, FeedAnswer, CloseAnswer, TakeAnswer, ReplaceAnswer}
+use Rattle.std.specs.Prelude.{ℕ, ◌<◌, List, ◌≡◌, refl, take, Ok, Err, Some, None}
 use Rattle.std.proofs.Common.{arith, ap}
 use Rattle.desk.specs.Numbers.{close_number, close_values, feed_number, feed_values, open_number, open_values, replace_number, replace_values, take_number, take_values}
-use Rattle.desk.specs.declared.CloseAnswer.{CloseAnswer}
-use Rattle.desk.specs.declared.CloseAnswer.TheVariants as C
-use Rattle.desk.specs.declared.FeedAnswer.{FeedAnswer}
-use Rattle.desk.specs.declared.FeedAnswer.TheVariants as F
-use Rattle.desk.specs.declared.OpenAnswer.{OpenAnswer}
-use Rattle.desk.specs.declared.OpenAnswer.TheVariants as O
-use Rattle.desk.specs.declared.ReplaceAnswer.{ReplaceAnswer}
-use Rattle.desk.specs.declared.ReplaceAnswer.TheVariants as R
-use Rattle.desk.specs.declared.TakeAnswer.{TakeAnswer}
-use Rattle.desk.specs.declared.TakeAnswer.TheVariants as K
+use Rattle.desk.specs.declared.ReplaceRefusal.TheVariants as R
 use Rattle.reading.specs.Outside.{Ending}
-use Rattle.std.specs.Prelude.{Err, Ok}
 use Rattle.tables.specs.Building.{built_number, built_values}
 use Rattle.tables.specs.Building.{Built}
 use Rattle.tables.specs.declared.BuildFault.TheVariants as B
@@ -48,30 +39,28 @@ built-few (Err (B.Set fault)) h = fault-few fault
 built-few (Err (B.Table machine needs)) h = refl
 
 pub replace_few : (r : ReplaceAnswer) → Few (replace_number r) (replace_values r)
-replace_few (R.Replaced edition tags) h = refl
-replace_few (R.Fault fault) h = fault-few fault
-replace_few (R.Table machine needs) h = refl
-replace_few R.EditionEnd h = refl
+replace_few (Ok given) h = refl
+replace_few (Err (R.Fault fault)) h = fault-few fault
+replace_few (Err (R.Table machine needs)) h = refl
+replace_few (Err R.EditionEnd) h = refl
 
 pub open_few : (r : OpenAnswer) → Few (open_number r) (open_values r)
-open_few (O.Opened serial) h = refl
-open_few O.NoSet h = refl
-open_few O.SerialEnd h = refl
-open_few O.NoRoom h = refl
+open_few (Ok serial) h = refl
+open_few (Err why) h = refl
 
 pub feed_few : (r : FeedAnswer) → Few (feed_number r) (feed_values r)
-feed_few (F.Fed a) h = absurd (omega (arith, h))
-feed_few F.NoTicket h = refl
-feed_few (F.Stale edition) h = refl
-feed_few F.Long h = refl
+feed_few (Ok a) h = absurd (omega (arith, h))
+feed_few (Err F.NoTicket) h = refl
+feed_few (Err (F.Stale edition)) h = refl
+feed_few (Err F.Long) h = refl
 
 pub close_few : (r : CloseAnswer) → Few (close_number r) (close_values r)
-close_few C.Closed h = refl
-close_few C.NoTicket h = refl
+close_few (Ok done) h = refl
+close_few (Err why) h = refl
 
 pub take-few : (r : TakeAnswer) → Few (take_number r) (take_values r)
-take-few (K.Taken oldest) h = absurd (omega (arith, h))
-take-few K.Nothing h = refl
+take-few (Some oldest) h = absurd (omega (arith, h))
+take-few None h = refl
 
 pub ending-few : (more : List ℕ) (taken records : ℕ) (r : Ending) → Few (ending_number r) (ending_with more taken records r)
 ending-few more taken records (Ok stop) h = absurd (omega (arith, h))

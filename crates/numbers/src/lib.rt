@@ -9,7 +9,10 @@ ghost use Rattle.desk.specs.Numbers.{replace_number, replace_values, open_number
 ghost use Rattle.desk.specs.Numbers.{take_number, take_values, state_values, stop_number};
 ghost use Rattle.numbers.specs.Answers.{answer_of, said_of, ending_number, ending_values, moved_values};
 
-use desk::{Advance, CloseAnswer, FeedAnswer, OpenAnswer, ReplaceAnswer, StateAnswer, TakeAnswer};
+use desk::{
+    Advance, FeedRefusal, NoTicket, OpenRefusal, Record, ReplaceRefusal, Replaced, Serial,
+    StateAnswer,
+};
 use matching::Stop;
 use reading::{Ending, ReadRefusal};
 use tables::{BuildFault, Needed};
@@ -141,66 +144,61 @@ pub fn of_needed(needed: Result<Needed, SetFault>) -> Said
     }
 }
 
-pub fn of_replace(said: ReplaceAnswer) -> Said
+pub fn of_replace(said: Result<Replaced, ReplaceRefusal>) -> Said
     ensures { result ≡ said_of (replace_number said) (replace_values said) }
 {
     match said {
-        ReplaceAnswer::Replaced(edition, tags) => two(0, edition.0 as u64, tags as u64),
-        ReplaceAnswer::Fault(fault) => of_fault(fault),
-        ReplaceAnswer::Table(machine, needs) => two(7, machine as u64, needs as u64),
-        ReplaceAnswer::EditionEnd => bare(8),
+        Ok(given) => two(0, u64::from(given.edition.0), given.tags as u64),
+        Err(ReplaceRefusal::Fault(fault)) => of_fault(fault),
+        Err(ReplaceRefusal::Table(machine, needs)) => two(7, machine as u64, needs as u64),
+        Err(ReplaceRefusal::EditionEnd) => bare(8),
     }
 }
 
-pub fn of_open(said: OpenAnswer) -> Said
+pub fn of_open(said: Result<Serial, OpenRefusal>) -> Said
     ensures { result ≡ said_of (open_number said) (open_values said) }
 {
     match said {
-        OpenAnswer::Opened(serial) => one(0, serial.0 as u64),
-        OpenAnswer::NoSet => bare(9),
-        OpenAnswer::SerialEnd => bare(10),
-        OpenAnswer::NoRoom => bare(11),
+        Ok(serial) => one(0, u64::from(serial.0)),
+        Err(OpenRefusal::NoSet) => bare(9),
+        Err(OpenRefusal::SerialEnd) => bare(10),
+        Err(OpenRefusal::NoRoom) => bare(11),
     }
 }
 
-pub fn of_feed(said: FeedAnswer) -> Said
+pub fn of_feed(said: Result<Advance, FeedRefusal>) -> Said
     ensures { result ≡ said_of (feed_number said) (feed_values said) }
 {
     match said {
-        FeedAnswer::Fed(advance) => of_advance(advance),
-        FeedAnswer::NoTicket => bare(12),
-        FeedAnswer::Stale(edition) => one(13, edition.0 as u64),
-        FeedAnswer::Long => bare(14),
+        Ok(advance) => of_advance(advance),
+        Err(FeedRefusal::NoTicket) => bare(12),
+        Err(FeedRefusal::Stale(edition)) => one(13, u64::from(edition.0)),
+        Err(FeedRefusal::Long) => bare(14),
     }
 }
 
-pub fn of_close(said: CloseAnswer) -> Said
+pub fn of_close(said: Result<(), NoTicket>) -> Said
     ensures { result ≡ said_of (close_number said) (close_values said) }
 {
     match said {
-        CloseAnswer::Closed => bare(0),
-        CloseAnswer::NoTicket => bare(12),
+        Ok(()) => bare(0),
+        Err(NoTicket) => bare(12),
     }
 }
 
-pub fn of_take(said: TakeAnswer) -> Said
+pub fn of_take(said: Option<Record>) -> Said
     ensures { result ≡ said_of (take_number said) (take_values said) }
 {
     match said {
-        TakeAnswer::Taken(r) => {
-            let serial = r.serial;
-            let edition = r.edition;
-            let tag = r.tag;
-            with(
-                0,
-                4,
-                serial.0 as u64,
-                edition.0 as u64,
-                r.end as u64,
-                tag.0 as u64,
-            )
-        }
-        TakeAnswer::Nothing => bare(16),
+        Some(r) => with(
+            0,
+            4,
+            u64::from(r.serial.0),
+            u64::from(r.edition.0),
+            u64::from(r.end),
+            u64::from(r.tag.0),
+        ),
+        None => bare(16),
     }
 }
 
@@ -210,8 +208,8 @@ pub fn of_state(said: StateAnswer) -> Said
     match said {
         StateAnswer::Never => one(0, 0),
         StateAnswer::Closed => one(0, 1),
-        StateAnswer::Stale(edition, taken) => three(2, edition.0 as u64, taken as u64),
-        StateAnswer::Open(edition, taken) => three(3, edition.0 as u64, taken as u64),
+        StateAnswer::Stale(edition, taken) => three(2, u64::from(edition.0), u64::from(taken)),
+        StateAnswer::Open(edition, taken) => three(3, u64::from(edition.0), u64::from(taken)),
     }
 }
 

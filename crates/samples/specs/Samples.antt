@@ -1,13 +1,12 @@
 -- The samples of docs/RULES.md, 10, together, each by its number; all are computed from the definitions.
-use Rattle.std.specs.Prelude.{Err, Ok}
+use Rattle.desk.specs.Given.{not_held}
 use Rattle.matching.specs.declared.Stop.TheVariants as S
-use Rattle.desk.specs.declared.CloseAnswer.TheVariants as C
-use Rattle.desk.specs.declared.FeedAnswer.TheVariants as F
+use Rattle.desk.specs.declared.FeedRefusal.TheVariants as F
 use Rattle.gate.specs.declared.Verdict.TheVariants as Q
 use Rattle.tables.specs.declared.BuildFault.TheVariants as B
 use Rattle.tables.specs.Building.{of_parts}
 use Rattle.tagset.specs.declared.SetFault.TheVariants as D
-use Rattle.std.specs.Prelude.{◌%◌, ◌*◌, ◌/◌, min, suc, zero, ℕ, true, List, [], ◌++◌, ◌∷◌, map, ◌≡◌, refl, drop, get_or, replicate, take}
+use Rattle.std.specs.Prelude.{◌%◌, ◌*◌, ◌/◌, min, suc, zero, ℕ, true, List, [], ◌++◌, ◌∷◌, map, ◌≡◌, refl, drop, get_or, replicate, take, Ok, Err}
 use Rattle.std.proofs.Common.{arith}
 use Rattle.desk.specs.Calls.{close_of, open_of, take_of}
 use Rattle.desk.specs.Feed.{advance, feed_of}
@@ -134,14 +133,14 @@ pub record OfEdges : Type 0 where
 pub record OfGate : Type 0 where
   -- "heh_ehe" in two pieces is held for both tags of 16, and "hx" beside it passes
   pub in_two_pieces : GateProper (gate_start one_bit) calls-held
-  pub held : (decide_of (gate_run (gate_start one_bit) calls-held).gate (serial_of 1)).answer ≡ Q.Hold 3
-  pub passed : (decide_of (gate_run (gate_start one_bit) calls-held).gate (serial_of 2)).answer ≡ Q.Pass
+  pub held : (decide_of (gate_run (gate_start one_bit) calls-held).gate (serial_of 1)).answer ≡ Ok (Q.Hold 3)
+  pub passed : (decide_of (gate_run (gate_start one_bit) calls-held).gate (serial_of 2)).answer ≡ Ok Q.Pass
   -- an approval half read when another set came is stale
   pub set-replaced : GateProper (gate_start one_bit) calls-replaced
-  pub stale : (decide_of (gate_run (gate_start one_bit) calls-replaced).gate (serial_of 1)).answer ≡ Q.Stale (edition_of 1)
+  pub stale : (decide_of (gate_run (gate_start one_bit) calls-replaced).gate (serial_of 1)).answer ≡ Ok (Q.Stale (edition_of 1))
   -- read again from its front, after refused calls and in the room of the one that was decided, it is held for both tags of the new set
   pub read_again : GateProper (gate_start one_bit) calls-again
-  pub held-again : (decide_of (gate_run (gate_start one_bit) calls-again).gate (serial_of 2)).answer ≡ Q.Hold 3
+  pub held-again : (decide_of (gate_run (gate_start one_bit) calls-again).gate (serial_of 2)).answer ≡ Ok (Q.Hold 3)
 
 -- of the desk
 pub record OfDesk : Type 0 where
@@ -150,13 +149,13 @@ pub record OfDesk : Type 0 where
   -- 9: 254 records held, tags a, aa, piece "aa"
   pub sample_9_held : (run (start one_bit) calls_254).desk.records.count ≡ 254
   pub sample_9 : (feed_of (run (start one_bit) calls_254).desk (serial_of 3) (run (start one_bit) calls_254).table (97 ∷ 97 ∷ [])).answer
-      ≡ F.Fed (advance 1 1 S.Full)
+      ≡ Ok (advance 1 1 S.Full)
   -- 10: with 255 held a byte with one match is taken, and one with two is not
   pub sample_10_held : (run (start one_bit) calls_255).desk.records.count ≡ 255
   pub sample_10_one : (feed_of (run (start one_bit) calls_255).desk (serial_of 3) (run (start one_bit) calls_255).table (97 ∷ [])).answer
-      ≡ F.Fed (advance 1 1 S.All)
+      ≡ Ok (advance 1 1 S.All)
   pub sample_10_two : (feed_of (run (start one_bit) calls_255).desk (serial_of 4) (run (start one_bit) calls_255).table (97 ∷ [])).answer
-      ≡ F.Fed (advance 0 0 S.Full)
+      ≡ Ok (advance 0 0 S.Full)
   -- 12: "ush" then "ers" gives the records of "ushers"
   pub sample_12 : stream (run (start one_bit) (calls_open ++ call_feed (serial_of 1) (split 10 tags) ush ∷ call_feed (serial_of 1) (split 10 tags) ers ∷ []))
       ≡ stream (run (start one_bit) (calls_open ++ call_feed (serial_of 1) (split 10 tags) ushers ∷ []))
@@ -164,17 +163,17 @@ pub record OfDesk : Type 0 where
       ≡ a_record 1 1 4 0 ∷ a_record 1 1 4 1 ∷ a_record 1 1 6 3 ∷ []
   -- 13: replaced by the same set again, the old ticket is STALE
   pub sample_13 : (feed_of (run (start one_bit) (calls-half tags)).desk (serial_of 1) (run (start one_bit) (calls-half tags)).table ers).answer
-      ≡ F.Stale (edition_of 1)
+      ≡ Err (F.Stale (edition_of 1))
   -- 14: a closed serial is NO TICKET, and its room serves the next opening
-  pub sample_14_feed : (feed_of (run (start one_bit) calls-closed).desk (serial_of 1) (run (start one_bit) calls-closed).table ush).answer ≡ F.NoTicket
-  pub sample_14_close : (close_of (run (start one_bit) calls-closed).desk (serial_of 1)).answer ≡ C.NoTicket
+  pub sample_14_feed : (feed_of (run (start one_bit) calls-closed).desk (serial_of 1) (run (start one_bit) calls-closed).table ush).answer ≡ Err F.NoTicket
+  pub sample_14_close : (close_of (run (start one_bit) calls-closed).desk (serial_of 1)).answer ≡ Err not_held
   pub sample_14_room : room_of (run (start one_bit) calls-closed).desk.tickets (serial_of 2) ≡ 0
 
 -- the incident: another set comes while an approval is half read
 pub record Incident : Type 0 where
   -- the rest of it is refused, with the edition of its ticket
   pub refused : (feed_of (run (start one_bit) (calls-half later)).desk (serial_of 1) (run (start one_bit) (calls-half later)).table ers).answer
-      ≡ F.Stale (edition_of 1)
+      ≡ Err (F.Stale (edition_of 1))
   -- read again from its opening, it gives the records of the new set, under the new edition, and none under the old ticket
   pub again : stream (run (start one_bit)
       (calls-half later ++ call_feed (serial_of 1) (split 10 later) ers ∷ call_open ∷ call_feed (serial_of 2) (split 10 later) ushers ∷ []))

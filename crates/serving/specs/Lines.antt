@@ -1,18 +1,18 @@
 -- The lines that the bench program writes, as bytes; 32 is a blank, 10 a line's end.
-use Rattle.std.specs.Prelude.{ℕ, zero, suc, ◌+◌, ◌*◌, List, [], ◌∷◌, ◌++◌, get_or}
+use Rattle.desk.specs.Given.{ReplaceAnswer}
+use Rattle.std.specs.Prelude.{ℕ, zero, suc, ◌+◌, ◌*◌, List, [], ◌∷◌, ◌++◌, get_or, Ok, Err}
 use Rattle.answers.specs.Answers.{replace_line, word_line}
 use Rattle.desk.specs.Numbers.{replace_number}
 use Rattle.desk.specs.declared.Record.{Record}
-use Rattle.desk.specs.declared.ReplaceAnswer.{ReplaceAnswer}
-use Rattle.desk.specs.declared.ReplaceAnswer.TheVariants as R
+use Rattle.desk.specs.declared.ReplaceRefusal.TheVariants as R
 use Rattle.output.specs.Decimal.{decimal_of}
 
 -- the line for the set, as `replay` writes it; of TABLE the number alone
 abbrev pub answer_line : ReplaceAnswer → List ℕ
-answer_line (R.Replaced edition tags) = replace_line (R.Replaced edition tags)
-answer_line (R.Fault fault) = replace_line (R.Fault fault)
-answer_line (R.Table machine needs) = word_line (114 ∷ 101 ∷ 102 ∷ 117 ∷ 115 ∷ 101 ∷ 100 ∷ 32 ∷ []) (replace_number (R.Table machine needs))
-answer_line R.EditionEnd = replace_line R.EditionEnd
+answer_line (Ok given) = replace_line (Ok given)
+answer_line (Err (R.Fault fault)) = replace_line (Err (R.Fault fault))
+answer_line (Err (R.Table machine needs)) = word_line (114 ∷ 101 ∷ 102 ∷ 117 ∷ 115 ∷ 101 ∷ 100 ∷ 32 ∷ []) (replace_number (Err (R.Table machine needs)))
+answer_line (Err R.EditionEnd) = replace_line (Err R.EditionEnd)
 
 -- `SERIAL END TAG`
 abbrev pub record_line : ℕ → ℕ → ℕ → List ℕ

@@ -6,7 +6,7 @@ pub mod lines;
 ghost use Rattle.desk.specs.Layout.{lent};
 ghost use Rattle.serving.specs.Serving.{FeedsRest, FeedsPiece};
 
-use desk::pieces::{new_list, taken_by};
+use desk::pieces::taken_by;
 use desk::{Desk, Serial};
 use output::Buffer;
 
@@ -31,10 +31,10 @@ fn feed_rest(
     let feeding = desk.feed(serial, first, second, rest);
     let fed = feeding.desk;
     let answer = feeding.answer;
-    let mut list = new_list();
+    let mut list = [0; 1024];
     let taking = fed.take_many(&mut list);
     let next = taking.desk;
-    lines::put_records(out, &list, taking.count);
+    lines::put_records(out, &list, taking.answer);
     Fed {
         desk: next,
         taken: taken_by(answer),

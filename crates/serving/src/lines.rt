@@ -3,19 +3,17 @@ ghost use Rattle.std.specs.Prelude.{◌≤◌};
 ghost use Rattle.output.specs.Buffer.{Puts};
 ghost use Rattle.serving.specs.Lines.{answer_line, record_line, record_lines, taken_line};
 
-use desk::ReplaceAnswer;
+use desk::{ReplaceRefusal, Replaced};
 use output::Buffer;
 
 // The line for the set, as `replay` writes it; of TABLE the number alone.
-pub fn put_answer(out: &mut Buffer, answer: ReplaceAnswer)
+pub fn put_answer(out: &mut Buffer, answer: Result<Replaced, ReplaceRefusal>)
     ensures { Puts out.old (answer_line answer) out.new }
 {
     let said = numbers::of_replace(answer).answer;
     match answer {
-        ReplaceAnswer::Replaced(_, _) => answers::replaced(out, answer),
-        ReplaceAnswer::Fault(_) => answers::replaced(out, answer),
-        ReplaceAnswer::Table(_, _) => answers::word_line(out, b"refused ", said.refusal),
-        ReplaceAnswer::EditionEnd => answers::replaced(out, answer),
+        Err(ReplaceRefusal::Table(_, _)) => answers::word_line(out, b"refused ", said.refusal),
+        _ => answers::replaced(out, answer),
     }
 }
 

@@ -1,8 +1,8 @@
 -- What each call but `decide` answers, over every history of the gate's calls and whatever tables the pieces were lent: each answer is given
 -- exactly if its case holds.
-use Rattle.gate.specs.declared.PieceAnswer.TheVariants as P
+use Rattle.gate.specs.declared.Piece.TheVariants as P
 use Rattle.gate.specs.declared.Verdict.TheVariants as Q
-use Rattle.std.specs.Prelude.{ℕ, ◌+◌, ◌<◌, ◌≤◌, List, ◌↔◌, ◌≡◌, length}
+use Rattle.std.specs.Prelude.{ℕ, ◌+◌, ◌<◌, ◌≤◌, List, ◌↔◌, ◌≡◌, length, Ok}
 use Rattle.std.proofs.Common.{inr}
 use Rattle.desk.specs.declared.Serial.{Serial}
 use Rattle.gate.specs.Gate.{begin_of, change_of, decide_of, piece_of}
@@ -47,7 +47,7 @@ piece-counts-after kind calls s k u n =
 
 -- THE NUMBER OF A CUT, after any history: fewer than the piece has, and as many as the ticket counts more
 pub cut-number : (kind : Kind) (calls : List GateAct) (s : Serial) (table : Lent) (piece : Word) (n : ℕ) → let g = (gate_run (gate_start kind) calls).gate in
-    (piece_of g s table piece).answer ≡ P.Cut n → (n < length piece) × (taken_in (piece_of g s table piece).gate s ≡ taken_in g s + n)
+    (piece_of g s table piece).answer ≡ Ok (P.Cut n) → (n < length piece) × (taken_in (piece_of g s table piece).gate s ≡ taken_in g s + n)
 cut-number kind calls s table piece n q =
     let w = gate_run (gate_start kind) calls in
     let z = (piece-exactly kind calls s table piece).fed.1 (inr (n, q)) in
@@ -61,7 +61,7 @@ taken-is-handed kind calls s k u = taken-of-handed (gate_run (gate_start kind) c
 
 -- so Unread is answered exactly if the ticket counts fewer bytes than were handed in, and Pass or Hold only if it counts every one
 pub unread-is-short : (kind : Kind) (calls : List GateAct) (s : Serial) → let w = gate_run (gate_start kind) calls in
-    ((decide_of w.gate s).answer ≡ Q.Unread) ↔ ((k : ℕ) × Undecided w s k × NotReplaced w k × (taken_in w.gate s < length (approval_at w k).handed))
+    ((decide_of w.gate s).answer ≡ Ok Q.Unread) ↔ ((k : ℕ) × Undecided w s k × NotReplaced w k × (taken_in w.gate s < length (approval_at w k).handed))
 unread-is-short kind calls s =
     let w = gate_run (gate_start kind) calls in
     let v = standing calls (gate_start kind) (standing_start kind) in
@@ -71,13 +71,13 @@ unread-is-short kind calls s =
     )
 
 pub pass-is-taken : (kind : Kind) (calls : List GateAct) (s : Serial) → let w = gate_run (gate_start kind) calls in
-    (decide_of w.gate s).answer ≡ Q.Pass → (k : ℕ) × Undecided w s k × (taken_in w.gate s ≡ length (approval_at w k).handed)
+    (decide_of w.gate s).answer ≡ Ok Q.Pass → (k : ℕ) × Undecided w s k × (taken_in w.gate s ≡ length (approval_at w k).handed)
 pass-is-taken kind calls s q =
     let z = (over_any_tables kind calls s).pass q in
     (z.0, z.1.waits, (taken-is-handed kind calls s z.0 z.1.waits).whole.0 z.1.whole)
 
 pub hold-is-taken : (kind : Kind) (calls : List GateAct) (s : Serial) (mask : ℕ) → let w = gate_run (gate_start kind) calls in
-    (decide_of w.gate s).answer ≡ Q.Hold mask → (k : ℕ) × Undecided w s k × (taken_in w.gate s ≡ length (approval_at w k).handed)
+    (decide_of w.gate s).answer ≡ Ok (Q.Hold mask) → (k : ℕ) × Undecided w s k × (taken_in w.gate s ≡ length (approval_at w k).handed)
 hold-is-taken kind calls s mask q =
     let z = (over_any_tables kind calls s).hold mask q in
     (z.0, z.1.waits, (taken-is-handed kind calls s z.0 z.1.waits).whole.0 z.1.whole)

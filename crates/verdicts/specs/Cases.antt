@@ -1,13 +1,12 @@
 -- When each answer of `decide`, of `piece`, of `begin` and of `replace` is given.
-use Rattle.gate.specs.declared.PieceAnswer.TheVariants as P
+use Rattle.desk.specs.Given.{OpenAnswer, ReplaceAnswer, not_held}
+use Rattle.gate.specs.Given.{PieceAnswer, DecideAnswer}
+use Rattle.gate.specs.declared.Piece.TheVariants as P
+use Rattle.gate.specs.declared.PieceRefusal.TheVariants as N
 use Rattle.gate.specs.declared.Verdict.TheVariants as Q
-use Rattle.std.specs.Prelude.{ℕ, false, ◌↔◌, ◌⊎◌, ◌≡◌, length}
+use Rattle.std.specs.Prelude.{ℕ, false, ◌↔◌, ◌⊎◌, ◌≡◌, length, Ok, Err}
 use Rattle.desk.specs.declared.Edition.{Edition}
-use Rattle.desk.specs.declared.OpenAnswer.{OpenAnswer}
-use Rattle.desk.specs.declared.ReplaceAnswer.{ReplaceAnswer}
 use Rattle.desk.specs.declared.Serial.{Serial}
-use Rattle.gate.specs.declared.PieceAnswer.{PieceAnswer}
-use Rattle.gate.specs.declared.Verdict.{Verdict}
 use Rattle.history.specs.Verdict.{EndsAt}
 use Rattle.matching.specs.Tags.{Tags}
 use Rattle.matching.specs.Words.{Word}
@@ -47,20 +46,20 @@ module _ (w : GateWorld) (s : Serial) where
   IsTagged mask = (k : ℕ) × Readable w s k × (mask ≡ mask_of w.tags (approval_at w k).handed) × (mask ≡ 0 → ⊥)
 
   -- whatever tables the pieces were lent
-  pub record OverAnyTables (answer : Verdict) : Type 0 where
-    pub none : (answer ≡ Q.NoTicket) ↔ IsNone
-    pub stale : (e : Edition) → (answer ≡ Q.Stale e) ↔ IsStale e
-    pub unread : (answer ≡ Q.Unread) ↔ IsUnread
-    pub pass : answer ≡ Q.Pass → IsRead
-    pub hold : (mask : ℕ) → answer ≡ Q.Hold mask → IsRead
+  pub record OverAnyTables (answer : DecideAnswer) : Type 0 where
+    pub none : (answer ≡ Err not_held) ↔ IsNone
+    pub stale : (e : Edition) → (answer ≡ Ok (Q.Stale e)) ↔ IsStale e
+    pub unread : (answer ≡ Ok Q.Unread) ↔ IsUnread
+    pub pass : answer ≡ Ok Q.Pass → IsRead
+    pub hold : (mask : ℕ) → answer ≡ Ok (Q.Hold mask) → IsRead
 
   -- over tables as left
-  pub record Exactly (answer : Verdict) : Type 0 where
-    pub none : (answer ≡ Q.NoTicket) ↔ IsNone
-    pub stale : (e : Edition) → (answer ≡ Q.Stale e) ↔ IsStale e
-    pub unread : (answer ≡ Q.Unread) ↔ IsUnread
-    pub pass : (answer ≡ Q.Pass) ↔ IsClean
-    pub hold : (mask : ℕ) → (answer ≡ Q.Hold mask) ↔ IsTagged mask
+  pub record Exactly (answer : DecideAnswer) : Type 0 where
+    pub none : (answer ≡ Err not_held) ↔ IsNone
+    pub stale : (e : Edition) → (answer ≡ Ok (Q.Stale e)) ↔ IsStale e
+    pub unread : (answer ≡ Ok Q.Unread) ↔ IsUnread
+    pub pass : (answer ≡ Ok Q.Pass) ↔ IsClean
+    pub hold : (mask : ℕ) → (answer ≡ Ok (Q.Hold mask)) ↔ IsTagged mask
 
   -- there is one, and none was accepted since it began
   abbrev pub IsCurrent : Type 0
@@ -68,9 +67,9 @@ module _ (w : GateWorld) (s : Serial) where
 
   -- a piece, whatever table it is lent: read, or cut after so many bytes, exactly if there is a current approval
   pub record PieceExactly (answer : PieceAnswer) : Type 0 where
-    pub none : (answer ≡ P.NoTicket) ↔ IsNone
-    pub stale : (e : Edition) → (answer ≡ P.Stale e) ↔ IsStale e
-    pub fed : IsCurrent ↔ ((answer ≡ P.Read) ⊎ ((n : ℕ) × (answer ≡ P.Cut n)))
+    pub none : (answer ≡ Err N.NoTicket) ↔ IsNone
+    pub stale : (e : Edition) → (answer ≡ Err (N.Stale e)) ↔ IsStale e
+    pub fed : IsCurrent ↔ ((answer ≡ Ok P.Read) ⊎ ((n : ℕ) × (answer ≡ Ok (P.Cut n))))
 
 -- a beginning: refused exactly where no replacement was accepted; then where the serials are used up; then where as many approvals are undecided
 -- as there are rooms, so that the room of a decided one serves again; else the serial one above the number begun

@@ -1,5 +1,6 @@
 -- Serving a piece is a history of calls: feeds, each followed by as many takings as there are records.
-use Rattle.std.specs.Prelude.{ℕ, ◌+◌, List, [], ◌∷◌, ◌++◌, ◌≡◌, refl, drop, replicate, take}
+use Rattle.desk.specs.Given.{FeedAnswer}
+use Rattle.std.specs.Prelude.{ℕ, List, [], ◌∷◌, ◌++◌, ◌≡◌, refl, drop, replicate, take}
 use Rattle.std.proofs.Common.{append_assoc, append-nil, ◌∙◌, sym, ap, ap₂, subst, take-add}
 use Rattle.std.proofs.Math.Nat.{min-le_left}
 use Rattle.desk.specs.Feed.{feed_of}
@@ -7,7 +8,6 @@ use Rattle.desk.specs.Laws.TakeMany.{many-takings, take-many-reached}
 use Rattle.desk.specs.Reached.{by_call, Call, call_feed, call_take, Reached}
 use Rattle.desk.specs.TakeMany.{many_of, oldest, take_many_of}
 use Rattle.desk.specs.declared.Desk.{Desk}
-use Rattle.desk.specs.declared.FeedAnswer.{FeedAnswer}
 use Rattle.desk.specs.declared.Record.{Record}
 use Rattle.desk.specs.declared.Serial.{Serial}
 use Rattle.history.specs.History.{Account, feeding, grown, on_serial, Proper, run, with_out, World}

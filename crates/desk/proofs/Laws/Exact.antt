@@ -1,6 +1,6 @@
 -- How the exact conditions of the desk's answers are shown, case by case.
-use Rattle.desk.specs.declared.OpenAnswer.TheVariants as O
-use Rattle.std.specs.Prelude.{◌<◌, ℕ, ◌↔◌, ◌≡◌, refl, length}
+use Rattle.desk.specs.Given.{Opening, Feeding, Closing}
+use Rattle.std.specs.Prelude.{◌<◌, ℕ, ◌↔◌, ◌≡◌, refl, length, Ok}
 use Rattle.std.proofs.Common.{ap, sym, arith}
 use Rattle.std.proofs.Math.Numerals.{lt_of_le_of_ne}
 use Rattle.desk.specs.Calls.{close_of, open_of}
@@ -15,10 +15,7 @@ use Rattle.desk.proofs.Laws.Views.{feeds}
 use Rattle.desk.specs.Numbers.{feed_number}
 use Rattle.desk.specs.Reached.{Reached}
 use Rattle.desk.specs.Rooms.{free_room, room_of}
-use Rattle.desk.specs.declared.Closing.{Closing}
 use Rattle.desk.specs.declared.Desk.{Desk}
-use Rattle.desk.specs.declared.Feeding.{Feeding}
-use Rattle.desk.specs.declared.Opening.{Opening}
 use Rattle.desk.specs.declared.Serial.{Serial}
 use Rattle.matching.specs.Words.{Word}
 use Rattle.desk.specs.Layout.{Lent}
@@ -54,7 +51,7 @@ opens_exactly d wide = go _ (opens d)
       no-set = (λ e. absurd (omega (arith, e)), λ h. absurd (a h));
       last_serial = (λ e. absurd (omega (arith, e)), λ h. absurd (b h.1));
       no_room = (λ e. absurd (omega (arith, e)), λ h. absurd (some-free i q l h.2));
-      opened = λ s. (λ e. (a, b, some-free i q l, (cc)), λ h. ap O.Opened (sym h.3));
+      opened = λ s. (λ e. (a, b, some-free i q l, (cc)), λ h. ap Ok (sym h.3));
     }
 
 -- FEED

@@ -1,4 +1,5 @@
 -- What holds of every desk that calls have made, whatever tables its feeds were lent.
+use Rattle.desk.specs.Given.{Opening, Feeding, Closing, Taking, Replacing}
 use Rattle.std.specs.Prelude.{◌+◌, ◌<◌, suc, zero, ℕ, false, true, ◌≡◌, refl, replicate}
 use Rattle.std.proofs.lemmas.Bool.{false≢true}
 use Rattle.std.proofs.Common.{arith, length-set}
@@ -10,13 +11,8 @@ use Rattle.desk.proofs.Laws.Views.{feeds}
 use Rattle.desk.specs.Laws.Views.{replace_done, replace_edition-end, replace_fault, replace_table, replaces, take-nothing, take-oldest, takes}
 use Rattle.desk.specs.Reached.{Call, Reached, after_call, by_call, call_close, call_feed, call_open, call_replace, call_take, from_new}
 use Rattle.desk.specs.Rooms.{free_ticket, is_held, new_ticket, room_of, serial_of, ticket_in}
-use Rattle.desk.specs.declared.Closing.{Closing}
 use Rattle.desk.specs.declared.Desk.{Desk}
-use Rattle.desk.specs.declared.Feeding.{Feeding}
-use Rattle.desk.specs.declared.Opening.{Opening}
-use Rattle.desk.specs.declared.Replacing.{Replacing}
 use Rattle.desk.specs.declared.Serial.{Serial}
-use Rattle.desk.specs.declared.Taking.{Taking}
 use Rattle.matching.specs.Laws.Bools.{not-both}
 use Rattle.matching.specs.Words.{Word}
 use Rattle.desk.specs.Layout.{Kind, Lent, Order, Sizes, sizes_of}

@@ -1,4 +1,5 @@
 -- Feeding a piece to its end: a feed takes no more than it is given, and a list of 1,024 numbers has room for all records.
+use Rattle.desk.specs.Given.{Feeding}
 use Rattle.std.specs.Prelude.{ℕ, ◌≤◌, length}
 use Rattle.std.proofs.Common.{arith}
 use Rattle.desk.specs.Feed.{feed_of, taken_by}
@@ -8,7 +9,6 @@ use Rattle.desk.proofs.Laws.Views.{feeds}
 use Rattle.desk.specs.Layout.{Lent}
 use Rattle.desk.specs.Rooms.{ticket_in, room_of}
 use Rattle.desk.specs.declared.Desk.{Desk}
-use Rattle.desk.specs.declared.Feeding.{Feeding}
 use Rattle.desk.specs.declared.Serial.{Serial}
 use Rattle.matching.specs.Words.{Word}
 

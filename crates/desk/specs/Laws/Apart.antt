@@ -1,4 +1,5 @@
 -- The rooms of every desk that calls have made tell serials apart, whatever tables its feeds were lent.
+use Rattle.desk.specs.Given.{Opening, Feeding, Closing, Taking, Replacing}
 use Rattle.std.specs.Prelude.{ℕ, ◌+◌, ◌<◌, ◌≤◌, true, List, ◌≡◌, length, set}
 use Rattle.std.proofs.lemmas.Bool.{false≢true}
 use Rattle.std.proofs.Common.{◌∙◌, ap, subst, sym, arith}
@@ -12,13 +13,8 @@ use Rattle.desk.specs.Laws.Views.{Opens, open_done, open_no-room, open_no-set, o
 use Rattle.desk.specs.Laws.Views.{Replaces, replace_done, replace_edition-end, replace_fault, replace_table}
 use Rattle.desk.specs.Laws.Views.{Takes, take-nothing, take-oldest}
 use Rattle.desk.specs.Rooms.{Apart, free_ticket, is_held, new_ticket, serial_of, ticket_in}
-use Rattle.desk.specs.declared.Closing.{Closing}
 use Rattle.desk.specs.declared.Desk.{Desk}
-use Rattle.desk.specs.declared.Feeding.{Feeding}
-use Rattle.desk.specs.declared.Opening.{Opening}
-use Rattle.desk.specs.declared.Replacing.{Replacing}
 use Rattle.desk.specs.declared.Serial.{Serial}
-use Rattle.desk.specs.declared.Taking.{Taking}
 use Rattle.desk.specs.declared.Ticket.{Ticket}
 use Rattle.matching.specs.Words.{Word}
 use Rattle.desk.specs.Layout.{Lent, Order, Sizes}

@@ -1,7 +1,6 @@
 -- How the exact conditions of the desk's answers are shown, case by case.
-use Rattle.std.specs.Prelude.{Ok}
-use Rattle.desk.specs.declared.TakeAnswer.TheVariants as K
-use Rattle.std.specs.Prelude.{◌%◌, suc, ℕ, true, List, ◌∷◌, ◌↔◌, ◌≡◌, refl, get_or, length}
+use Rattle.desk.specs.Given.{replaced_as, Taking, Replacing}
+use Rattle.std.specs.Prelude.{◌%◌, ◌+◌, suc, ℕ, true, List, ◌∷◌, ◌↔◌, ◌≡◌, refl, get_or, length, Some, Ok}
 use Rattle.std.proofs.Common.{◌∙◌, ap, sym, arith}
 use Rattle.desk.specs.Calls.{take_of}
 use Rattle.desk.specs.Conditions.{HasRoom, ReplaceExact, TakeExact}
@@ -11,13 +10,12 @@ use Rattle.desk.specs.Laws.Shared.{held-length, held-popped}
 use Rattle.desk.specs.Laws.Views.{Replaces, Takes}
 use Rattle.desk.specs.Laws.Views.{replace_done, replace_edition-end, replace_fault, replace_table, replaces, take-nothing, take-oldest, takes}
 use Rattle.desk.specs.Replace.{replace_of}
-use Rattle.desk.specs.Rooms.{is_for, room_of, ticket_in}
+use Rattle.desk.specs.Rooms.{edition_of, is_for, room_of, ticket_in}
 use Rattle.desk.specs.Shared.{held, no_record, popped}
 use Rattle.desk.specs.declared.Desk.{Desk}
 use Rattle.desk.specs.declared.Record.{Record}
-use Rattle.desk.specs.declared.Replacing.{Replacing}
+use Rattle.desk.specs.declared.Replaced.{Replaced}
 use Rattle.desk.specs.declared.Serial.{Serial}
-use Rattle.desk.specs.declared.Taking.{Taking}
 use Rattle.tables.specs.Building.{built_number}
 use Rattle.desk.specs.Layout.{Order, Sizes}
 use Rattle.desk.specs.Laws.Layout.{desk-number_iff, desk-tags_iff}
@@ -47,7 +45,7 @@ takes_exactly d = go _ (takes d)
       nothing = (λ q. absurd (omega (arith, q)), λ q. absurd (omega (arith, q, h)));
       taken = λ r.
           let oldest = held-popped d.records h in
-          (λ q. (held (popped d.records), (cc)), λ p. let e : get_or d.records.ring (d.records.first % most_records) no_record ≡ r = cc in ap K.Taken e);
+          (λ q. (held (popped d.records), (cc)), λ p. let e : get_or d.records.ring (d.records.first % most_records) no_record ≡ r = cc in ap Some e);
     }
 
 -- REPLACE
@@ -92,7 +90,8 @@ replaces_exactly d order len = go _ (replaces d order len)
           (λ e. absurd (omega (arith, e.0)), λ g. absurd (omega (arith, ap built_number b, (k.1 g).0)));
       last_edition = (λ e. absurd (omega (arith, e)), λ p. absurd (l p.1));
       replaced = λ e count. (
-        λ q. let c : tags ≡ count = cc in ((desk-tags_iff order len count).0 (b ∙ ap Ok c), l, (cc)),
+        λ q. let c : replaced_as (edition_of (d.edition.0 + 1)) tags ≡ replaced_as e count = cc in
+            ((desk-tags_iff order len count).0 (b ∙ ap (λ (x : Replaced). Ok x.tags) c), l, ap (λ (x : Replaced). x.edition) (sym c)),
         λ p. let t = (desk-tags_iff order len count).1 p.0 in let c : tags ≡ count = cc in cc,
       );
     }

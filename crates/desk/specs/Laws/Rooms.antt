@@ -1,10 +1,12 @@
 -- The laws of rooms: of the first room that a test holds of, and of setting one.
 use Prim.Native.Nat.{◌+◌, ◌<◌, ◌≤◌, suc, zero, ℕ}
-use Rattle.std.specs.Prelude.{Bool, not, ◌↔◌, ◌≡◌, eqb, drop, set}
+use Rattle.std.specs.List.{position_or_len}
+use Rattle.std.specs.Prelude.{MatchOption, None, Option, Some, nat_lt, position, Bool, not, ◌↔◌, ◌≡◌, eqb, drop, set}
 use Rattle.std.proofs.Math.Bool.{cond, false, true}
 use Rattle.std.proofs.lemmas.Bool.{false≢true}
 use mathlib.Core.List.{List, [], ◌∷◌}
-use Rattle.std.proofs.Common.{◌∙◌, sym, add-one, get_or-set_other, get_or-set_same}
+use Rattle.std.proofs.lemmas.List.Recursion.{is_position_or_len}
+use Rattle.std.proofs.Common.{ltb-false, ltb-true, one-add, subst, ◌∙◌, sym, add-one, get_or-set_other, get_or-set_same}
 use Rattle.std.proofs.Math.Path.{ap, refl}
 use Rattle.std.proofs.Math.Decide.{dec_le}
 use native.Mathlib.Omega.{arith}
@@ -185,3 +187,21 @@ unfolding tickets_held
 held-set [] i t h = absurd (omega arith)
 held-set (r ∷ rooms) zero t h = omega arith
 held-set (r ∷ rooms) (suc i) t h = omega (arith, held-set rooms i t (omega arith))
+
+-- the library's word for the first room
+first_room_is : (g : Ticket → Bool) (rooms : List Ticket) → first_room g rooms ≡ position_or_len g rooms
+unfolding first_room
+first_room_is g rooms = is_position_or_len (first_room g) g refl (λ t r. rw one-add refl) rooms
+
+-- what looking for a room finds: the first room, or that there is none
+pub found_by : (g : Ticket → Bool) (rooms : List Ticket) (r : Option ℕ) → length rooms ≡ most_tickets → r ≡ position g rooms
+    → MatchOption r (most_tickets ≤ first_room g rooms) (λ i. (i ≡ first_room g rooms) × (i < most_tickets))
+found_by g rooms r n e =
+    subst (λ (o : Option ℕ). MatchOption o (most_tickets ≤ first_room g rooms) (λ i. (i ≡ first_room g rooms) × (i < most_tickets)))
+    (sym (e ∙ ap (λ (m : ℕ). cond (nat_lt m (length rooms)) (Some m) None) (sym (first_room_is g rooms))))
+    (by_test (first_room g rooms) (length rooms) n _ refl)
+  where
+    by_test : (m l : ℕ) → l ≡ most_tickets → (b : Bool) → nat_lt m l ≡ b
+        → MatchOption (cond b (Some m) None) (most_tickets ≤ m) (λ i. (i ≡ m) × (i < most_tickets))
+    by_test m l q true h = (refl, omega (arith, ltb-true _ _ h, q))
+    by_test m l q false h = omega (arith, ltb-false _ _ h, q)

@@ -1,6 +1,6 @@
 -- Taking many at once is so many takings.
-use Rattle.desk.specs.declared.TakeAnswer.TheVariants as K
-use Rattle.std.specs.Prelude.{◌%◌, ◌/◌, ◌<◌, ◌≤◌, suc, zero, ℕ, List, [], ◌∷◌, ◌≡◌, refl, get_or}
+use Rattle.desk.specs.Given.{Taking}
+use Rattle.std.specs.Prelude.{◌%◌, ◌/◌, ◌<◌, ◌≤◌, suc, zero, ℕ, List, [], ◌∷◌, ◌≡◌, refl, get_or, Some}
 use Rattle.std.proofs.Common.{ap, subst, sym, arith}
 use Rattle.std.proofs.Math.Nat.{min-le_left}
 use Rattle.desk.specs.Calls.{take_of, with_records}
@@ -10,23 +10,22 @@ use Rattle.desk.specs.Shared.{no_record, popped}
 use Rattle.desk.specs.TakeMany.{many_of, oldest, take_many_of, without}
 use Rattle.desk.specs.declared.Desk.{Desk}
 use Rattle.desk.specs.declared.Record.{Record}
-use Rattle.desk.specs.declared.Taking.{Taking}
 use Rattle.desk.specs.Limits.{most_records}
 
 -- a taking from a list that isn't empty
 take-one : (d : Desk) → 0 < d.records.count
-    → take_of d ≡ record { desk = with_records d (popped d.records); answer = K.Taken (get_or d.records.ring (d.records.first % most_records) no_record) }
+    → take_of d ≡ record { desk = with_records d (popped d.records); answer = Some (get_or d.records.ring (d.records.first % most_records) no_record) }
 take-one d h = go _ (takes d)
   where
     go : (r : Taking) → Takes d r → r
-        ≡ record { desk = with_records d (popped d.records); answer = K.Taken (get_or d.records.ring (d.records.first % most_records) no_record) }
+        ≡ record { desk = with_records d (popped d.records); answer = Some (get_or d.records.ring (d.records.first % most_records) no_record) }
     go r (take-nothing e) = absurd (omega (arith, e, h))
     go r (take-oldest p) = refl
 
 -- n takings, one after another: what they hand out, and the desk then
 pub data Takings : ℕ → Desk → List Record → Desk → Type 0 where
   no_more : {d : Desk} → Takings 0 d [] d
-  one_more : {n : ℕ} {d e : Desk} {r : Record} {rs : List Record} → (take_of d).answer ≡ K.Taken r → Takings n (take_of d).desk rs e
+  one_more : {n : ℕ} {d e : Desk} {r : Record} {rs : List Record} → (take_of d).answer ≡ Some r → Takings n (take_of d).desk rs e
       → Takings (suc n) d (r ∷ rs) e
 
 pub many-takings : (n : ℕ) (d : Desk) → n ≤ d.records.count → Takings n d (oldest n d.records) (with_records d (without n d.records))

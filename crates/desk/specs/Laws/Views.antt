@@ -1,13 +1,11 @@
 -- Each call by its cases, with what holds in each: shown once, and every fact about a call goes by these cases.
-use Rattle.std.specs.Prelude.{Err, Ok}
-use Rattle.desk.specs.declared.ReplaceAnswer.TheVariants as R
-use Rattle.desk.specs.declared.OpenAnswer.TheVariants as O
-use Rattle.desk.specs.declared.FeedAnswer.TheVariants as F
-use Rattle.desk.specs.declared.CloseAnswer.TheVariants as C
-use Rattle.desk.specs.declared.TakeAnswer.TheVariants as K
+use Rattle.desk.specs.Given.{Opening, Feeding, Closing, Taking, Replacing, not_held, replaced_as}
+use Rattle.desk.specs.declared.ReplaceRefusal.TheVariants as R
+use Rattle.desk.specs.declared.OpenRefusal.TheVariants as O
+use Rattle.desk.specs.declared.FeedRefusal.TheVariants as F
 use Rattle.desk.specs.declared.StateAnswer.TheVariants as A
 use Rattle.tables.specs.declared.BuildFault.TheVariants as B
-use Rattle.std.specs.Prelude.{◌%◌, ◌+◌, ◌<◌, ◌≤◌, suc, zero, ℕ, Bool, ◌&&◌, false, not, true, ◌⊎◌, ◌≡◌, refl, eqb, ltb, get_or, length}
+use Rattle.std.specs.Prelude.{◌%◌, ◌+◌, ◌<◌, ◌≤◌, suc, zero, ℕ, Bool, ◌&&◌, false, not, true, ◌⊎◌, ◌≡◌, refl, eqb, ltb, get_or, length, Ok, Err, Some, None}
 use Rattle.std.proofs.Common.{true≢false, inl, inr, arith, eqb-true, ltb-false, ltb-true}
 use Rattle.std.proofs.lemmas.Bool.{eqb-false, not-true}
 use Rattle.desk.specs.Calls.{close_by, close_of, open_by, open_of, opened_in, take_by, take_of, with_records, with_ticket}
@@ -16,14 +14,9 @@ use Rattle.desk.specs.Replace.{replace_by, replace_of, under_next}
 use Rattle.desk.specs.Rooms.{edition_of, free_room, free_ticket, room_of, serial_of, ticket_in}
 use Rattle.desk.specs.Shared.{no_record, popped}
 use Rattle.desk.specs.State.{is_given, state_by, state_of}
-use Rattle.desk.specs.declared.Closing.{Closing}
 use Rattle.desk.specs.declared.Desk.{Desk}
-use Rattle.desk.specs.declared.Feeding.{Feeding}
-use Rattle.desk.specs.declared.Opening.{Opening}
-use Rattle.desk.specs.declared.Replacing.{Replacing}
 use Rattle.desk.specs.declared.Serial.{Serial}
 use Rattle.desk.specs.declared.StateAnswer.{StateAnswer}
-use Rattle.desk.specs.declared.Taking.{Taking}
 use Rattle.desk.specs.declared.Ticket.{Ticket}
 use Rattle.matching.specs.Laws.Bools.{and_l, and_r}
 use Rattle.matching.specs.Words.{Word}
@@ -39,11 +32,11 @@ abbrev pub Not : {A : Type 0} → A → A → Type 0
 Not a b = a ≡ b → ⊥
 
 pub data Opens (d : Desk) : Opening → Type 0 where
-  open_no-set : d.edition.0 ≡ 0 → Opens d (record { desk = d; answer = O.NoSet })
-  open_serial-end : Not d.edition.0 0 → d.serial.0 ≡ largest → Opens d (record { desk = d; answer = O.SerialEnd })
-  open_no-room : Not d.edition.0 0 → Not d.serial.0 largest → most_tickets ≤ free_room d.tickets → Opens d (record { desk = d; answer = O.NoRoom })
+  open_no-set : d.edition.0 ≡ 0 → Opens d (record { desk = d; answer = Err O.NoSet })
+  open_serial-end : Not d.edition.0 0 → d.serial.0 ≡ largest → Opens d (record { desk = d; answer = Err O.SerialEnd })
+  open_no-room : Not d.edition.0 0 → Not d.serial.0 largest → most_tickets ≤ free_room d.tickets → Opens d (record { desk = d; answer = Err O.NoRoom })
   open_done : Not d.edition.0 0 → Not d.serial.0 largest → (i : ℕ) → i ≡ free_room d.tickets → i < most_tickets
-      → Opens d (record { desk = opened_in d i; answer = O.Opened (serial_of (d.serial.0 + 1)) })
+      → Opens d (record { desk = opened_in d i; answer = Ok (serial_of (d.serial.0 + 1)) })
 
 pub opens : (d : Desk) → Opens d (open_of d)
 unfolding open_of
@@ -56,8 +49,8 @@ opens d = go _ _ _ refl refl refl
     go false false true p q r = open_done (eqb-false _ _ p) (eqb-false _ _ q) (free_room d.tickets) refl (ltb-true _ _ r)
 
 pub data Closes (d : Desk) (s : Serial) : Closing → Type 0 where
-  close_no-ticket : most_tickets ≤ room_of d.tickets s → Closes d s (record { desk = d; answer = C.NoTicket })
-  close_done : (i : ℕ) → i ≡ room_of d.tickets s → i < most_tickets → Closes d s (record { desk = with_ticket d i free_ticket; answer = C.Closed })
+  close_no-ticket : most_tickets ≤ room_of d.tickets s → Closes d s (record { desk = d; answer = Err not_held })
+  close_done : (i : ℕ) → i ≡ room_of d.tickets s → i < most_tickets → Closes d s (record { desk = with_ticket d i free_ticket; answer = Ok tt })
 
 pub closes : (d : Desk) (s : Serial) → Closes d s (close_of d s)
 unfolding close_of
@@ -68,9 +61,9 @@ closes d s = go _ refl
     go false p = close_no-ticket (ltb-false _ _ p)
 
 pub data Takes (d : Desk) : Taking → Type 0 where
-  take-nothing : d.records.count ≡ 0 → Takes d (record { desk = d; answer = K.Nothing })
+  take-nothing : d.records.count ≡ 0 → Takes d (record { desk = d; answer = None })
   take-oldest : 0 < d.records.count
-      → Takes d (record { desk = with_records d (popped d.records); answer = K.Taken (get_or d.records.ring (d.records.first % most_records) no_record) })
+      → Takes d (record { desk = with_records d (popped d.records); answer = Some (get_or d.records.ring (d.records.first % most_records) no_record) })
 
 pub takes : (d : Desk) → Takes d (take_of d)
 unfolding take_of
@@ -85,13 +78,13 @@ takes d = go _ refl
     go false p = take-oldest (pos _ (eqb-false _ _ p))
 
 pub data Replaces (d : Desk) (order : Order) (len : Sizes) : Replacing → Type 0 where
-  replace_fault : (fault : SetFault) → desk_built order len ≡ Err (B.Set fault) → Replaces d order len (record { desk = d; answer = R.Fault fault })
+  replace_fault : (fault : SetFault) → desk_built order len ≡ Err (B.Set fault) → Replaces d order len (record { desk = d; answer = Err (R.Fault fault) })
   replace_table : (machine needs : ℕ) → desk_built order len ≡ Err (B.Table machine needs)
-      → Replaces d order len (record { desk = d; answer = R.Table machine needs })
+      → Replaces d order len (record { desk = d; answer = Err (R.Table machine needs) })
   replace_edition-end : (count : ℕ) → desk_built order len ≡ Ok count → d.edition.0 ≡ largest
-      → Replaces d order len (record { desk = d; answer = R.EditionEnd })
+      → Replaces d order len (record { desk = d; answer = Err R.EditionEnd })
   replace_done : (count : ℕ) → desk_built order len ≡ Ok count → Not d.edition.0 largest
-      → Replaces d order len (record { desk = under_next d (desk_slots order len); answer = R.Replaced (edition_of (d.edition.0 + 1)) count })
+      → Replaces d order len (record { desk = under_next d (desk_slots order len); answer = Ok (replaced_as (edition_of (d.edition.0 + 1)) count) })
 
 pub replaces : (d : Desk) (order : Order) (len : Sizes) → Replaces d order len (replace_of d order len)
 unfolding replace_of
@@ -105,16 +98,16 @@ replaces d order len = go _ _ refl refl
 
 -- by the room that the serial has
 pub data Feeds (d : Desk) (i : ℕ) (table : Lent) (piece : Word) : Feeding → Type 0 where
-  feed_no-ticket : most_tickets ≤ i → Feeds d i table piece (record { desk = d; answer = F.NoTicket })
+  feed_no-ticket : most_tickets ≤ i → Feeds d i table piece (record { desk = d; answer = Err F.NoTicket })
   feed_stale : i < most_tickets → Not (ticket_in d.tickets i).edition.0 d.edition.0
-      → Feeds d i table piece (record { desk = d; answer = F.Stale (ticket_in d.tickets i).edition })
+      → Feeds d i table piece (record { desk = d; answer = Err (F.Stale (ticket_in d.tickets i).edition) })
   feed_other-slots : i < most_tickets → (ticket_in d.tickets i).edition.0 ≡ d.edition.0 → (Fits (sizes_of table) d.slots → ⊥)
-      → Feeds d i table piece (record { desk = d; answer = F.Fed (advance 0 0 Damaged) })
+      → Feeds d i table piece (record { desk = d; answer = Ok (advance 0 0 Damaged) })
   feed_long : i < most_tickets → (ticket_in d.tickets i).edition.0 ≡ d.edition.0 → Fits (sizes_of table) d.slots
-      → largest < (ticket_in d.tickets i).taken + length piece → Feeds d i table piece (record { desk = d; answer = F.Long })
+      → largest < (ticket_in d.tickets i).taken + length piece → Feeds d i table piece (record { desk = d; answer = Err F.Long })
   feed_no-place : i < most_tickets → (ticket_in d.tickets i).edition.0 ≡ d.edition.0 → Fits (sizes_of table) d.slots
       → (ticket_in d.tickets i).taken + length piece ≤ largest → place_fits (sizes_of table) d.slots (ticket_in d.tickets i).place ≡ false
-      → Feeds d i table piece (record { desk = d; answer = F.Fed (advance 0 0 Damaged) })
+      → Feeds d i table piece (record { desk = d; answer = Ok (advance 0 0 Damaged) })
   feed_read : i < most_tickets → (ticket_in d.tickets i).edition.0 ≡ d.edition.0 → Fits (sizes_of table) d.slots
       → (ticket_in d.tickets i).taken + length piece ≤ largest
       → Feeds d i table piece (fed_by d i (ticket_in d.tickets i) (read_for d (ticket_in d.tickets i) table piece))

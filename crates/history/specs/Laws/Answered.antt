@@ -1,6 +1,7 @@
 -- What each call answers after any history, shown case by case.
-use Rattle.desk.specs.declared.FeedAnswer.TheVariants as F
-use Rattle.std.specs.Prelude.{◌+◌, ◌-◌, ◌<◌, ℕ, [], ◌≡◌, refl, length}
+use Rattle.desk.specs.Given.{Feeding, Closing, Taking}
+use Rattle.desk.specs.declared.FeedRefusal.TheVariants as F
+use Rattle.std.specs.Prelude.{◌+◌, ◌<◌, ℕ, [], ◌≡◌, refl, length, Ok, Err}
 use Rattle.std.proofs.Common.{◌∙◌, ap, subst, sym, arith, le_of_eq, le_trans}
 use Rattle.desk.specs.Calls.{close_of, open_of, take_of}
 use Rattle.desk.specs.Feed.{advance, feed_of}
@@ -10,11 +11,8 @@ use Rattle.desk.specs.Laws.Views.{Takes, take-nothing, take-oldest, takes}
 use Rattle.desk.specs.Replace.{replace_of}
 use Rattle.desk.specs.Rooms.{room_of}
 use Rattle.desk.specs.Shared.{held, popped, round}
-use Rattle.desk.specs.declared.Closing.{Closing}
-use Rattle.desk.specs.declared.Feeding.{Feeding}
 use Rattle.desk.specs.declared.Records.{Records}
 use Rattle.desk.specs.declared.Serial.{Serial}
-use Rattle.desk.specs.declared.Taking.{Taking}
 use Rattle.history.specs.History.{Gone, OpenOrStale, OpenTicket, World, account_at, feeding, stream}
 use Rattle.history.specs.Laws.Answering.{feeds_for, FeedsFor, fits-left, for_gone, for_long, for_slots, for_read, for_stale, gone_iff}
 use Rattle.history.specs.Laws.Feeding.{live}
@@ -60,7 +58,7 @@ feed_answered {Left} w v s table piece = go _ (feeds_for w v s table piece) refl
     }
     go r (for_stale j o) q = record {
       no-ticket = (λ e. differ cc, λ g. absurd (not-gone w s j g o.0));
-      stale = λ i. (λ e. (j, o, cc), λ z d. F.Stale (record { 0 = sym (same (λ k. i.0 ≡ (account_at w k).edition) z.0 j z.1.0 o.0 z.2) d }));
+      stale = λ i. (λ e. (j, o, cc), λ z d. Err (F.Stale (record { 0 = sym (same (λ k. i.0 ≡ (account_at w k).edition) z.0 j z.1.0 o.0 z.2) d })));
       other-slots = λ k x n. absurd (omega (arith, o.1, current k j x o.0));
       long = (λ e. differ cc, λ z. absurd (omega (arith, o.1, current z.0 j z.1 o.0)));
       fed = λ m e. differ cc;
@@ -91,8 +89,8 @@ feed_answered {Left} w v s table piece = go _ (feeds_for w v s table piece) refl
         λ z. absurd (omega (arith, l, same (λ i. largest < length (account_at w i).bytes + length piece) z.0 j z.1.0 o.0 z.3)),
       );
       fed = λ m e. (j, o, λ z. l);
-      reads = λ p t c k u m. same (λ i. FedAsDemanded w s (account_at w i) piece (F.Fed (advance x.taken (length x.found) x.stop))) j k o.0 u.0
-          (let here : feed_of w.desk s w.table piece ≡ record { desk = d; answer = F.Fed (advance x.taken (length x.found) x.stop) } =
+      reads = λ p t c k u m. same (λ i. FedAsDemanded w s (account_at w i) piece (Ok (advance x.taken (length x.found) x.stop))) j k o.0 u.0
+          (let here : feed_of w.desk s w.table piece ≡ record { desk = d; answer = Ok (advance x.taken (length x.found) x.stop) } =
           ap (λ (z : Lent). feed_of w.desk s z piece) (sym t) ∙ q in
           record {
             outcome = x;

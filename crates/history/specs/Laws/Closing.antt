@@ -1,11 +1,11 @@
 -- A closing: the account is closed and its room is free.
+use Rattle.desk.specs.Given.{Closing}
 use Rattle.std.specs.Prelude.{◌<◌, ◌≤◌, suc, ℕ, false, true, List, ◌≡◌, refl, length, set}
 use Rattle.std.proofs.Common.{◌∙◌, subst, sym, arith}
 use Rattle.desk.specs.Calls.{with_ticket}
 use Rattle.desk.specs.Laws.Views.{Closes, close_done, close_no-ticket, closes}
 use Rattle.desk.specs.Reached.{by_call, call_close, Reached}
 use Rattle.desk.specs.Rooms.{free_ticket, is_for, room_of, serial_of, ticket_in}
-use Rattle.desk.specs.declared.Closing.{Closing}
 use Rattle.desk.specs.declared.Serial.{Serial}
 use Rattle.desk.specs.declared.Ticket.{Ticket}
 use Rattle.history.specs.History.{Account, World, account_at, closing, on_serial, records_due, shut, step, stream, with_accounts}

@@ -1,9 +1,8 @@
 -- What an opening and a replacement answer, by counts of what was accepted before.
-use Rattle.std.specs.Prelude.{Ok}
-use Rattle.desk.specs.declared.OpenAnswer.TheVariants as O
-use Rattle.desk.specs.declared.ReplaceAnswer.TheVariants as R
-use Rattle.std.specs.Prelude.{◌+◌, ◌<◌, ◌≤◌, suc, ℕ, ◌≡◌, refl, length}
-use Rattle.std.proofs.Common.{◌∙◌, sym, arith}
+use Rattle.desk.specs.Given.{Opening, ReplaceAnswer, Replacing, replaced_as}
+use Rattle.desk.specs.declared.Replaced.{Replaced}
+use Rattle.std.specs.Prelude.{◌+◌, ◌<◌, ◌≤◌, suc, ℕ, ◌≡◌, refl, length, Ok}
+use Rattle.std.proofs.Common.{◌∙◌, ap, sym, arith}
 use Rattle.desk.specs.Calls.{open_of}
 use Rattle.desk.specs.Laws.Layout.{desk-fault_iff, desk-table_iff, desk-tags_iff}
 use Rattle.desk.specs.Laws.Rooms.{all-held_iff, held_le}
@@ -15,8 +14,6 @@ use Rattle.desk.specs.Replace.{replace_of}
 use Rattle.desk.specs.Rooms.{edition_of, free_room, tickets_held}
 use Rattle.desk.specs.declared.Desk.{Desk}
 use Rattle.desk.specs.declared.Edition.{Edition}
-use Rattle.desk.specs.declared.Opening.{Opening}
-use Rattle.desk.specs.declared.Replacing.{Replacing}
 use Rattle.history.specs.Cases.{OpensAs, ReplacesAs}
 use Rattle.history.specs.Laws.Numbers.{differ, lower}
 use Rattle.matching.specs.Limits.{largest}
@@ -68,7 +65,7 @@ module _ (d : Desk) (accepted given waiting : ℕ) (wide : length d.tickets ≡ 
         no_room = (λ e. differ cc, λ z. absurd (omega (arith, free (omega (arith, p, h)), z.2)));
         opened = λ s. (
           λ e. let x : d.serial.0 + 1 ≡ s.0 = cc in (some a, few b, free (omega (arith, p, h)), omega (arith, x, serials)),
-          λ z. let y : d.serial.0 + 1 ≡ s.0 = omega (arith, z.3, serials) in λ k. O.Opened (record { 0 = y k }),
+          λ z. let y : d.serial.0 + 1 ≡ s.0 = omega (arith, z.3, serials) in λ k. Ok (record { 0 = y k }),
         );
       }
 
@@ -105,15 +102,16 @@ module _ (d : Desk) (accepted : ℕ) (now : accepted ≡ d.edition.0) (few-editi
         replaced = λ i n. (λ e. done i n e, λ h. so i n ((desk-tags_iff order len n).1 h.0) h.2);
       }
         where
-          done : (i : Edition) (n : ℕ) → R.Replaced (edition_of (d.edition.0 + 1)) c ≡ R.Replaced i n
+          done : (i : Edition) (n : ℕ) → ◌≡◌ {A = ReplaceAnswer} (Ok (replaced_as (edition_of (d.edition.0 + 1)) c)) (Ok (replaced_as i n))
               → DeskBuilds order len n × (accepted < largest) × (i.0 ≡ suc (accepted))
           done i n e =
-              let x : d.edition.0 + 1 ≡ i.0 = cc in
-              ((desk-tags_iff order len n).0 (cc), few q, omega (arith, x, now))
+              let g : replaced_as (edition_of (d.edition.0 + 1)) c ≡ replaced_as i n = cc in
+              let x : d.edition.0 + 1 ≡ i.0 = ap (λ (y : Replaced). y.edition.0) g in
+              ((desk-tags_iff order len n).0 (p ∙ ap (λ (y : Replaced). Ok y.tags) g), few q, omega (arith, x, now))
 
           so : (i : Edition) (n : ℕ) → desk_built order len ≡ Ok n → i.0 ≡ suc (accepted)
-              → R.Replaced (edition_of (d.edition.0 + 1)) c ≡ R.Replaced i n
+              → ◌≡◌ {A = ReplaceAnswer} (Ok (replaced_as (edition_of (d.edition.0 + 1)) c)) (Ok (replaced_as i n))
           so i n e x =
               let y : d.edition.0 + 1 ≡ i.0 = omega (arith, x, now) in
               let z : c ≡ n = cc in
-              λ d. R.Replaced (record { 0 = y d }) (z d)
+              λ d. Ok (replaced_as (record { 0 = y d }) (z d))

@@ -1,6 +1,6 @@
 -- What each call makes of the records held, case by case.
-use Rattle.desk.specs.declared.TakeAnswer.TheVariants as K
-use Rattle.std.specs.Prelude.{◌-◌, [], ◌++◌, ◌≡◌, refl}
+use Rattle.desk.specs.Given.{Opening, Feeding, Closing, Taking, Replacing}
+use Rattle.std.specs.Prelude.{◌-◌, [], ◌++◌, ◌≡◌, refl, Some}
 use Rattle.std.proofs.Common.{append-nil, ◌∙◌, ap, sym, arith}
 use Rattle.desk.specs.Calls.{take_of}
 use Rattle.desk.specs.Conditions.{ticket_of}
@@ -21,14 +21,9 @@ use Rattle.desk.specs.Limits.{most_records}
 use Rattle.desk.specs.Reached.{Call, Reached, call_close, call_feed, call_open, call_replace, call_take}
 use Rattle.desk.specs.Rooms.{room_of}
 use Rattle.desk.specs.Shared.{held, records_of, round}
-use Rattle.desk.specs.declared.Closing.{Closing}
 use Rattle.desk.specs.declared.Desk.{Desk}
-use Rattle.desk.specs.declared.Feeding.{Feeding}
-use Rattle.desk.specs.declared.Opening.{Opening}
 use Rattle.desk.specs.declared.Records.{Records}
-use Rattle.desk.specs.declared.Replacing.{Replacing}
 use Rattle.desk.specs.declared.Serial.{Serial}
-use Rattle.desk.specs.declared.Taking.{Taking}
 use Rattle.history.specs.Laws.Numbers.{differ}
 use Rattle.history.specs.RecordsHeld.{HandsOut, HeldAfter, PutsBehind}
 use Rattle.matching.specs.Words.{Word}
@@ -53,7 +48,7 @@ take-held d = go _ (takes d) refl
         record {
           none = λ p. differ cc;
           oldest = λ x rest p. (
-            ap (λ (y : Taking). y.answer) e ∙ ap K.Taken cc,
+            ap (λ (y : Taking). y.answer) e ∙ ap Some cc,
             ap (λ (y : Taking). held y.desk.records) e ∙ cc,
           );
         }

@@ -1,4 +1,5 @@
 -- An opening keeps the ledger: a room was free, so fewer tickets than rooms were open or stale.
+use Rattle.desk.specs.Given.{Opening}
 use Rattle.std.specs.Prelude.{◌+◌, ◌<◌, ◌≤◌, suc, ℕ, Bool, false, true, [], ◌++◌, ◌∷◌, length, take}
 use Rattle.std.proofs.Math.Bool.{cond}
 use Rattle.std.proofs.Common.{◌∙◌, subst, sym}
@@ -11,7 +12,6 @@ use Rattle.desk.specs.Calls.{opened_in}
 use Rattle.desk.specs.Laws.Rooms.{first_room-holds, free-held, full_iff, held_le, held-set, new-held}
 use Rattle.desk.specs.Laws.Views.{Opens, open_done, open_no-room, open_no-set, open_serial-end, opens}
 use Rattle.desk.specs.Rooms.{free_room, is_free, is_held, new_ticket, serial_of, ticket_in, tickets_held}
-use Rattle.desk.specs.declared.Opening.{Opening}
 use Rattle.history.specs.History.{Account, World, account_at, lives, new_account, no_account, opening, step, with_accounts}
 use Rattle.history.specs.Laws.Invariant.{Inv, wide}
 use Rattle.history.specs.Laws.Ledger.{Ledger, lives_append, order_at, tags_of_order}

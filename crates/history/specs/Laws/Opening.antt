@@ -1,4 +1,5 @@
 -- An opening: one account more, and its ticket in a room that was free.
+use Rattle.desk.specs.Given.{Opening}
 use Prim.Native.Nat.{◌+◌, ◌<◌, ◌≤◌, suc, zero, ℕ}
 use Rattle.std.specs.Prelude.{false, true, List, [], ◌++◌, ◌∷◌, ◌≡◌, refl, length, set}
 use Rattle.std.proofs.Common.{inr, subst, sym}
@@ -8,7 +9,6 @@ use Rattle.desk.specs.Laws.Rooms.{first_room-holds, for_held, free-held, held_fo
 use Rattle.desk.specs.Laws.Views.{Opens, open_done, open_no-room, open_no-set, open_serial-end, opens}
 use Rattle.desk.specs.Reached.{by_call, call_open, Reached}
 use Rattle.desk.specs.Rooms.{free_room, is_for, is_free, is_held, new_ticket, room_of, serial_of, ticket_in}
-use Rattle.desk.specs.declared.Opening.{Opening}
 use Rattle.desk.specs.declared.Serial.{Serial}
 use Rattle.desk.specs.declared.Ticket.{Ticket}
 use Rattle.history.specs.History.{Account, World, account_at, new_account, no_account, opening, records_due, step, stream, with_accounts}

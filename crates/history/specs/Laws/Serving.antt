@@ -1,10 +1,9 @@
 -- Serving the tickets one after another: no call is refused, and the orders and the accounts come to be those of the history served.
+use Rattle.desk.specs.Given.{FeedAnswer}
 use Rattle.matching.specs.declared.Stop.TheVariants as S
-use Rattle.desk.specs.declared.FeedAnswer.TheVariants as F
-use Rattle.std.specs.Prelude.{◌+◌, ◌<◌, ◌≤◌, suc, zero, ℕ, Bool, false, true, List, [], ◌++◌, ◌∷◌, ◌⊎◌, ◌≡◌, refl, drop, length, take}
+use Rattle.std.specs.Prelude.{◌+◌, ◌<◌, ◌≤◌, suc, zero, ℕ, Bool, false, true, List, [], ◌++◌, ◌∷◌, ◌⊎◌, ◌≡◌, refl, drop, length, take, Ok}
 use Rattle.std.proofs.Common.{inl, inr, ◌∙◌, ap, subst, subst₂, sym, le_of_eq, arith, length-append, length-drop, take-append-drop, length-take-le, take_all}
 use Rattle.desk.specs.Rooms.{serial_of}
-use Rattle.desk.specs.declared.FeedAnswer.{FeedAnswer}
 use Rattle.desk.specs.declared.Serial.{Serial}
 use Rattle.history.specs.History.{Account, grown, Replacement, run, step, with_closed, World}
 use Rattle.history.specs.Laws.Becomes.{Becomes, becomes_append, becomes_nothing, becomes_sound}
@@ -93,9 +92,9 @@ at-fed_whole (suc most) w pre x t b small short enough =
     cases : ((v : World) (l : List Account) (y : Account) → Served v l y → (p : Word) → Below 256 p → length y.bytes + length p ≤ largest → Enough most v p
         → Becomes v (fed_whole most (serial_of y.serial) p v) v.orders (l ++ grown p y ∷ []))
         → ((f.stop ≡ S.All) × (c ≡ length b)) ⊎ ((f.stop ≡ S.Full) × (c < length b) × (w.desk.records.count ≡ 0 → 0 < c))
-        → Becomes w (call_feed n w.table b ∷ after_full (F.Fed (advance c f.records f.stop)) more w1) w.orders (pre ++ grown b x ∷ [])
+        → Becomes w (call_feed n w.table b ∷ after_full (Ok (advance c f.records f.stop)) more w1) w.orders (pre ++ grown b x ∷ [])
     cases more-feeds (inl q) =
-        subst (λ (y : Stop). Becomes w (call_feed n w.table b ∷ after_full (F.Fed (advance c f.records y)) more w1) w.orders (pre ++ grown b x ∷ []))
+        subst (λ (y : Stop). Becomes w (call_feed n w.table b ∷ after_full (Ok (advance c f.records y)) more w1) w.orders (pre ++ grown b x ∷ []))
         (sym q.0)
         (subst (λ (p : Word). Becomes w (call_feed n w.table b ∷ []) w.orders (pre ++ grown p x ∷ [])) (take_all c b (le_of_eq (sym q.1)))
         f.becomes)
@@ -105,7 +104,7 @@ at-fed_whole (suc most) w pre x t b small short enough =
         (inr (left q.2 q.1 enough, e.empty)) in
         let o2 : w2.orders ≡ w.orders = e.becomes.orders_are ∙ f.becomes.orders_are in
         let whole : grown (drop c b) x1 ≡ grown b x = grown-more x (take c b) (drop c b) ∙ ap (λ (p : Word). grown p x) (take-append-drop c b) in
-        subst (λ (y : Stop). Becomes w (call_feed n w.table b ∷ after_full (F.Fed (advance c f.records y)) more w1) w.orders (pre ++ grown b x ∷ []))
+        subst (λ (y : Stop). Becomes w (call_feed n w.table b ∷ after_full (Ok (advance c f.records y)) more w1) w.orders (pre ++ grown b x ∷ []))
         (sym q.0)
         (becomes_append w (call_feed n w.table b ∷ []) (then emptied (more c) w1) _ _ _ _ f.becomes
         (becomes_append w1 (emptied w1) (more c w2) _ _ _ _ e.becomes

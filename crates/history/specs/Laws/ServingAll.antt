@@ -10,10 +10,9 @@ use Rattle.desk.specs.Rooms.{serial_of}
 use Rattle.desk.specs.declared.Serial.{Serial}
 use Rattle.history.specs.History.{Account, account_at, grown, lives, new_account, no_account, Replacement, run, start, with_bytes, World}
 use Rattle.history.specs.Laws.Becomes.{AllFine, Becomes, becomes_append, becomes_sound, replaced-all}
-use Rattle.history.specs.Laws.Feeding.{live, now}
 use Rattle.history.specs.Laws.Invariant.{Kept, inv_start}
 use Rattle.history.specs.Laws.Ledger.{Fine, ledger_start, no_order, tags_of_order}
-use Rattle.history.specs.Laws.LedgerSteps.{sound, SoundLeft}
+use Rattle.history.specs.Laws.LedgerSteps.{SoundLeft}
 use Rattle.history.specs.Laws.Serving.{at-fed_pieces, at-shut_if}
 use Rattle.history.specs.Laws.Snoc.{snoc_length}
 use Rattle.history.specs.Laws.Stages.{opened_one}

@@ -1,6 +1,6 @@
 -- What each call adds to the stream of records, and how many there are.
-use Rattle.desk.specs.declared.CloseAnswer.TheVariants as C
-use Rattle.std.specs.Prelude.{◌+◌, ◌<◌, suc, zero, ℕ, List, [], ◌++◌, ◌∷◌, ◌≡◌, refl, get_or, length, set, take}
+use Rattle.desk.specs.Given.{Opening, Feeding, Closing, Replacing}
+use Rattle.std.specs.Prelude.{◌+◌, ◌<◌, suc, zero, ℕ, List, [], ◌++◌, ◌∷◌, ◌≡◌, refl, get_or, length, set, take, Ok}
 use Rattle.std.proofs.Common.{append-nil, ◌∙◌, ap, subst, sym, zero-add, arith, length-append}
 use Rattle.desk.specs.Calls.{with_ticket}
 use Rattle.desk.specs.Feed.{fed_by, read_for}
@@ -16,10 +16,6 @@ use Rattle.desk.specs.Laws.Views.{Replaces, replace_done, replace_edition-end, r
 use Rattle.desk.specs.Laws.Views.{takes}
 use Rattle.desk.specs.Rooms.{free_ticket, room_of, ticket_in}
 use Rattle.desk.specs.Shared.{records_for, records_of}
-use Rattle.desk.specs.declared.Closing.{Closing}
-use Rattle.desk.specs.declared.Feeding.{Feeding}
-use Rattle.desk.specs.declared.Opening.{Opening}
-use Rattle.desk.specs.declared.Replacing.{Replacing}
 use Rattle.desk.specs.declared.Serial.{Serial}
 use Rattle.history.specs.History.{Account, AllBytes, AsLeft, LentAsLeft, OfBytes, World}
 use Rattle.history.specs.History.{account_at, closing, feeding, grown, new_account, no_account, on_serial, opening, replacing, run, shut, step}
@@ -165,7 +161,7 @@ even_step w v (call_close s) b lent e = go _ (closes w.desk s)
     go r (close_no-ticket h) = e
     go r (close_done i q h) =
         let g = given w v s (omega (arith, q)) in
-        even_changed w v s g.0 g.1 g.2 shut (closing w s (with_ticket w.desk i free_ticket) C.Closed) refl 0 (omega arith) (omega arith) e
+        even_changed w v s g.0 g.1 g.2 shut (closing w s (with_ticket w.desk i free_ticket) (Ok tt)) refl 0 (omega arith) (omega arith) e
 even_step w v call_take b lent e = ap {B = ℕ} length (stream_takes w _ (good v.reached) (takes w.desk)) ∙ e
 
 pub even-run : (w : World) (calls : List Call) → AllBytes calls → AsLeft w calls → Inv (Unit {0}) w → Even w → Even (run w calls)

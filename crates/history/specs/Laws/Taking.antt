@@ -1,4 +1,5 @@
 -- A taking keeps the stream of records: the oldest of those held goes behind those taken out.
+use Rattle.desk.specs.Given.{Taking}
 use Rattle.std.specs.Prelude.{◌%◌, List, [], ◌++◌, ◌∷◌, ◌≡◌, refl, get_or}
 use Rattle.std.proofs.Common.{append_assoc, append-nil, ◌∙◌, ap, sym}
 use Rattle.desk.specs.Laws.Good.{GoodDesk}
@@ -8,7 +9,6 @@ use Rattle.desk.specs.Laws.Views.{Takes, take-nothing, take-oldest, takes}
 use Rattle.desk.specs.Reached.{by_call, call_take, Reached}
 use Rattle.desk.specs.Shared.{held, no_record, popped}
 use Rattle.desk.specs.declared.Record.{Record}
-use Rattle.desk.specs.declared.Taking.{Taking}
 use Rattle.history.specs.History.{World, step, stream, taking}
 use Rattle.history.specs.Laws.Invariant.{Inv, inv_stream}
 use Rattle.desk.specs.Limits.{most_records}

@@ -1,14 +1,13 @@
 -- A piece is served in one way.
+use Rattle.desk.specs.Given.{Feeding, TakingMany}
 use Rattle.std.specs.Prelude.{ℕ, ◌+◌, ◌*◌, ◌-◌, ◌<◌, ◌≤◌, List, [], ◌++◌, ◌≡◌, refl, take, drop, length}
 use Rattle.std.proofs.Common.{append_assoc, ◌∙◌, sym, ap, subst, zero-add, add-zero, add_assoc, arith, length-drop, drop_of_length-le, drop-drop, take_all}
 use Rattle.desk.specs.declared.Desk.{Desk}
-use Rattle.desk.specs.declared.Feeding.{Feeding}
 use Rattle.desk.specs.declared.Serial.{Serial}
 use Rattle.desk.specs.Feed.{feed_of, taken_by}
 use Rattle.desk.proofs.Laws.Pieces.{fed-at-most}
 use Rattle.matching.specs.Words.{Word}
 use Rattle.desk.specs.TakeMany.{list_taken, many_of, oldest, take_many_of}
-use Rattle.desk.specs.declared.TakingMany.{TakingMany}
 use Rattle.serving.specs.Laws.Lines.{numbered-lines}
 use Rattle.serving.specs.Lines.{lines_of, record_lines}
 use Rattle.output.specs.Buffer.{Puts}
@@ -23,7 +22,7 @@ pub rest-fed : (s : Serial) (table : Lent) (d : Desk) (rest : Word) (before afte
     (count : ℕ)
     → f ≡ feed_of d s table rest → 1024 ≡ length list → t ≡ take_many_of f.desk (length list)
     → filled ≡ list_taken f.desk list (many_of f.desk (length list)) → count ≡ taken_by f.answer
-    → Puts before (record_lines t.count filled) after
+    → Puts before (record_lines t.answer filled) after
     → FeedsRest s table d rest before (record { desk = t.desk; taken = count }) after
 unfolding take_many_of list_taken
 rest-fed s table d rest before after f t list filled count fed long many taken counted put = record {
@@ -33,10 +32,10 @@ rest-fed s table d rest before after f t list filled count fed long many taken c
   lines = subst (λ (l : List ℕ). Puts before l after) same put;
 }
   where
-    same : record_lines t.count filled ≡ rest_lines s table d rest
+    same : record_lines t.answer filled ≡ rest_lines s table d rest
     same =
         let n = many_of f.desk 1024 in
-        let held : t.count ≡ n = ap (λ (x : TakingMany). x.count) many ∙ ap (λ (k : ℕ). many_of f.desk k) (sym long) in
+        let held : t.answer ≡ n = ap (λ (x : TakingMany). x.answer) many ∙ ap (λ (k : ℕ). many_of f.desk k) (sym long) in
         ap (λ (k : ℕ). record_lines k filled) held
         ∙ ap (λ (l : List ℕ). record_lines n l) (taken ∙ ap (λ (k : ℕ). list_taken f.desk list (many_of f.desk k)) (sym long))
         ∙ numbered-lines n f.desk.records (drop (4 * n) list)

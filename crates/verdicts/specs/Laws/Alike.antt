@@ -1,4 +1,5 @@
 -- Feeding a piece, over any table, leaves each serial its room, each ticket its edition, and each room read or unread as it was.
+use Rattle.desk.specs.Given.{Feeding}
 use Rattle.std.specs.Prelude.{ℕ, zero, suc, ◌+◌, ◌<◌, Bool, cond, false, true, List, ◌≡◌, refl, eqb, ltb, drop, length, set}
 use Rattle.std.proofs.Common.{◌∙◌, sym, ap, arith}
 use Rattle.std.proofs.Math.Decide.{dec_lt, ℕ_discrete}
@@ -12,7 +13,6 @@ use Rattle.desk.specs.Reached.{Reached, by_call, call_feed}
 use Rattle.desk.specs.Rooms.{is_for, room_of, ticket_in}
 use Rattle.desk.specs.TakeMany.{many_of, oldest, take_many_of}
 use Rattle.desk.specs.declared.Desk.{Desk}
-use Rattle.desk.specs.declared.Feeding.{Feeding}
 use Rattle.desk.specs.declared.Serial.{Serial}
 use Rattle.desk.specs.declared.Ticket.{Ticket}
 use Rattle.gate.specs.Feeding.{fed_on, rest_of}

@@ -1,6 +1,5 @@
 -- The laws of approvals: that of a serial changed.
-use Rattle.gate.specs.declared.Verdict.TheVariants as Q
-use Rattle.std.specs.Prelude.{ℕ, zero, suc, ◌<◌, Bool, cond, false, true, List, [], ◌∷◌, ◌≡◌, refl, eqb, get_or, length}
+use Rattle.std.specs.Prelude.{ℕ, zero, suc, ◌<◌, Bool, cond, false, true, List, [], ◌∷◌, ◌≡◌, refl, eqb, get_or, length, Ok}
 use Rattle.std.proofs.Common.{ap, arith, eqb-true}
 use Rattle.std.proofs.lemmas.Bool.{eqb-false}
 use Rattle.desk.specs.declared.Edition.{Edition}
@@ -31,13 +30,6 @@ on-each n f (p ∷ l) P hit miss (suc k) h =
     on-each n f l (λ j q. P (suc j) q) (λ j z. hit (suc j) (omega (arith, z))) (λ j z. miss (suc j) (omega (arith, z))) k (omega (arith, h))
 
 -- whatever is decided of a ticket that has a room, its approval is decided from then on
-settles : (w : GateWorld) (s : Serial) (g : Gate) (b c : Bool) (mask : ℕ)
-    → decided_with w s g (cond b (cond c Q.Pass (Q.Hold mask)) Q.Unread) ≡ with_approvals w g (on_approval s.0 settled w.approvals)
-settles w s g false c mask = refl
-settles w s g true false mask = refl
-settles w s g true true mask = refl
-
 pub verdict_settles : (w : GateWorld) (s : Serial) (g : Gate) (e : Edition) (x : Seen) (a : Bool)
-    → decided_with w s g (verdict_by e x a) ≡ with_approvals w g (on_approval s.0 settled w.approvals)
-verdict_settles w s g e x false = refl
-verdict_settles w s g e x true = settles w s g (eqb x.unread 0) (eqb x.mask 0) x.mask
+    → decided_with w s g (Ok (verdict_by e x a)) ≡ with_approvals w g (on_approval s.0 settled w.approvals)
+verdict_settles w s g e x a = refl

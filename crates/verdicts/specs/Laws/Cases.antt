@@ -1,11 +1,11 @@
 -- The cases of a decision shut one another out, since a serial is that of one approval.
+use Rattle.gate.specs.Given.{DecideAnswer}
 use Rattle.gate.specs.declared.Verdict.TheVariants as Q
-use Rattle.std.specs.Prelude.{ℕ, suc, ◌<◌, false, true, ◌≡◌, refl, length}
+use Rattle.std.specs.Prelude.{ℕ, suc, ◌<◌, false, true, ◌≡◌, refl, length, Ok, Err}
 use Rattle.std.proofs.Common.{◌∙◌, ap, subst, sym, arith}
 use Rattle.desk.specs.Rooms.{edition_of}
 use Rattle.desk.specs.declared.Edition.{Edition}
 use Rattle.desk.specs.declared.Serial.{Serial}
-use Rattle.gate.specs.declared.Verdict.{Verdict}
 use Rattle.history.specs.Laws.Numbers.{differ}
 use Rattle.matching.specs.Laws.Bools.{not-both}
 use Rattle.verdicts.specs.Cases.{Clean, Exactly, IsRead, IsUnread, OverAnyTables}
@@ -15,19 +15,19 @@ use Rattle.verdicts.specs.Laws.Found.{Found}
 use Rattle.verdicts.specs.Laws.Mask.{mask-none}
 use Rattle.verdicts.specs.Mask.{mask_of}
 
-abbrev edition_in : Verdict → Edition
-edition_in (Q.Stale e) = e
-edition_in Q.Pass = edition_of 0
-edition_in (Q.Hold mask) = edition_of 0
-edition_in Q.Unread = edition_of 0
-edition_in Q.NoTicket = edition_of 0
+abbrev edition_in : DecideAnswer → Edition
+edition_in (Ok (Q.Stale e)) = e
+edition_in (Ok Q.Pass) = edition_of 0
+edition_in (Ok (Q.Hold mask)) = edition_of 0
+edition_in (Ok Q.Unread) = edition_of 0
+edition_in (Err why) = edition_of 0
 
-abbrev held_in : Verdict → ℕ
-held_in (Q.Stale e) = 0
-held_in Q.Pass = 0
-held_in (Q.Hold mask) = mask
-held_in Q.Unread = 0
-held_in Q.NoTicket = 0
+abbrev held_in : DecideAnswer → ℕ
+held_in (Ok (Q.Stale e)) = 0
+held_in (Ok Q.Pass) = 0
+held_in (Ok (Q.Hold mask)) = mask
+held_in (Ok Q.Unread) = 0
+held_in (Err why) = 0
 
 module _ (w : GateWorld) (s : Serial) (numbered : (k : ℕ) → k < length w.approvals → (approval_at w k).serial ≡ suc k) where
   pub same : (P : ℕ → Type 0) (j k : ℕ) → Undecided w s j → Undecided w s k → P j → P k
@@ -40,15 +40,15 @@ module _ (w : GateWorld) (s : Serial) (numbered : (k : ℕ) → k < length w.app
   unread-whole j k x p y q = not-both q (same (λ n. (approval_at w n).whole ≡ false) j k x y p)
 
   stale-is : (k : ℕ) (e d : Edition) → Undecided w s k → e.0 ≡ (approval_at w k).accepted → (j : ℕ) → Undecided w s j → d.0 ≡ (approval_at w j).accepted
-      → Q.Stale e ≡ Q.Stale d
+      → ◌≡◌ {A = DecideAnswer} (Ok (Q.Stale e)) (Ok (Q.Stale d))
   stale-is k e d x p j y q =
       let h : e.0 ≡ d.0 = p ∙ sym (same (λ n. d.0 ≡ (approval_at w n).accepted) j k y x q) in
-      ap Q.Stale (λ t. record { 0 = h t })
+      λ t. Ok (Q.Stale (record { 0 = h t }))
 
   pub small-read : (k : ℕ) → Undecided w s k → (approval_at w k).whole ≡ true → IsUnread w s → ⊥
   small-read k x h z = unread-whole z.0 k z.1 z.3 x h
 
-  pub over_any : (answer : Verdict) → Decides w s answer → OverAnyTables w s answer
+  pub over_any : (answer : DecideAnswer) → Decides w s answer → OverAnyTables w s answer
   over_any answer (decides_none f) = record {
     none = (λ q. f, λ q. refl);
     stale = λ e. (λ q. differ cc, λ z. absurd (f z.0 z.1));
@@ -58,7 +58,7 @@ module _ (w : GateWorld) (s : Serial) (numbered : (k : ℕ) → k < length w.app
   }
   over_any answer (decides_stale k e x p l) = record {
     none = (λ q. differ cc, λ f. absurd (f k x));
-    stale = λ d. (λ q. (k, x, l, ap (λ (y : Verdict). (edition_in y).0) (sym q) ∙ p), λ z. stale-is k e d x p z.0 z.1 z.3);
+    stale = λ d. (λ q. (k, x, l, ap (λ (y : DecideAnswer). (edition_in y).0) (sym q) ∙ p), λ z. stale-is k e d x p z.0 z.1 z.3);
     unread = (λ q. differ cc, λ z. absurd (stale-current k z.0 x l z.1 z.2));
     pass = λ q. differ cc;
     hold = λ mask q. differ cc;
@@ -97,7 +97,7 @@ module _ (w : GateWorld) (s : Serial) (numbered : (k : ℕ) → k < length w.app
         (λ h. z.0 (sym (kept k r) ∙ h), λ c. kept k r ∙ z.1 c)
 
     -- a case in which no approval can be read
-    unreadable : (answer : Verdict) → OverAnyTables w s answer → (IsRead w s → ⊥) → (answer ≡ Q.Pass → ⊥) → ((mask : ℕ) → answer ≡ Q.Hold mask → ⊥)
+    unreadable : (answer : DecideAnswer) → OverAnyTables w s answer → (IsRead w s → ⊥) → (answer ≡ Ok Q.Pass → ⊥) → ((mask : ℕ) → answer ≡ Ok (Q.Hold mask) → ⊥)
         → Exactly w s answer
     unreadable answer a f p h = record {
       none = a.none;
@@ -107,7 +107,7 @@ module _ (w : GateWorld) (s : Serial) (numbered : (k : ℕ) → k < length w.app
       hold = λ mask. (λ q. absurd (h mask q), λ z. absurd (f (z.0, z.1)));
     }
 
-    pub exactly-by : (answer : Verdict) → Decides w s answer → Exactly w s answer
+    pub exactly-by : (answer : DecideAnswer) → Decides w s answer → Exactly w s answer
     exactly-by answer (decides_none f) = unreadable _ (over_any _ (decides_none f)) (λ z. f z.0 z.1.waits) (λ q. differ cc) (λ mask q. differ cc)
     exactly-by answer (decides_stale k e x p l) =
         unreadable _ (over_any _ (decides_stale k e x p l)) (λ z. stale-current k z.0 x l z.1.waits z.1.current) (λ q. differ cc)
@@ -132,6 +132,6 @@ module _ (w : GateWorld) (s : Serial) (numbered : (k : ℕ) → k < length w.app
           pass = (λ q. differ cc, λ z. absurd (m ((clean_iff z.0 z.1).1 z.2)));
           hold = λ mask. (
             λ q. (let e : mask_in w s ≡ mask = ap held_in q in (k, r, sym e ∙ kept k r, λ z. m (e ∙ z))),
-            λ z. ap Q.Hold (kept z.0 z.1 ∙ sym z.2),
+            λ z. ap {B = DecideAnswer} (λ (m : ℕ). Ok (Q.Hold m)) (kept z.0 z.1 ∙ sym z.2),
           );
         }

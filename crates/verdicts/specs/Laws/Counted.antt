@@ -1,4 +1,5 @@
 -- Feeding a piece, over any table, raises the count of its own ticket by the bytes that the gate says were taken, and no other's.
+use Rattle.desk.specs.Given.{Feeding}
 use Rattle.std.specs.Prelude.{ℕ, zero, suc, ◌+◌, ◌≤◌, Bool, cond, false, true, ◌≡◌, refl, eqb, ltb, drop, length}
 use Rattle.std.proofs.Common.{◌∙◌, ap, subst, arith, length-drop, length-set, eqb-true, ltb-true}
 use Rattle.desk.specs.Feed.{feed_of, taken_by}
@@ -9,7 +10,6 @@ use Rattle.desk.proofs.Laws.Views.{feeds}
 use Rattle.desk.specs.Rooms.{room_of, ticket_in}
 use Rattle.desk.specs.TakeMany.{take_many_of}
 use Rattle.desk.specs.declared.Desk.{Desk}
-use Rattle.desk.specs.declared.Feeding.{Feeding}
 use Rattle.desk.specs.declared.Serial.{Serial}
 use Rattle.desk.specs.declared.Ticket.{Ticket}
 use Rattle.gate.specs.Feeding.{fed_on, rest_of}

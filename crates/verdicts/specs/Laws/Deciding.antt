@@ -1,6 +1,8 @@
 -- What is decided, by its cases; over any tables.
+use Rattle.desk.specs.Given.{not_held}
+use Rattle.gate.specs.Given.{DecideAnswer}
 use Rattle.gate.specs.declared.Verdict.TheVariants as Q
-use Rattle.std.specs.Prelude.{ℕ, zero, suc, ◌<◌, ◌≤◌, Bool, cond, ◌≡◌, eqb, length}
+use Rattle.std.specs.Prelude.{ℕ, zero, suc, ◌<◌, ◌≤◌, Bool, cond, ◌≡◌, eqb, length, Ok, Err}
 use Rattle.std.proofs.Math.Bool.{false, true}
 use Rattle.std.proofs.Common.{inl, inr, ◌∙◌, subst, sym, arith}
 use Rattle.std.proofs.Math.Path.{refl}
@@ -13,7 +15,6 @@ use Rattle.desk.specs.declared.Serial.{Serial}
 use Rattle.gate.specs.Gate.{decide_by, decide_of, verdict_by}
 use Rattle.gate.specs.Noting.{seen_in}
 use Rattle.gate.specs.declared.Seen.{Seen}
-use Rattle.gate.specs.declared.Verdict.{Verdict}
 use Rattle.history.specs.Laws.Numbers.{lower}
 use Rattle.matching.specs.Laws.Bools.{not-both}
 use Rattle.verdicts.specs.GateHistory.{GateWorld, NotReplaced, Readable, Replaced, Undecided, approval_at}
@@ -24,12 +25,12 @@ use Rattle.desk.specs.Limits.{most_tickets}
 abbrev pub mask_in : GateWorld → Serial → ℕ
 mask_in g s = (seen_in g.gate.seen (room_of g.gate.desk.tickets s)).mask
 
-pub data Decides (g : GateWorld) (s : Serial) : Verdict → Type 0 where
-  decides_none : ((k : ℕ) → Undecided g s k → ⊥) → Decides g s Q.NoTicket
-  decides_stale : (k : ℕ) (e : Edition) → Undecided g s k → e.0 ≡ (approval_at g k).accepted → Replaced g k → Decides g s (Q.Stale e)
-  decides_unread : (k : ℕ) → Undecided g s k → NotReplaced g k → (approval_at g k).whole ≡ false → Decides g s Q.Unread
-  decides_pass : (k : ℕ) → Readable g s k → mask_in g s ≡ 0 → Decides g s Q.Pass
-  decides_hold : (k : ℕ) → Readable g s k → (mask_in g s ≡ 0 → ⊥) → Decides g s (Q.Hold (mask_in g s))
+pub data Decides (g : GateWorld) (s : Serial) : DecideAnswer → Type 0 where
+  decides_none : ((k : ℕ) → Undecided g s k → ⊥) → Decides g s (Err not_held)
+  decides_stale : (k : ℕ) (e : Edition) → Undecided g s k → e.0 ≡ (approval_at g k).accepted → Replaced g k → Decides g s (Ok (Q.Stale e))
+  decides_unread : (k : ℕ) → Undecided g s k → NotReplaced g k → (approval_at g k).whole ≡ false → Decides g s (Ok Q.Unread)
+  decides_pass : (k : ℕ) → Readable g s k → mask_in g s ≡ 0 → Decides g s (Ok Q.Pass)
+  decides_hold : (k : ℕ) → Readable g s k → (mask_in g s ≡ 0 → ⊥) → Decides g s (Ok (Q.Hold (mask_in g s)))
 
 -- what is kept for an approval that has a room
 pub record Seated (g : GateWorld) (s : Serial) (k : ℕ) : Type 0 where
@@ -79,15 +80,15 @@ module _ (g : GateWorld) (v : Standing g) where
     z : Seated g s k
     z = seated s k u
 
-    by_mask : NotReplaced g k → (approval_at g k).whole ≡ true → (c : Bool) → eqb x.mask 0 ≡ c → Decides g s (cond c Q.Pass (Q.Hold x.mask))
+    by_mask : NotReplaced g k → (approval_at g k).whole ≡ true → (c : Bool) → eqb x.mask 0 ≡ c → Decides g s (Ok (cond c Q.Pass (Q.Hold x.mask)))
     by_mask n w true q = decides_pass k (record { waits = u; current = n; whole = w }) (eqb-true _ _ q)
     by_mask n w false q = decides_hold k (record { waits = u; current = n; whole = w }) (eqb-false _ _ q)
 
-    by-unread : NotReplaced g k → (c : Bool) → eqb x.unread 0 ≡ c → Decides g s (cond c (cond (eqb x.mask 0) Q.Pass (Q.Hold x.mask)) Q.Unread)
+    by-unread : NotReplaced g k → (c : Bool) → eqb x.unread 0 ≡ c → Decides g s (Ok (cond c (cond (eqb x.mask 0) Q.Pass (Q.Hold x.mask)) Q.Unread))
     by-unread n true q = by_mask n (sym z.kept.read ∙ q) (eqb x.mask 0) refl
     by-unread n false q = decides_unread k u n (sym z.kept.read ∙ q)
 
-    by-edition : (c : Bool) → eqb its.0 g.gate.desk.edition.0 ≡ c → Decides g s (verdict_by its x c)
+    by-edition : (c : Bool) → eqb its.0 g.gate.desk.edition.0 ≡ c → Decides g s (Ok (verdict_by its x c))
     by-edition true q = by-unread (sym z.kept.edition ∙ eqb-true _ _ q ∙ v.editions) (eqb x.unread 0) refl
     by-edition false q =
         decides_stale k its u z.kept.edition

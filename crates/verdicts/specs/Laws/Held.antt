@@ -1,5 +1,6 @@
 -- What is never too many, after every history of the gate's calls: the rooms held are the undecided approvals; and the approvals, the
 -- replacements accepted and the tags in force.
+use Rattle.desk.specs.Given.{Opening, Closing, Replacing}
 use Prim.Native.Nat.{ℕ, zero, suc, ◌+◌, ◌<◌, ◌≤◌}
 use Rattle.std.specs.Prelude.{Bool, cond, false, true, List, [], ◌++◌, ◌∷◌, ◌≡◌, eqb, ltb, get_or, length, set}
 use Rattle.std.proofs.Common.{◌∙◌, sym, ap, subst, le_of_eq, le_trans, arith, eq-eqb, ltb-true, ne_eqb}
@@ -9,9 +10,6 @@ use Rattle.desk.specs.Laws.Rooms.{first_room-holds, for_held, free-held, held-se
 use Rattle.desk.specs.Laws.Views.{Closes, Opens, Replaces, close_done, close_no-ticket, closes, open_done, open_no-room, open_no-set, open_serial-end, opens}
 use Rattle.desk.specs.Laws.Views.{replace_done, replace_edition-end, replace_fault, replace_table, replaces}
 use Rattle.desk.specs.Rooms.{free_room, free_ticket, is_for, is_free, is_held, new_ticket, room_of, serial_of, ticket_in, tickets_held}
-use Rattle.desk.specs.declared.Closing.{Closing}
-use Rattle.desk.specs.declared.Opening.{Opening}
-use Rattle.desk.specs.declared.Replacing.{Replacing}
 use Rattle.desk.specs.declared.Serial.{Serial}
 use Rattle.desk.specs.declared.Ticket.{Ticket}
 use Rattle.gate.specs.Feeding.{fed_on}

@@ -1,19 +1,14 @@
 -- An approval that was decided stays so.
-use Rattle.desk.specs.declared.OpenAnswer.TheVariants as O
-use Rattle.desk.specs.declared.ReplaceAnswer.TheVariants as R
-use Rattle.gate.specs.declared.PieceAnswer.TheVariants as P
-use Rattle.gate.specs.declared.Verdict.TheVariants as Q
-use Rattle.std.specs.Prelude.{ℕ, suc, ◌<◌, Bool, false, true, List, [], ◌++◌, ◌∷◌, ◌≡◌, refl, eqb, get_or, length}
+use Rattle.desk.specs.Given.{OpenAnswer, ReplaceAnswer}
+use Rattle.gate.specs.Given.{PieceAnswer, DecideAnswer}
+use Rattle.gate.specs.declared.Piece.TheVariants as P
+use Rattle.std.specs.Prelude.{ℕ, suc, ◌<◌, Bool, false, true, List, [], ◌++◌, ◌∷◌, ◌≡◌, refl, eqb, get_or, length, Ok, Err}
 use Rattle.std.proofs.Common.{◌∙◌, sym, ap, subst, arith, lt-ltb}
 use Rattle.desk.specs.Rooms.{room_of, ticket_in}
-use Rattle.desk.specs.declared.OpenAnswer.{OpenAnswer}
-use Rattle.desk.specs.declared.ReplaceAnswer.{ReplaceAnswer}
 use Rattle.desk.specs.declared.Serial.{Serial}
 use Rattle.gate.specs.Gate.{begin_of, change_of, decide_by, decide_of, piece_of}
 use Rattle.gate.specs.Noting.{seen_in}
 use Rattle.gate.specs.declared.Gate.{Gate}
-use Rattle.gate.specs.declared.PieceAnswer.{PieceAnswer}
-use Rattle.gate.specs.declared.Verdict.{Verdict}
 use Rattle.history.specs.Laws.Snoc.{snoc_length, snoc_old}
 use Rattle.matching.specs.Laws.Bools.{not-both}
 use Rattle.matching.specs.Words.{Word}
@@ -44,32 +39,24 @@ on-done n f l k keeps d =
 
 module _ (w : GateWorld) (k : ℕ) (d : Done w.approvals k) where
   after_replace : (order : Order) (run : Lent) (g : Gate) (a : ReplaceAnswer) → Done (replaced_with w order run g a).approvals k
-  after_replace order run g (R.Replaced e count) = d
-  after_replace order run g (R.Fault fault) = d
-  after_replace order run g (R.Table machine needs) = d
-  after_replace order run g R.EditionEnd = d
+  after_replace order run g (Ok given) = d
+  after_replace order run g (Err why) = d
 
   after_begin : (g : Gate) (a : OpenAnswer) → Done (begun_with w g a).approvals k
-  after_begin g (O.Opened s) = record {
+  after_begin g (Ok s) = record {
     inside = omega (arith, snoc_length w.approvals (new_approval w s.0) no_approval, d.inside);
     decided = ap (λ (p : Approval). p.decided) (snoc_old w.approvals (new_approval w s.0) no_approval k d.inside) ∙ d.decided;
   }
-  after_begin g O.NoSet = d
-  after_begin g O.SerialEnd = d
-  after_begin g O.NoRoom = d
+  after_begin g (Err why) = d
 
   after-piece : (s : Serial) (piece : Word) (g : Gate) (a : PieceAnswer) → Done (handed_with w s piece g a).approvals k
-  after-piece s piece g P.Read = on-done s.0 (handed_whole piece) w.approvals k (λ p h. h) d
-  after-piece s piece g (P.Cut taken) = on-done s.0 (handed_cut piece) w.approvals k (λ p h. h) d
-  after-piece s piece g P.NoTicket = d
-  after-piece s piece g (P.Stale e) = d
+  after-piece s piece g (Ok P.Read) = on-done s.0 (handed_whole piece) w.approvals k (λ p h. h) d
+  after-piece s piece g (Ok (P.Cut taken)) = on-done s.0 (handed_cut piece) w.approvals k (λ p h. h) d
+  after-piece s piece g (Err why) = d
 
-  after_decide : (s : Serial) (g : Gate) (a : Verdict) → Done (decided_with w s g a).approvals k
-  after_decide s g Q.NoTicket = d
-  after_decide s g Q.Pass = on-done s.0 settled w.approvals k (λ p h. refl) d
-  after_decide s g (Q.Hold mask) = on-done s.0 settled w.approvals k (λ p h. refl) d
-  after_decide s g (Q.Stale e) = on-done s.0 settled w.approvals k (λ p h. refl) d
-  after_decide s g Q.Unread = on-done s.0 settled w.approvals k (λ p h. refl) d
+  after_decide : (s : Serial) (g : Gate) (a : DecideAnswer) → Done (decided_with w s g a).approvals k
+  after_decide s g (Ok verdict) = on-done s.0 settled w.approvals k (λ p h. refl) d
+  after_decide s g (Err why) = d
 
   done-step : (act : GateAct) → Done (gate_step w act).approvals k
   done-step (gate_replace order run) = after_replace order run (change_of w.gate order (sizes_of run)).gate (change_of w.gate order (sizes_of run)).answer

@@ -1,7 +1,7 @@
 -- What holds after every history of the gate's calls, whatever tables the pieces were lent.
-use Rattle.desk.specs.declared.ReplaceAnswer.TheVariants as R
+use Rattle.desk.specs.Given.{ReplaceAnswer, Opening, Closing, Replacing, replaced_as}
 use Prim.Native.Nat.{ℕ, suc, ◌+◌, ◌<◌, ◌≤◌}
-use Rattle.std.specs.Prelude.{Bool, List, [], ◌++◌, ◌∷◌, ◌≡◌, ltb, length, set}
+use Rattle.std.specs.Prelude.{Bool, List, [], ◌++◌, ◌∷◌, ◌≡◌, ltb, length, set, Ok, Err}
 use Rattle.std.proofs.Math.Bool.{false, true}
 use Rattle.std.proofs.Common.{inl, inr, ◌∙◌, sym, ap, subst, le_of_eq, arith, length-append, length-set, get_or-set_other, get_or-set_same, eqb-true, ltb-true}
 use Rattle.std.proofs.Math.Path.{refl}
@@ -13,11 +13,7 @@ use Rattle.desk.specs.Laws.Views.{Closes, Opens, Replaces, close_done, close_no-
 use Rattle.desk.specs.Laws.Views.{replace_done, replace_edition-end, replace_fault, replace_table, replaces}
 use Rattle.desk.specs.Reached.{Reached, by_call, call_close, call_open, call_replace, from_new}
 use Rattle.desk.specs.Rooms.{free_room, free_ticket, is_for, is_free, is_held, new_ticket, room_of, serial_of, ticket_in}
-use Rattle.desk.specs.declared.Closing.{Closing}
 use Rattle.desk.specs.declared.Edition.{Edition}
-use Rattle.desk.specs.declared.Opening.{Opening}
-use Rattle.desk.specs.declared.ReplaceAnswer.{ReplaceAnswer}
-use Rattle.desk.specs.declared.Replacing.{Replacing}
 use Rattle.desk.specs.declared.Serial.{Serial}
 use Rattle.desk.specs.declared.Ticket.{Ticket}
 use Rattle.gate.specs.Feeding.{fed_on}
@@ -446,18 +442,16 @@ standing (act ∷ calls) g v = standing calls (gate_step g act) (standing_step g
 
 -- an accepted replacement answers the next count
 pub accepts-next : (g : GateWorld) → Standing g → (order : Order) (run : Lent) (e : Edition) (tags : ℕ)
-    → (change_of g.gate order (sizes_of run)).answer ≡ R.Replaced e tags
+    → (change_of g.gate order (sizes_of run)).answer ≡ Ok (replaced_as e tags)
     → e.0 ≡ suc g.accepted
 unfolding change_of
 accepts-next g v order run e tags q = go _ (replaces g.gate.desk order (sizes_of run)) q
   where
     edition : ReplaceAnswer → ℕ
-    edition (R.Replaced x n) = x.0
-    edition (R.Fault fault) = 0
-    edition (R.Table machine needs) = 0
-    edition R.EditionEnd = 0
+    edition (Ok given) = given.edition.0
+    edition (Err why) = 0
 
-    go : (r : Replacing) → Replaces g.gate.desk order (sizes_of run) r → r.answer ≡ R.Replaced e tags → e.0 ≡ suc g.accepted
+    go : (r : Replacing) → Replaces g.gate.desk order (sizes_of run) r → r.answer ≡ Ok (replaced_as e tags) → e.0 ≡ suc g.accepted
     go r (replace_fault fault p) z = differ cc
     go r (replace_table machine needs p) z = differ cc
     go r (replace_edition-end n p f) z = differ cc

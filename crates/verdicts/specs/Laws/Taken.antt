@@ -1,6 +1,7 @@
 -- What a piece answers, and whether an approval is whole, by the count of its ticket; over any tables.
-use Rattle.gate.specs.declared.PieceAnswer.TheVariants as P
-use Rattle.std.specs.Prelude.{ℕ, ◌+◌, ◌<◌, Bool, false, true, ◌≡◌, refl, eqb, length}
+use Rattle.gate.specs.Given.{PieceAnswer, Piecing}
+use Rattle.gate.specs.declared.Piece.TheVariants as P
+use Rattle.std.specs.Prelude.{ℕ, ◌+◌, ◌<◌, Bool, false, true, ◌≡◌, refl, eqb, length, Ok, Err}
 use Rattle.std.proofs.Common.{◌∙◌, ap, subst, sym, arith, eqb-true}
 use Rattle.std.proofs.lemmas.Bool.{eqb-false}
 use Rattle.desk.proofs.Laws.Good.{good}
@@ -10,8 +11,6 @@ use Rattle.gate.specs.Feeding.{fed_on}
 use Rattle.gate.specs.Gate.{ended_by, ended_of, piece_of}
 use Rattle.gate.specs.Laws.Calls.{piece-fed}
 use Rattle.gate.specs.declared.Gate.{Gate}
-use Rattle.gate.specs.declared.PieceAnswer.{PieceAnswer}
-use Rattle.gate.specs.declared.Piecing.{Piecing}
 use Rattle.gate.specs.declared.feeding.Fed.{Fed}
 use Rattle.history.specs.Laws.Numbers.{differ, lower}
 use Rattle.matching.specs.Words.{Word}
@@ -24,10 +23,9 @@ use Rattle.verdicts.specs.Taken.{AnswersTaken, OpenIn, TakenOfHanded, taken_in}
 use Rattle.desk.specs.Layout.{Lent}
 
 abbrev pub cut_after : PieceAnswer → ℕ
-cut_after (P.Cut n) = n
-cut_after P.Read = 0
-cut_after P.NoTicket = 0
-cut_after (P.Stale e) = 0
+cut_after (Ok (P.Cut n)) = n
+cut_after (Ok P.Read) = 0
+cut_after (Err why) = 0
 
 pub answers_taken : (g : Gate) (s : Serial) → OpenIn g s → (table : Lent) (piece : Word) → AnswersTaken g s piece (piece_of g s table piece)
 answers_taken g s o table piece =
@@ -63,7 +61,7 @@ answers_taken g s o table piece =
           read = (λ q. differ cc, λ q. absurd (omega (arith, rose, few, q)));
           cut = λ n. (
             λ q. (let y : fed.taken ≡ n = ap cut_after q in (omega (arith, few, y), omega (arith, rose, y))),
-            λ z. (let y : fed.taken ≡ n = omega (arith, rose, z.1) in ap P.Cut y),
+            λ z. (let y : fed.taken ≡ n = omega (arith, rose, z.1) in ap {B = PieceAnswer} (λ (n : ℕ). Ok (P.Cut n)) y),
           );
         }
 

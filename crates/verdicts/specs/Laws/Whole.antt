@@ -1,6 +1,7 @@
 -- Over the table as left, a piece for a ticket that is open is taken whole while the bytes handed in number at most 4,294,967,295.
-use Rattle.desk.specs.declared.FeedAnswer.TheVariants as F
-use Rattle.std.specs.Prelude.{ℕ, zero, suc, ◌+◌, ◌-◌, ◌<◌, ◌≤◌, Bool, cond, false, true, List, [], ◌++◌, ◌∷◌, ◌≡◌, refl, eqb, ltb, drop, get_or, length, take}
+use Rattle.desk.specs.Given.{Feeding}
+use Rattle.desk.specs.declared.FeedRefusal.TheVariants as F
+use Rattle.std.specs.Prelude.{ℕ, zero, suc, ◌+◌, ◌-◌, ◌<◌, ◌≤◌, Bool, cond, false, true, List, [], ◌++◌, ◌∷◌, ◌≡◌, refl, eqb, ltb, drop, get_or, length, take, Err}
 use Rattle.std.proofs.Common.{◌∙◌, sym, ap, subst, arith, length-append, length-drop, length-take-le, eqb-true, ltb-false, ltb-true}
 use Rattle.desk.specs.Feed.{feed_of, taken_by}
 use Rattle.desk.proofs.Laws.Pieces.{fed-at-most}
@@ -9,7 +10,6 @@ use Rattle.desk.proofs.Laws.Views.{feeds}
 use Rattle.desk.specs.Rooms.{room_of, ticket_in}
 use Rattle.desk.specs.declared.Desk.{Desk}
 use Rattle.desk.specs.declared.Edition.{Edition}
-use Rattle.desk.specs.declared.Feeding.{Feeding}
 use Rattle.desk.specs.declared.Serial.{Serial}
 use Rattle.gate.specs.Feeding.{fed_on, rest_of}
 use Rattle.gate.specs.Laws.Feeding.{fed_idle}
@@ -52,7 +52,7 @@ some-taken kind calls b s (c ∷ rest) empty below o h = takes_a-byte kind calls
     w : World
     w = run (start kind) calls
 
-    not-long : (r : Feeding) → Feeds w.desk (room_of w.desk.tickets s) w.table (c ∷ rest) r → r.answer ≡ F.Long → ⊥
+    not-long : (r : Feeding) → Feeds w.desk (room_of w.desk.tickets s) w.table (c ∷ rest) r → r.answer ≡ Err F.Long → ⊥
     not-long r (feed_no-ticket a) q = differ cc
     not-long r (feed_stale a e) q = differ cc
     not-long r (feed_other-slots a e n) q = differ cc

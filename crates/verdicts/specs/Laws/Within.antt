@@ -1,6 +1,7 @@
 -- Over the table as left, a piece is read whole exactly if its ticket then counts no more than 4,294,967,295 bytes, and else none of it is taken.
-use Rattle.gate.specs.declared.PieceAnswer.TheVariants as P
-use Rattle.std.specs.Prelude.{ℕ, suc, ◌+◌, ◌<◌, ◌≤◌, Bool, false, true, List, ◌≡◌, refl, eqb, length}
+use Rattle.gate.specs.Given.{PieceAnswer, Piecing}
+use Rattle.gate.specs.declared.Piece.TheVariants as P
+use Rattle.std.specs.Prelude.{ℕ, suc, ◌+◌, ◌<◌, ◌≤◌, Bool, false, true, List, ◌≡◌, refl, eqb, length, Ok}
 use Rattle.std.proofs.Common.{◌∙◌, ap, subst, sym, arith, eqb-true}
 use Rattle.std.proofs.Math.Decide.{dec_le}
 use Rattle.std.proofs.lemmas.Bool.{eqb-false}
@@ -9,7 +10,6 @@ use Rattle.desk.specs.declared.Serial.{Serial}
 use Rattle.gate.specs.Feeding.{fed_on}
 use Rattle.gate.specs.Gate.{ended_by, ended_of, piece_of}
 use Rattle.gate.specs.Laws.Calls.{piece-fed}
-use Rattle.gate.specs.declared.Piecing.{Piecing}
 use Rattle.gate.specs.declared.Seen.{Seen}
 use Rattle.gate.specs.declared.feeding.Fed.{Fed}
 use Rattle.history.specs.History.{account_at, Proper, run, start, World}
@@ -94,5 +94,5 @@ answers_within g c s o piece below =
         let long : largest < taken_in g.gate s + length piece = omega (arith, h) in
         record {
           read = (λ q. differ cc, λ q. absurd (omega (arith, h, q)));
-          cut = λ n. (λ q. (sym (ap cut_after q) ∙ f.none long, long), λ z. ap P.Cut (f.none long ∙ sym z.0));
+          cut = λ n. (λ q. (sym (ap cut_after q) ∙ f.none long, long), λ z. ap {B = PieceAnswer} (λ (n : ℕ). Ok (P.Cut n)) (f.none long ∙ sym z.0));
         }

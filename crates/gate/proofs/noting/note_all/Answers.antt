@@ -17,4 +17,5 @@ loop-j-preserved c =
     let l = c.loop-j in
     let a = c.args in
     rw (add-one l.j)
-    (c.note-next.ensures ∙ ap (λ (x : List Seen). noted_one a.tickets x (get_or a.list.now (4 * l.j) 0) (get_or a.list.now (4 * l.j + 3) 0)) l.invariant)
+    (c.note.ensures
+    ∙ ap (λ (x : List Seen). noted_one a.tickets.now x (get_or a.list.now (4 * l.j) 0) (get_or a.list.now (4 * l.j + 3) 0)) l.invariant)
