@@ -34,7 +34,7 @@ of_bodies() { # EDIT
   local file old
   while IFS=$'\t' read -r file old; do
     [[ $file == src/* && $old != *const\ * ]] || return 1
-    OLD=$old awk '/^[a-z#]/ { item = $0 } index($0, ENVIRON["OLD"]) { exit item !~ /^(pub(\([a-z]+\))? )?(fn|impl) / }' \
+    OLD=$old awk '/^[a-z#]/ { item = $0 } index($0, ENVIRON["OLD"]) { exit item !~ /^(pub(\([a-z]+\))? )?(fn |impl[ <])/ }' \
       "${1%/must-fail/*}/$file" || return 1
   done < <(awk '/^file: / { file = substr($0, 7) } /^old: / { print file "\t" substr($0, 6) }' "$1")
 }

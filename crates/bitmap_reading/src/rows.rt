@@ -10,7 +10,7 @@ use bitmap::slots::Slot;
 // The state that each byte leads to from state 0; none, where a number on its way is wrong.
 pub type Leading = [Option<u16>; 256];
 
-// Where passing came to: the byte, the state then, and the failure moves up to it.
+// Where a walk stands: the byte, the state then, and the failure moves up to it.
 #[derive(Clone, Copy)]
 pub struct Came {
     pub at: usize,
@@ -90,24 +90,13 @@ fn quick(table: &MapTable, row: &Leading, q: usize, c: u8) -> Option<Reached>
 }
 
 // Over quiet bytes, as long as there are.
-pub fn pass(
-    table: &MapTable,
-    row: &Leading,
-    start: usize,
-    moves: usize,
-    piece: &[u8],
-    from: usize,
-) -> Came
-    requires s_in_bounds { (start < table.now.states) × Row table.now.states table.now.numbers.now row.now }
-    requires from_in_bounds { (from ≤ length piece.now) × ((length piece.now < 2 ^ 32) × (Few moves from)) }
-    ensures { PassedTo table.now.states table.now.numbers.now piece.now start from moves result }
+pub fn pass(table: &MapTable, row: &Leading, from: Came, piece: &[u8]) -> Came
+    requires s_in_bounds { (from.state < table.now.states) × Row table.now.states table.now.numbers.now row.now }
+    requires from_in_bounds { (from.at ≤ length piece.now) × ((length piece.now < 2 ^ 32) × (Few from.moves from.at)) }
+    ensures { PassedTo table.now.states table.now.numbers.now piece.now from.state from.at from.moves result }
 {
-    let mut came = Came {
-        at: from,
-        state: start,
-        moves,
-    };
-    for i in from..piece.len() {
+    let mut came = from;
+    for i in from.at..piece.len() {
         let Some(to) = quick(table, row, came.state, piece[i]) else {
             break;
         };

@@ -4,7 +4,7 @@ ghost use Rattle.bitmap_reading.specs.Reading.{read_map};
 ghost use Rattle.bitmap_reading.specs.Walks.{WalkedMap};
 
 use crate::Standing;
-use crate::rows::{pass, row_for};
+use crate::rows::{Came, pass, row_for};
 use crate::tables::MapTable;
 use matching::Stop;
 use reading::records::put_all;
@@ -56,7 +56,12 @@ pub fn on_bitmap(
         if hits == 0
             && let Some(row) = &row
         {
-            let p = pass(table, row, q, moves, piece, i);
+            let here = Came {
+                at: i,
+                state: q,
+                moves,
+            };
+            let p = pass(table, row, here, piece);
             q = p.state;
             i = p.at;
             moves = p.moves;

@@ -8,7 +8,7 @@ use Rattle.bitmap_reading.proofs.rows.pass.Goals as goal
 pub loop-i-init : goal.loop-i-init
 loop-i-init c = (
   refl,
-  passed_start c.args.table.now.states c.args.table.now.numbers.now c.args.piece.now c.args.start c.args.from c.args.moves c.requires.s_in_bounds.0 c.requires.from_in_bounds.0
+  passed_start c.args.table.now.states c.args.table.now.numbers.now c.args.piece.now c.args.from.state c.args.from.at c.args.from.moves c.requires.s_in_bounds.0 c.requires.from_in_bounds.0
       c.requires.from_in_bounds.1.1,
 )
 
@@ -31,7 +31,7 @@ loop-i-preserved c =
     let a = c.args in
     let l = c.loop-i in (
       refl,
-      passed-more a.table.now.states a.table.now.numbers.now a.piece.now a.start a.from a.moves l.i l.came.state l.came.moves (rw l.invariant.0 at l.invariant.1) (omega arith) c.args.table.now.few _ _
+      passed-more a.table.now.states a.table.now.numbers.now a.piece.now a.from.state a.from.at a.from.moves l.i l.came.state l.came.moves (rw l.invariant.0 at l.invariant.1) (omega arith) c.args.table.now.few _ _
           (c.quick.ensures c.in-Some.to.state c.in-Some.to.moves c.in-Some.is)
           (sym c.vector.ensures ∙ c.if-vector-ne0.false),
     )
