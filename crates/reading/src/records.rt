@@ -1,4 +1,5 @@
-// Writing a byte's records: all of them or none.
+// Writing a byte's records: all of them or none. The list and the number of its records stay two arguments: a struct around them would hold
+// a `&mut`, so each function would also have to promise that it keeps that very reference, which is more to read than the second argument.
 ghost use Rattle.std.specs.Prelude.{◌≡◌, ◌+◌, ◌*◌, ◌≤◌, length};
 ghost use Rattle.std.proofs.lemmas.List.Edits.{sets};
 ghost use Rattle.matching.specs.Occurrence.{flat, occur_at};

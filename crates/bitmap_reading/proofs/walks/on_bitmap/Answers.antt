@@ -1,9 +1,20 @@
 -- The whole reading is what is done and then what is left, from the state at byte i.
+use Prim.Native.Nat.{◌+◌}
+use Rattle.bitmap_reading.specs.Walks.{GoingMap}
 use mathlib.Core.Path.{◌∙◌, sym}
 use native.Mathlib.Omega.{arith}
 use Rattle.bitmap.specs.Laws.Steps.{sound}
 use Rattle.bitmap_reading.specs.Laws.Walks.{map-all, map_begin, map_damaged, map-full, map-pass, map-took}
 use Rattle.bitmap_reading.proofs.walks.on_bitmap.Goals as goal
+use Rattle.bitmap_reading.proofs.walks.on_bitmap.Goals.{In-Some-put_all}
+
+-- the byte is taken, and its records written
+taken : (c : In-Some-put_all) → GoingMap c.args.table.now.states c.args.table.now.numbers.now c.args.count c.args.piece.now c.args.list.now c.args.start
+    c.put_all.new.list c.in-Some.to.state c.in-Some-put_all.x (c.loop-i.i + 1) (c.loop-i.moves + c.in-Some.to.moves)
+taken c =
+    map-took c.args.table.now.states c.args.table.now.numbers.now c.args.count c.args.piece.now c.args.list.now c.args.start c.loop-i.list c.loop-i.q c.loop-i.w
+    c.loop-i.i c.loop-i.moves c.loop-i.invariant c.loop-i-test.true _ _ (sym c.next.ensures ∙ c.in-Some.is)
+    c.vector-hits.result c.vector-hits.ensures c.args.table.now.few _ (sym c.in-Some-put_all.is ∙ c.put_all.ensures.0) _ c.put_all.ensures.1
 
 pub loop-i-init : goal.loop-i-init
 loop-i-init c =
@@ -46,35 +57,22 @@ overflow_add-moves c =
 
 pub pass-p-requires : goal.pass-p-requires
 pass-p-requires c =
-    -- the byte is taken, and its records written
-    let taken =
-    map-took c.args.table.now.states c.args.table.now.numbers.now c.args.count c.args.piece.now c.args.list.now c.args.start c.loop-i.list c.loop-i.q c.loop-i.w
-    c.loop-i.i c.loop-i.moves c.loop-i.invariant c.loop-i-test.true _ _ (sym c.next.ensures ∙ c.in-Some.is)
-    c.vector-hits.result c.vector-hits.ensures c.args.table.now.few _ (sym c.in-Some-put_all.is ∙ c.put_all.ensures.0) _ c.put_all.ensures.1 in
+    let done = taken (goal.at.pass-p-requires c).In-Some-put_all in
     record {
-      s_in_bounds = (taken.below, rw c.in-Some-row.is at c.row_for-row.ensures);
-      from_in_bounds = (taken.going.most, (omega (arith, c.requires.1), taken.few));
+      s_in_bounds = (done.below, rw c.in-Some-row.is at c.row_for-row.ensures);
+      from_in_bounds = (done.going.most, (omega (arith, c.requires.1), done.few));
     }
 
 pub loop-i-preserved-in-loop-i : goal.loop-i-preserved-in-loop-i
 loop-i-preserved-in-loop-i c =
-    -- the byte is taken, and its records written
-    let taken =
-    map-took c.args.table.now.states c.args.table.now.numbers.now c.args.count c.args.piece.now c.args.list.now c.args.start c.loop-i.list c.loop-i.q c.loop-i.w
-    c.loop-i.i c.loop-i.moves c.loop-i.invariant c.loop-i-test.true _ _ (sym c.next.ensures ∙ c.in-Some.is)
-    c.vector-hits.result c.vector-hits.ensures c.args.table.now.few _ (sym c.in-Some-put_all.is ∙ c.put_all.ensures.0) _ c.put_all.ensures.1 in
+    let done = taken (goal.at.loop-i-preserved-in-loop-i c).In-Some-put_all in
     let a = c.args in
-    map-pass a.table.now.states a.table.now.numbers.now a.count a.piece.now a.list.now a.start _ _ _ _ _ taken
+    map-pass a.table.now.states a.table.now.numbers.now a.count a.piece.now a.list.now a.start _ _ _ _ _ done
     c.pass-p.result c.pass-p.ensures
 
 pub loop-i-preserved : goal.loop-i-preserved
 loop-i-preserved c =
-    -- the byte is taken, and its records written
-    let taken =
-    map-took c.args.table.now.states c.args.table.now.numbers.now c.args.count c.args.piece.now c.args.list.now c.args.start c.loop-i.list c.loop-i.q c.loop-i.w
-    c.loop-i.i c.loop-i.moves c.loop-i.invariant c.loop-i-test.true _ _ (sym c.next.ensures ∙ c.in-Some.is)
-    c.vector-hits.result c.vector-hits.ensures c.args.table.now.few _ (sym c.in-Some-put_all.is ∙ c.put_all.ensures.0) _ c.put_all.ensures.1 in
-    taken
+    taken (goal.at.loop-i-preserved c).In-Some-put_all
 
 pub returns : goal.returns
 returns c =
