@@ -23,10 +23,7 @@ pub fn slots_of(first: usize, second: usize) -> [usize; 2]
 pub fn all_states(slots: [usize; 2], place: [usize; 16]) -> bool
     ensures { result ≡ place_below split_layout slots place }
 {
-    if !all_below(slots[0], 8, part_of(place, 0)) {
-        return false;
-    }
-    all_below(slots[1], 8, part_of(place, 1))
+    all_below(slots[0], 8, part_of(place, 0)) && all_below(slots[1], 8, part_of(place, 1))
 }
 
 // The starts of a part, laid into a run of their own, if it is awake at its place.

@@ -30,5 +30,5 @@ pub fn slots(len: usize, bits: usize, k: usize) -> usize
     ensures { result ≡ slots_in bits k len }
 {
     let most = len / (k * (letters(bits) + 1));
-    if most < MOST_SLOTS { most } else { MOST_SLOTS }
+    most.min(MOST_SLOTS)
 }
