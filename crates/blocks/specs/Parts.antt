@@ -49,10 +49,10 @@ pub record Fits (layout : Layout) (runs : Runs) (slots : List ℕ) (awake : List
 -- ---- the two parts of the split layout, as the code has them
 
 abbrev pub runs_of : SplitTables → Runs
-runs_of t = t.exact.numbers.now ∷ t.folded.numbers.now ∷ []
+runs_of t = t.exact.machines.numbers.now ∷ t.folded.machines.numbers.now ∷ []
 
 abbrev pub slots_of : SplitTables → List ℕ
-slots_of t = t.exact.slots ∷ t.folded.slots ∷ []
+slots_of t = t.exact.machines.slots ∷ t.folded.machines.slots ∷ []
 
 abbrev pub awake_of : SplitTables → List Bool
 awake_of t = is_some t.exact.starts ∷ is_some t.folded.starts ∷ []

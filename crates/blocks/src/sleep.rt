@@ -4,24 +4,25 @@ ghost use Rattle.std.specs.Prelude.{◌≡◌, false, true, ◌+◌, ◌*◌, �
 ghost use Rattle.passing.specs.Steps.{Ready};
 ghost use Rattle.blocks.specs.Sleep.{Stay, Still};
 
-use passing::steps::hits_of;
+use passing::steps::Machines;
 
 // Whether machine m, in state q, stays there on either bit.
-fn stays(table: &[u16], s: usize, m: usize, q: usize) -> bool
-    requires { (m * s + q) * 3 + 1 < length table.now }
-    ensures { result ≡ true → (get_or table.now ((m * s + q) * 3) 0 ≡ q) × (get_or table.now ((m * s + q) * 3 + 1) 0 ≡ q) }
+fn stays(machines: &Machines<1>, m: usize, q: usize) -> bool
+    requires { (m * machines.now.slots + q) * 3 + 1 < length machines.now.numbers.now }
+    ensures { result ≡ true → (get_or machines.now.numbers.now ((m * machines.now.slots + q) * 3) 0 ≡ q)
+        × (get_or machines.now.numbers.now ((m * machines.now.slots + q) * 3 + 1) 0 ≡ q) }
 {
-    let at = (m * s + q) * 3;
-    usize::from(table[at]) == q && usize::from(table[at + 1]) == q
+    let at = (m * machines.slots + q) * 3;
+    usize::from(machines.numbers[at]) == q && usize::from(machines.numbers[at + 1]) == q
 }
 
 // Whether all machines of a part stay.
-fn all_stay(table: &[u16], s: usize, place: [usize; 8]) -> bool
-    requires { Ready 1 8 s table.now place }
-    ensures { result ≡ true → Stay s table.now place }
+fn all_stay(machines: &Machines<1>, place: [usize; 8]) -> bool
+    requires { Ready 1 8 machines.now.slots machines.now.numbers.now place }
+    ensures { result ≡ true → Stay machines.now.slots machines.now.numbers.now place }
 {
     for m in 0..8 {
-        if !stays(table, s, m, place[m]) {
+        if !stays(machines, m, place[m]) {
             return false;
         }
     }
@@ -29,12 +30,12 @@ fn all_stay(table: &[u16], s: usize, place: [usize; 8]) -> bool
 }
 
 // Whether a part is awake at a place. One that is not is still there; one that is may be still too.
-pub fn is_awake(table: &[u16], s: usize, place: [usize; 8]) -> bool
-    requires { Ready 1 8 s table.now place }
-    ensures { result ≡ false → Still s table.now place }
+pub fn is_awake(machines: &Machines<1>, place: [usize; 8]) -> bool
+    requires { Ready 1 8 machines.now.slots machines.now.numbers.now place }
+    ensures { result ≡ false → Still machines.now.slots machines.now.numbers.now place }
 {
-    if !all_stay(table, s, place) {
+    if !all_stay(machines, place) {
         return true;
     }
-    hits_of(table, s, 1, 8, 2, place) != 0
+    machines.hits_of(8, 2, place) != 0
 }

@@ -11,6 +11,7 @@ use crate::tables::{BitTable, SplitTables};
 use matching::slots;
 use passing::places::all_below;
 use passing::starts::put_starts;
+use passing::steps::Machines;
 
 // The slots of the two tables, by their lengths.
 pub fn slots_of(first: usize, second: usize) -> [usize; 2]
@@ -28,18 +29,17 @@ pub fn all_states(slots: [usize; 2], place: [usize; 16]) -> bool
 
 // The starts of a part, laid into a run of their own, if it is awake at its place.
 fn starts_of<'a>(
-    table: &[u16],
-    s: usize,
+    machines: &Machines<1>,
     place: [usize; 8],
     run: &'a mut [usize],
 ) -> Option<&'a [usize]>
-    requires { (Ready 1 8 s table.now place) × ((s ≤ 513) × (length run.old ≡ 128)) }
-    ensures { MatchOption result (Still s table.now place) (λ starts. Starts 1 s starts.now) }
+    requires { (Ready 1 8 machines.now.slots machines.now.numbers.now place) × ((machines.now.slots ≤ 513) × (length run.old ≡ 128)) }
+    ensures { MatchOption result (Still machines.now.slots machines.now.numbers.now place) (λ starts. Starts 1 machines.now.slots starts.now) }
 {
-    if !is_awake(table, s, place) {
+    if !is_awake(machines, place) {
         return None;
     }
-    put_starts(1, s, run);
+    put_starts(1, machines.slots, run);
     Some(run)
 }
 
@@ -54,16 +54,23 @@ pub fn tables_at<'a>(
     requires { Stands split_layout (first.now ∷ second.now ∷ []) slots start }
     ensures { (SplitFits result start) × (runs_of result ≡ first.now ∷ second.now ∷ []) }
 {
-    let (one, other) = run.split_at_mut(128);
-    let exact = BitTable {
+    let exact = Machines {
         numbers: first,
         slots: slots[0],
-        starts: starts_of(first, slots[0], part_of(start, 0), one),
     };
-    let folded = BitTable {
+    let folded = Machines {
         numbers: second,
         slots: slots[1],
-        starts: starts_of(second, slots[1], part_of(start, 1), other),
     };
-    SplitTables { exact, folded }
+    let (one, other) = run.split_at_mut(128);
+    SplitTables {
+        exact: BitTable {
+            machines: exact,
+            starts: starts_of(&exact, part_of(start, 0), one),
+        },
+        folded: BitTable {
+            machines: folded,
+            starts: starts_of(&folded, part_of(start, 1), other),
+        },
+    }
 }

@@ -2,11 +2,12 @@
 ghost use Rattle.std.specs.Prelude.{◌≡◌, length};
 ghost use Rattle.blocks.specs.Sleep.{starts_in};
 
-// One of them: the slots of each of its eight machines and, where it is awake, its starts (`put_starts`).
+use passing::steps::Machines;
+
+// One of them: its eight machines and, where it is awake, its starts (`put_starts`).
 #[derive(Clone, Copy)]
 pub struct BitTable<'a> {
-    pub numbers: &'a [u16],
-    pub slots: usize,
+    pub machines: Machines<'a, 1>,
     pub starts: Option<&'a [usize]>,
     pub ghost long: { length (starts_in starts) ≡ 128 },
 }

@@ -8,7 +8,7 @@ ghost use Rattle.blocks.specs.Walking.{Noted, NotedIf};
 
 use crate::tables::BitTable;
 use passing::places::all_below;
-use passing::steps::{hits_of, next_numbers};
+use passing::steps::Machines;
 
 // How far a walk came, the place there if that is the end, and whether something was noted.
 #[derive(Drop)]
@@ -32,29 +32,28 @@ fn note(hits: &mut [u16; 256], i: usize, v: u16, loud: bool) -> bool
 
 // The first bytes, up to one. It carries no place to go back to, which is what makes it fast.
 fn walk_part(
-    table: &[u16],
-    s: usize,
+    machines: &Machines<1>,
     starts: &[usize],
     start: [usize; 8],
     bytes: &[u8],
     to: usize,
     hits: &mut [u16; 256],
 ) -> Walked
-    requires { (Step 1 s table.now starts.now start) × ((to ≤ length bytes.now) × (to ≤ 256)) }
-    ensures { Noted (table_step 1 s table.now) start (take to bytes.now) result hits.old hits.new }
+    requires { (Step 1 machines.now.slots machines.now.numbers.now starts.now start) × ((to ≤ length bytes.now) × (to ≤ 256)) }
+    ensures { Noted (table_step 1 machines.now.slots machines.now.numbers.now) start (take to bytes.now) result hits.old hits.new }
 {
     let mut place = start;
     let mut loud = false;
     for i in 0..to {
-        let next = next_numbers(table, s, 1, starts, place, bytes[i]);
-        if !all_below(s, 8, next) {
+        let next = machines.next_numbers(starts, place, bytes[i]);
+        if !all_below(machines.slots, 8, next) {
             return Walked {
                 at: i,
                 place: start,
                 loud,
             };
         }
-        let v = hits_of(table, s, 1, 8, 2, next);
+        let v = machines.hits_of(8, 2, next);
         loud = note(hits, i, v, loud);
         place = next;
     }
@@ -69,8 +68,8 @@ impl<'a> BitTable<'a> {
     // The same where the table is awake; one that is asleep stays where it is, and notes nothing.
     pub fn walk(&self, start: [usize; 8], bytes: &[u8], to: usize, hits: &mut [u16; 256]) -> Walked
         requires { is_some self.now.starts ≡ true
-            → (Step 1 self.now.slots self.now.numbers.now (starts_in self.now.starts) start) × ((to ≤ length bytes.now) × (to ≤ 256)) }
-        ensures { NotedIf (is_some self.now.starts) (table_step 1 self.now.slots self.now.numbers.now) start bytes.now to result hits.old hits.new }
+            → (Step 1 self.now.machines.slots self.now.machines.numbers.now (starts_in self.now.starts) start) × ((to ≤ length bytes.now) × (to ≤ 256)) }
+        ensures { NotedIf (is_some self.now.starts) (table_step 1 self.now.machines.slots self.now.machines.numbers.now) start bytes.now to result hits.old hits.new }
     {
         let Some(starts) = self.starts else {
             return Walked {
@@ -79,6 +78,6 @@ impl<'a> BitTable<'a> {
                 loud: false,
             };
         };
-        walk_part(self.numbers, self.slots, starts, start, bytes, to, hits)
+        walk_part(&self.machines, starts, start, bytes, to, hits)
     }
 }

@@ -5,4 +5,4 @@ use mathlib.Core.Path.{◌≡◌}
 use Rattle.blocks.proofs.sleep.all_stay.Given as goal
 
 abbrev pub invariant-loop-m : goal.invariant-loop-m
-invariant-loop-m l = (length l.place ≡ 8) × Staying l.s l.table l.place l.m
+invariant-loop-m l = (length l.place ≡ 8) × Staying l.machines.slots l.machines.numbers.now l.place l.m

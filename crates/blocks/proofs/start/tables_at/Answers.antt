@@ -9,11 +9,11 @@ starts_of-requires c = (rw c.part_of.ensures (split-ready _ _ _ c.requires 0 (om
 pub starts_of-requires-2 : goal.starts_of-requires-2
 starts_of-requires-2 c = (rw c.part_of-2.ensures (split-ready _ _ _ c.requires 1 (omega arith)), (stands_few _ _ _ _ c.requires 1, search (rules, length-drop)))
 
-pub invariant_of-exact : goal.invariant_of-exact
-invariant_of-exact c = record { long = known-long _ _ _ _ c.starts_of.ensures }
+pub invariant_of-result : goal.invariant_of-result
+invariant_of-result c = record { long = known-long _ _ _ _ c.starts_of.ensures }
 
-pub invariant_of-folded : goal.invariant_of-folded
-invariant_of-folded c = record { long = known-long _ _ _ _ c.starts_of-2.ensures }
+pub invariant_of-result-2 : goal.invariant_of-result-2
+invariant_of-result-2 c = record { long = known-long _ _ _ _ c.starts_of-2.ensures }
 
 pub returns : goal.returns
 returns c =

@@ -1,6 +1,6 @@
 -- The next numbers of the machines before are there, and those of the others are still to come.
 use Rattle.passing.specs.Laws.Nexts.{Halving}
-use Rattle.passing.proofs.steps.next_half.Given as goal
+use Rattle.passing.proofs.steps.Machines.next_half.Given as goal
 
 abbrev pub invariant-loop-j : goal.invariant-loop-j
-invariant-loop-j l = Halving l.bits l.s l.table l.starts l.place l.c l.h l.at l.j
+invariant-loop-j g l = Halving g.row.BITS l.self.slots l.self.numbers.now l.starts l.place l.c l.h l.at l.j
