@@ -78,6 +78,8 @@ impl<'a> BitTable<'a> {
                 loud: false,
             };
         };
-        walk_part(&self.machines, starts, start, bytes, to, hits)
+        // A copy, since through the reference they would be loaded again after each note: 64 instructions a byte in place of 57.
+        let machines = self.machines;
+        walk_part(&machines, starts, start, bytes, to, hits)
     }
 }
