@@ -10,7 +10,6 @@ use crate::sleep::is_awake;
 use crate::tables::{BitTable, SplitTables};
 use matching::slots;
 use passing::places::all_below;
-use passing::starts::put_starts;
 use passing::steps::Machines;
 
 // The slots of the two tables, by their lengths.
@@ -39,7 +38,7 @@ fn starts_of<'a>(
     if !is_awake(machines, place) {
         return None;
     }
-    put_starts(1, machines.slots, run);
+    machines.put_starts(run);
     Some(run)
 }
 
