@@ -8,8 +8,8 @@ use Rattle.passing.specs.Steps.{Ready, Starts}
 use Rattle.blocks.specs.Noting.{tag_rows}
 use Rattle.blocks.specs.Running.{Came}
 use Rattle.blocks.specs.Sleep.{Still, starts_in}
-use Rattle.blocks.specs.declared.block.Block.{Block}
 use Rattle.blocks.specs.declared.tables.SplitTables.{SplitTables}
+use Rattle.blocks.specs.declared.walks.Walked.{Walked}
 
 -- the states of a place are below the slots of their parts, which are those of the runs
 pub record Stands (layout : Layout) (runs : Runs) (slots place : List ℕ) : Type 0 where
@@ -76,7 +76,7 @@ abbrev pub clean : List ℕ
 clean = replicate 256 0
 
 -- what the walk of all parts over a block answers, where the run of what is noted, clean before, is hits
-pub record Walks (layout : Layout) (runs : Runs) (start : List ℕ) (block : Word) (hits : List ℕ) (r : Block) : Type 0 where
-  pub came : Came (step_in layout runs) start block r.end r.place (tag_rows (take r.end hits))
+pub record Walks (layout : Layout) (runs : Runs) (start : List ℕ) (block : Word) (hits : List ℕ) (r : Walked 16) : Type 0 where
+  pub came : Came (step_in layout runs) start block r.at r.place (tag_rows (take r.at hits))
   pub long : length hits ≡ 256
   pub quiet : r.loud ≡ false → hits ≡ clean

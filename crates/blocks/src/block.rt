@@ -5,18 +5,11 @@ ghost use Rattle.blocks.specs.Parts.{Lettered, SplitFits, Walks, awake_of, clean
 
 use crate::places::{joined, part_of};
 use crate::tables::SplitTables;
+use crate::walks::Walked;
 use kinds::folding::fold_all;
 
 // The most bytes of a block.
 pub const MOST: usize = 256;
-
-// How far all parts came, the place there if that is the block's end, and whether something was noted.
-#[derive(Drop)]
-pub struct Block {
-    pub end: usize,
-    pub place: [usize; 16],
-    pub loud: bool,
-}
 
 // The second table over the whole block, then the first up to the byte to which the second came.
 fn walk_both(
@@ -25,7 +18,7 @@ fn walk_both(
     block: &[u8],
     near: &[u8],
     hits: &mut [u16; 256],
-) -> Block
+) -> Walked<16>
     requires split_fits { (SplitFits tables.now start)
         × (Lettered split_layout (awake_of tables.now) (block.now ∷ near.now ∷ []) block.now) }
     requires block_len_bound { (length block.now ≤ 256) × (hits.old ≡ clean) }
@@ -35,8 +28,8 @@ fn walk_both(
         .folded
         .walk(part_of(start, 1), near, block.len(), hits);
     let first = tables.exact.walk(part_of(start, 0), block, second.at, hits);
-    Block {
-        end: first.at,
+    Walked {
+        at: first.at,
         place: joined(first.place, second.place),
         loud: second.loud | first.loud,
     }
@@ -48,7 +41,7 @@ pub fn walk_block(
     start: [usize; 16],
     block: &[u8],
     hits: &mut [u16; 256],
-) -> Block
+) -> Walked<16>
     requires split_fits { SplitFits tables.now start }
     requires block_len_bound { (length block.now ≤ 256) × (hits.old ≡ clean) }
     ensures { Walks split_layout (runs_of tables.now) start block.now hits.new result }

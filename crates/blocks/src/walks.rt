@@ -10,11 +10,11 @@ use crate::tables::BitTable;
 use passing::places::all_below;
 use passing::steps::Machines;
 
-// How far a walk came, the place there if that is the end, and whether something was noted.
-#[derive(Drop)]
-pub struct Walked {
+// How far a walk of N machines came, the place there if that is the end, and whether something was noted.
+#[derive(Clone, Copy)]
+pub struct Walked<const N: usize> {
     pub at: usize,
-    pub place: [usize; 8],
+    pub place: [usize; N],
     pub loud: bool,
 }
 
@@ -38,7 +38,7 @@ fn walk_part(
     bytes: &[u8],
     to: usize,
     hits: &mut [u16; 256],
-) -> Walked
+) -> Walked<8>
     requires { (Step 1 machines.now.slots machines.now.numbers.now starts.now start) × ((to ≤ length bytes.now) × (to ≤ 256)) }
     ensures { Noted (table_step 1 machines.now.slots machines.now.numbers.now) start (take to bytes.now) result hits.old hits.new }
 {
@@ -66,7 +66,13 @@ fn walk_part(
 
 impl<'a> BitTable<'a> {
     // The same where the table is awake; one that is asleep stays where it is, and notes nothing.
-    pub fn walk(&self, start: [usize; 8], bytes: &[u8], to: usize, hits: &mut [u16; 256]) -> Walked
+    pub fn walk(
+        &self,
+        start: [usize; 8],
+        bytes: &[u8],
+        to: usize,
+        hits: &mut [u16; 256],
+    ) -> Walked<8>
         requires { is_some self.now.starts ≡ true
             → (Step 1 self.now.machines.slots self.now.machines.numbers.now (starts_in self.now.starts) start) × ((to ≤ length bytes.now) × (to ≤ 256)) }
         ensures { NotedIf (is_some self.now.starts) (table_step 1 self.now.machines.slots self.now.machines.numbers.now) start bytes.now to result hits.old hits.new }

@@ -59,7 +59,7 @@ fn read_block(
         (read_in split_layout (runs_of tables.now) start count (length list.old / 2 - from) block.now) }
 {
     let all = walk_block(tables, start, block, hits);
-    let end = all.end;
+    let end = all.at;
     let wrote = write_noted(all.loud, hits, end, count, list, from);
     let at = wrote.at;
     if block.len() <= at {

@@ -81,7 +81,7 @@ module _ (layout : Layout) (runs : Runs) (start : List ℕ) (sized : length star
     abbrev own : Part
     own = get_or layout g no_part
 
-    module _ (machines : own.machines ≡ 8) (r : Walked) (h' : List ℕ)
+    module _ (machines : own.machines ≡ 8) (r : Walked 8) (h' : List ℕ)
         (n : Noted (part_step own (get_or runs g [])) (take 8 (drop (g * 8) start)) (take end block) r h h') where
       sized_own : length r.place ≡ 8
       sized_own = n.wide ∙ length-take-le 8 (drop (g * 8) start) (omega (arith, length-drop (g * 8) start, sized, less))
@@ -182,7 +182,7 @@ module _ (layout : Layout) (runs : Runs) (slots : List ℕ) (awake : List Bool) 
           (omega (arith, z, w.came.most), omega (arith, w.came.most)),
         )
 
-    pub turn_more : (r : Walked) (h' : List ℕ) → NotedIf (get_or awake g false) (table_step 1 (get_or slots g 0) (get_or runs g [])) states letter end r h h'
+    pub turn_more : (r : Walked 8) (h' : List ℕ) → NotedIf (get_or awake g false) (table_step 1 (get_or slots g 0) (get_or runs g [])) states letter end r h h'
         → (place' : List ℕ) → place' ≡ sets place (g * 8) r.place → Walking layout runs start block h' place' r.at (loud || r.loud) g
     turn_more r h' n place' e' =
         rw e'
@@ -191,7 +191,7 @@ module _ (layout : Layout) (runs : Runs) (slots : List ℕ) (awake : List Bool) 
         block letter end w.came.most (λ a. eb ∙ letters.of_part g less a) r h h' (omega (arith, w.long, w.came.most)) n))
 
   pub turn_end : (h place : List ℕ) (end : ℕ) (loud : Bool) (left : ℕ) → Walking layout runs start block h place end loud left → left ≡ 0
-      → Walks layout runs start block h (record { end = end; place = place; loud = loud })
+      → Walks layout runs start block h (record { at = end; place = place; loud = loud })
   turn_end h place end loud left w e =
       let z = rw e at w in
       record { came = z.came; long = z.long; quiet = z.quiet }

@@ -33,7 +33,7 @@ module _ (first second : List ℕ) (s₁ s₂ : ℕ) (awake₁ awake₂ : Bool) 
       rw (drop_at starts₁ starts₂ 128 long₁, take_all 128 starts₂ (omega (arith, long₂))) at
       (turn_able _ _ _ _ _ _ fits _ _ letters few _ _ _ _ _ begun 1 refl near refl e)
 
-  module _ (r : Walked) (h : List ℕ) (noted : NotedIf awake₂ (table_step 1 s₂ second) (take 8 (drop 8 start)) near (length block) r h₀ h) where
+  module _ (r : Walked 8) (h : List ℕ) (noted : NotedIf awake₂ (table_step 1 s₂ second) (take 8 (drop 8 start)) near (length block) r h₀ h) where
     halfway : Walking split_layout (first ∷ second ∷ []) start block h (sets start 8 r.place) r.at r.loud 1
     halfway = turn_more _ _ _ _ _ _ fits _ _ letters few _ _ _ _ _ begun 1 refl near refl r h noted _ refl
 
@@ -42,9 +42,9 @@ module _ (first second : List ℕ) (s₁ s₂ : ℕ) (awake₁ awake₂ : Bool) 
         rw (take_at starts₁ starts₂ 128 long₁) at
         (turn_able _ _ _ _ _ _ fits _ _ letters few _ _ _ _ _ halfway 0 refl block refl e)
 
-    pub both_walked : (q : Walked) (h' : List ℕ) → NotedIf awake₁ (table_step 1 s₁ first) (take 8 start) block r.at q h h'
+    pub both_walked : (q : Walked 8) (h' : List ℕ) → NotedIf awake₁ (table_step 1 s₁ first) (take 8 start) block r.at q h h'
         → length q.place ≡ 8 → length r.place ≡ 8
-        → Walks split_layout (first ∷ second ∷ []) start block h' (record { end = q.at; place = q.place ++ r.place; loud = r.loud || q.loud })
+        → Walks split_layout (first ∷ second ∷ []) start block h' (record { at = q.at; place = q.place ++ r.place; loud = r.loud || q.loud })
     both_walked q h' noted' lq lr =
         rw (← put-both start q.place r.place (fits_sized _ _ _ _ _ _ fits) lq lr)
         (turn_end _ _ _ _ _ _ fits _ _ letters few _ _ _ _ _

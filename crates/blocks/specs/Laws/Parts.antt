@@ -31,7 +31,7 @@ module _ (p : Part) (run : List ℕ) (s : ℕ) (starts place : List ℕ) where
 
   -- a walk over bytes as it reads them is a walk over the bytes; asleep, it is one that stays
   pub part-walk : (awake : Bool) → PartFits p run s awake starts place → (w bytes : Word) (to : ℕ) → to ≤ length w
-      → (awake ≡ true → bytes ≡ word_as p.kind w) → (r : Walked) (h₀ h : List ℕ) → to ≤ length h₀
+      → (awake ≡ true → bytes ≡ word_as p.kind w) → (r : Walked 8) (h₀ h : List ℕ) → to ≤ length h₀
       → NotedIf awake (table_step 1 s run) place bytes to r h₀ h → Noted (part_step p run) place (take to w) r h₀ h
   part-walk true f w bytes to most e r h₀ h room n = record {
     vs = n.vs;
@@ -42,7 +42,7 @@ module _ (p : Part) (run : List ℕ) (s : ℕ) (starts place : List ℕ) where
     quiet = n.quiet;
   }
   part-walk false f w bytes to most e r h₀ h room n =
-      subst (λ (x : Walked). Noted (part_step p run) place (take to w) x h₀ h) (sym n.0) (record {
+      subst (λ (x : Walked 8). Noted (part_step p run) place (take to w) x h₀ h) (sym n.0) (record {
         vs = replicate to 0;
         came = record {
           most = omega (arith, front);
