@@ -9,14 +9,7 @@ pub vectors-v-requires : goal.vectors-v-requires
 vectors-v-requires g c = (search rules, (zero-le, (c.requires.1.0, ready_fewer _ _ _ _ _ c.requires.1.1 _ c.requires.0)))
 
 pub returns-then-v-eq0 : goal.returns-then-v-eq0
-returns-then-v-eq0 g c =
-    let c1 = c in
-    let a = c1.args in
-    hits_soon g.row.BITS a.self.now.slots a.self.now.numbers.now _ a.few a.k c1.requires.0 c1.vectors-v.result c1.vectors-v.ensures c.if-v-eq0.true
+returns-then-v-eq0 g c = hits_soon _ _ _ _ _ _ c.requires.0 _ c.vectors-v.ensures c.if-v-eq0.true
 
 pub returns : goal.returns
-returns g c =
-    let c2 = c in
-    let a = c2.args in
-    hits_late g.row.BITS a.self.now.slots a.self.now.numbers.now _ a.few a.k c2.requires.0 c2.vectors-v.result c2.vectors-v.ensures
-    c.vectors.result c.vectors.ensures
+returns g c = hits_late _ _ _ _ _ _ c.requires.0 _ c.vectors-v.ensures _ c.vectors.ensures

@@ -5,23 +5,10 @@ use Rattle.passing.proofs.steps.Machines.next_half.Goals as goal
 
 pub next_at-requires : goal.next_at-requires
 next_at-requires g c =
-    let l = c in
-    let e = l in
-    let start = e in
-    let a = start.args in
-    let asked = start.requires in
-    rw (e.entry_of-first.ensures, e.letters-row.ensures)
-    (part-inside g.row.BITS a.self.now.slots a.self.now.numbers.now a.starts.now a.place asked.0 a.c a.h l.loop-j.j asked.1.0
-    c.loop-j-test.true)
+    rw (c.entry_of-first.ensures, c.letters-row.ensures)
+    (part-inside _ _ _ _ _ c.requires.0 c.args.c c.args.h c.loop-j.j c.requires.1.0 c.loop-j-test.true)
 
 pub loop-j-preserved : goal.loop-j-preserved
 loop-j-preserved g c =
-    let t = c in
-    let l = t in
-    let e = l in
-    let start = e in
-    let a = start.args in
-    let asked = start.requires in
-    halving_more g.row.BITS a.self.now.slots a.self.now.numbers.now a.starts.now a.place a.c a.h l.loop-j.at l.loop-j.j asked.0 asked.1.0
-    t.loop-j-test.true l.loop-j.invariant _
-    (c.next_at.ensures ∙ rw (e.entry_of-first.ensures, e.letters-row.ensures))
+    halving_more _ _ _ _ _ c.args.c c.args.h c.loop-j.at c.loop-j.j c.requires.0 c.requires.1.0 c.loop-j-test.true c.loop-j.invariant _
+    (c.next_at.ensures ∙ rw (c.entry_of-first.ensures, c.letters-row.ensures))
