@@ -2,20 +2,54 @@
 use Prim.Native.Nat.{suc, ℕ, ◌*◌, ◌+◌, ◌-◌, ◌<◌, ◌≤◌}
 use mathlib.Core.Bool.{Bool, cond, false, true, ◌&&◌}
 use mathlib.Core.List.{List, [], append-nil, append_assoc, ◌++◌, ◌∷◌}
-use mathlib.Core.Path.{ap, refl, sym, ◌∙◌, ◌≡◌}
+use mathlib.Core.Path.{ap, ap₂, refl, subst, sym, ◌∙◌, ◌≡◌}
 use native.Mathlib.Omega.{arith}
 use lib.ListN.{drop, drop_of_length-le, get_or, get_or-append, length, length-append, length-drop, take}
 use lib.Pow.{pow_mono}
-use lib.Seq.{append_snoc, drop-cons, get_or-append_seam, take-length, take-suc}
-use Rattle.matching.specs.Laws.Bools.{and_both, and_l, and_r, both_ways}
+use lib.Seq.{append_snoc, drop-cons, get_or-append_seam, take-length, take-suc, take_all}
+use Rattle.matching.specs.Laws.Bools.{and_both, and_l, and_r, both_ways, is_false}
 use Rattle.matching.specs.Laws.Vectors.{vector_lt}
-use Rattle.matching.specs.Laws.Words.{ends-split, ends_append}
+use Rattle.matching.specs.Laws.Words.{drop-ends, ends-drop, ends-split, ends_append}
 use Rattle.matching.specs.Machine.{vector, vector_by}
 use Rattle.matching.specs.Words.{Word, ends}
 use lib.Dec.{eqb, ltb}
 use borrow.Author.Tests.{eq-eqb, eqb-true, lt-ltb, ltb-true}
 use mir.Val.{bool_byte}
 use Rattle.machines.specs.Letters.{agree_at}
+
+-- ---- the last letters of a word, as many as a tag has
+
+module _ (w t : Word) (fits : length t ≤ length w) where
+  abbrev last : Word
+  last = take (length w - (length w - length t)) (drop (length w - length t) w)
+
+  last-is : last ≡ drop (length w - length t) w
+  last-is = take_all (length w - (length w - length t)) (drop (length w - length t) w) (omega (arith, length-drop (length w - length t) w))
+
+  last-long : length last ≡ length t
+  last-long = ap {B = ℕ} length last-is ∙ omega (arith, length-drop (length w - length t) w)
+
+  -- before any is compared those that are left, none, are the same
+  pub last-none : drop (length t) last ≡ drop (length t) t
+  last-none = drop_of_length-le last {i = length t} (omega (arith, last-long)) ∙ sym (drop_of_length-le t {i = length t} (omega arith))
+
+  -- one more that is the same
+  pub last-more : (i : ℕ) → 0 < i → i ≤ length t → drop i last ≡ drop i t → get_or last (i - 1) 0 ≡ get_or t (i - 1) 0 → drop (i - 1) last ≡ drop (i - 1) t
+  last-more i some most e l =
+      let k : suc (i - 1) ≡ i = omega arith in
+      drop-cons last (i - 1) 0 (omega (arith, last-long))
+      ∙ ap₂ {C = Word} (λ (x : ℕ) (u : Word). x ∷ u) l (ap (λ (j : ℕ). drop j last) k ∙ e ∙ ap (λ (j : ℕ). drop j t) (sym k))
+      ∙ sym (drop-cons t (i - 1) 0 (omega arith))
+
+  -- one that differs, and so the tag ends no such word
+  pub last-differ : (j : ℕ) → (get_or last j 0 ≡ get_or t j 0 → ⊥) → false ≡ ends t w
+  last-differ j d = sym (is_false (ends t w) (λ e. d (ap (λ (l : Word). get_or l j 0) (last-is ∙ ends-drop t w e))))
+
+  -- all of the tag's letters were the same
+  pub last-all : (i : ℕ) → i ≤ 0 → drop i last ≡ drop i t → true ≡ ends t w
+  last-all i h e =
+      let z : i ≡ 0 = omega arith in
+      sym (drop-ends t w (sym last-is ∙ subst (λ (j : ℕ). drop j last ≡ drop j t) z e))
 
 -- ---- the vector
 

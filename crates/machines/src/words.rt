@@ -25,11 +25,20 @@ fn agrees(word: &[u8], tag: &[u8], i: usize) -> bool
     word[word.len() - 1 - i] == tag[tag.len() - 1 - i]
 }
 
-// Whether a tag ends a word.
+// Whether a tag ends a word. Most tags differ from it in one of the last letters, and so these are compared first.
 pub fn tag_ends(word: &[u8], tag: &[u8]) -> bool
     ensures { result ≡ ends tag.now word.now }
 {
-    word.ends_with(tag)
+    if word.len() < tag.len() {
+        return false;
+    }
+    let last = &word[word.len() - tag.len()..];
+    for i in (0..tag.len()).rev() {
+        if last[i] != tag[i] {
+            return false;
+        }
+    }
+    true
 }
 
 // The vector of a word: bit i is set exactly if tag i ends it.
