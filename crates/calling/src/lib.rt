@@ -45,7 +45,6 @@ fn make(
     s: State,
     n: u64,
     call: Call,
-    place: [u16; 16],
     bytes: &[u8],
     set: &mut [u8],
     first: &mut [u16],
@@ -55,7 +54,7 @@ fn make(
 ) -> State
     requires { (Within s) × (Bounded call) × (20000 ≤ length bytes.now) × (4096 ≤ length set.old)
         × (131841 ≤ length first.old) × (16384 ≤ length second.old) × (2048 ≤ length list.old) }
-    ensures did { Did (call_on (held_by s set.old (lent first.old second.old)) n (meant place bytes.now call))
+    ensures did { Did (call_on (held_by s set.old (lent first.old second.old)) n (meant bytes.now call))
         out.old (held_by result set.new (lent first.new second.new)) out.new }
     ensures within { Within result }
 {
@@ -72,7 +71,7 @@ fn make(
         Call::Take => take(s, out),
         Call::Show => show(s, out),
         Call::Build(layout) => build(s, layout, set, first, second, out),
-        Call::Read(reading) => read(s, reading, place, bytes, first, second, list, out),
+        Call::Read(reading) => read(s, reading, bytes, first, second, list, out),
         Call::Poke(at, value, table) => poke(s, at, value, table, first, second, out),
         Call::Peek(at, count, table) => peek(s, at, count, table, first, second, out),
     }
@@ -95,8 +94,6 @@ pub fn answer_line(
         out.old (held_by result set.new (lent first.new second.new)) out.new }
     ensures within { Within result }
 {
-    let called = script::call_of(line, bytes);
-    let call = called.call;
-    let place = called.place;
-    make(s, n, call, place, bytes, set, first, second, list, out)
+    let call = script::call_of(line, bytes);
+    make(s, n, call, bytes, set, first, second, list, out)
 }

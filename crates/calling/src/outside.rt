@@ -10,7 +10,12 @@ use output::Buffer;
 use script::{Layout, ReadCall};
 use tables::BuildFault;
 
-fn build_by(layout: Layout, set: &[u8], first: &mut [u16], second: &mut [u16]) -> Result<usize, BuildFault>
+fn build_by(
+    layout: Layout,
+    set: &[u8],
+    first: &mut [u16],
+    second: &mut [u16],
+) -> Result<usize, BuildFault>
     ensures value { result ≡ built_by layout set.now (sizes (length first.old) (length second.old)) }
     ensures second_after { lent first.new second.new ≡ tables_by layout set.now (lent first.old second.old) }
 {
@@ -141,7 +146,6 @@ fn read_by(
 pub fn read(
     s: State,
     reading: ReadCall,
-    place: [u16; 16],
     bytes: &[u8],
     first: &[u16],
     second: &[u16],
@@ -152,7 +156,7 @@ pub fn read(
         × (reading.piece ≤ length bytes.now) }
     ensures by_index { (set : List ℕ) → Did (answered (held_by s set (lent first.now second.now))
         (read_text (front_of (sizes s.first s.second) (lent first.now second.now)) reading.layout reading.count reading.room
-        (take·of (machines_of reading.layout) place) (take·of reading.piece bytes.now))) out.old
+        (take·of (machines_of reading.layout) reading.place) (take·of reading.piece bytes.now))) out.old
         (held_by result set (lent first.now second.now)) out.new }
     ensures within { Within result }
 {
@@ -169,7 +173,7 @@ pub fn read(
     read_by(
         layout,
         reading.count,
-        place,
+        reading.place,
         exact,
         folded,
         piece,

@@ -1,5 +1,5 @@
 -- What call a line makes: each call of the replay script, with its numbers and bytes.
-use Rattle.std.specs.Prelude.{ℕ, zero, suc, ◌+◌, ◌-◌, ◌≤◌, ◌<◌, Bool, true, false, ◌||◌, cond, List, [], ◌∷◌, ◌≡◌, eqb, leb, ltb, length, take, get_or, Option, Some, None}
+use Rattle.std.specs.Prelude.{ℕ, zero, suc, ◌+◌, ◌-◌, ◌≤◌, ◌<◌, Bool, true, false, ◌||◌, cond, List, [], ◌∷◌, ◌≡◌, eqb, leb, ltb, length, take, get_or, Option, Some, None, unwrap_or}
 use Rattle.matching.specs.Words.{same}
 use Rattle.script.specs.Words.{reach, word_of, behind, skipped}
 use Rattle.script.specs.Numbers.{number_of, numbers_of}
@@ -11,7 +11,6 @@ use Rattle.script.specs.declared.Table.{Table}
 use Rattle.script.specs.declared.Table.TheVariants.{First, Second}
 use Rattle.script.specs.declared.Call.{Call}
 use Rattle.script.specs.declared.Call.TheVariants as C
-use Rattle.script.specs.declared.Line.{Line}
 use Rattle.script.specs.declared.names.Name.{Name}
 use Rattle.script.specs.declared.names.Name.TheVariants as N
 
@@ -44,23 +43,23 @@ abbrev pub size_of : Table → ℕ
 size_of First = 131841
 size_of Second = 16384
 
--- what a call means beside the place and the bytes that were read with it
-abbrev pub meant : List ℕ → List ℕ → Call → CallOf
-meant place bytes C.PassedOver = passed_over
-meant place bytes C.NotACall = not_acall
-meant place bytes (C.Set n) = call_set (take n bytes)
-meant place bytes (C.Lend lent t) = call_lend lent t
-meant place bytes C.Replace = call_replace
-meant place bytes C.Open = call_open
-meant place bytes (C.Feed serial n) = call_feed serial (take n bytes)
-meant place bytes (C.Close serial) = call_close serial
-meant place bytes (C.State serial) = call_state serial
-meant place bytes C.Take = call_take
-meant place bytes C.Show = call_show
-meant place bytes (C.Build layout) = call_build layout
-meant place bytes (C.Read r) = call_read r.layout r.count r.room (take (machines_of r.layout) place) (take r.piece bytes)
-meant place bytes (C.Poke at value t) = call_poke at value t
-meant place bytes (C.Peek at count t) = call_peek at count t
+-- what a call means beside the bytes that were read with it
+abbrev pub meant : List ℕ → Call → CallOf
+meant bytes C.PassedOver = passed_over
+meant bytes C.NotACall = not_acall
+meant bytes (C.Set n) = call_set (take n bytes)
+meant bytes (C.Lend lent t) = call_lend lent t
+meant bytes C.Replace = call_replace
+meant bytes C.Open = call_open
+meant bytes (C.Feed serial n) = call_feed serial (take n bytes)
+meant bytes (C.Close serial) = call_close serial
+meant bytes (C.State serial) = call_state serial
+meant bytes C.Take = call_take
+meant bytes C.Show = call_show
+meant bytes (C.Build layout) = call_build layout
+meant bytes (C.Read r) = call_read r.layout r.count r.room (take (machines_of r.layout) r.place) (take r.piece bytes)
+meant bytes (C.Poke at value t) = call_poke at value t
+meant bytes (C.Peek at count t) = call_peek at count t
 
 -- a call's numbers stand within what the program holds, and its bytes within the buffer
 abbrev pub Bounded : Call → Type 0
@@ -82,28 +81,17 @@ Bounded (C.Peek at count t) = at + count ≤ size_of t
 
 -- what was made of some words: a call, or none
 abbrev pub made : Option Call → Call
-made (Some call) = call
-made None = C.NotACall
+made call = unwrap_or call C.NotACall
 
--- a call says this, whatever place and bytes stand beside it, and is bounded
+-- a call says this, whatever bytes stand beside it, and is bounded
 pub record Plain (says : CallOf) (call : Call) : Type 0 where
-  pub means : (place bytes : List ℕ) → meant place bytes call ≡ says
+  pub means : (bytes : List ℕ) → meant bytes call ≡ says
   pub bounded : Bounded call
 
 -- a call says this of the bytes that were read with it, and is bounded
-pub record Filled (bytes : List ℕ) (says : CallOf) (call : Call) : Type 0 where
-  pub means : (place : List ℕ) → meant place bytes call ≡ says
+pub record Says (bytes : List ℕ) (says : CallOf) (call : Call) : Type 0 where
+  pub means : meant bytes call ≡ says
   pub bounded : Bounded call
-
--- a line says this beside the bytes that were read with it, and its call is bounded
-pub record Says (bytes : List ℕ) (says : CallOf) (line : Line) : Type 0 where
-  pub means : meant line.place bytes line.call ≡ says
-  pub bounded : Bounded line.call
-
--- a line says this beside the bytes that were read with it; or there is none, where this is no call
-abbrev pub SaysIfAny : List ℕ → CallOf → Option Line → Type 0
-SaysIfAny bytes says (Some line) = Says bytes says line
-SaysIfAny bytes says None = says ≡ not_acall
 
 -- the name of a layout
 unfoldable pub layout_of : List ℕ → Option Layout
@@ -264,9 +252,9 @@ call_by (Some N.Poke) whole words = poke_of (table_of (behind words)) words
 call_by (Some N.Peek) whole words = peek_of (table_of (behind words)) words
 call_by None whole words = not_acall
 
--- a line says what its name and the words behind it mean
-pub record Called (name : Name) (whole : Bool) (words bytes : List ℕ) (line : Line) : Type 0 where
-  pub says : Says bytes (call_by (Some name) whole words) line
+-- a call says what its name and the words behind it mean
+pub record Called (name : Name) (whole : Bool) (words bytes : List ℕ) (call : Call) : Type 0 where
+  pub says : Says bytes (call_by (Some name) whole words) call
 
 -- the call of a line without its end: a line over 20,000 bytes is none, an empty one and one that begins with # are passed over
 unfoldable pub call_of : List ℕ → CallOf

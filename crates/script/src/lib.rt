@@ -16,7 +16,7 @@ ghost use Rattle.script.specs.Words.{behind as behind·of};
 ghost use Rattle.script.specs.Numbers.{number_of};
 ghost use Rattle.script.specs.Bytes.{bytes_of};
 ghost use Rattle.script.specs.Sets.{set_of};
-ghost use Rattle.script.specs.Calls.{Bounded, Plain, Filled, Alone, Called, call_of, made, meant, set_by, feed_by, close_by, state_by, build_by, layout_of};
+ghost use Rattle.script.specs.Calls.{Bounded, Plain, Says, Alone, Called, call_of, made, meant, set_by, feed_by, close_by, state_by, build_by, layout_of};
 
 use bytes::bytes_of;
 pub use bytes::put;
@@ -60,77 +60,56 @@ pub enum Call {
     Peek(usize, usize, Table),
 }
 
-// A read outside the desk: so many bytes were taken before, and its list has so many numbers.
+// A read outside the desk: so many bytes were taken before, its list has so many numbers, and the numbers of its place: 16, or 1 and zeros.
 #[derive(Drop)]
 pub struct ReadCall {
     pub layout: Layout,
     pub count: u32,
     pub room: usize,
-    pub piece: usize,
-}
-
-// A line's call, and the place of a read: 16 numbers, or 1 and zeros. Of any other call the place is all 0.
-#[derive(Drop)]
-pub struct Line {
-    pub call: Call,
     pub place: [u16; 16],
+    pub piece: usize,
 }
 
 const LONGEST: usize = 20000;
 
-const LARGEST: u32 = 4294967295;
-
 // The call of a line without its end; its bytes are put into the buffer.
 #[tactic(auto, using(crate::specs::Laws::Calls::call_long, crate::specs::Laws::Calls::call_empty, crate::specs::Laws::Calls::call_comment))]
-pub fn call_of(line: &[u8], buffer: &mut [u8; 20000]) -> Line
-    ensures call_after { meant result.place buffer.new result.call ≡ call_of line.now }
-    ensures bounded { Bounded result.call }
+pub fn call_of(line: &[u8], buffer: &mut [u8; 20000]) -> Call
+    ensures call_after { meant buffer.new result ≡ call_of line.now }
+    ensures bounded { Bounded result }
 {
     if LONGEST < line.len() {
-        return plain(None);
+        return Call::NotACall;
     }
-    if line.is_empty() {
-        return plain(Some(Call::PassedOver));
-    }
-    if line[0] == b'#' {
-        return plain(Some(Call::PassedOver));
+    if let [] | [b'#', ..] = line {
+        return Call::PassedOver;
     }
     let Some(name) = names::name_of(word(line)) else {
-        return plain(None);
+        return Call::NotACall;
     };
     let whole = words::reach(line, b' ') == line.len();
-    by_name(name, whole, behind(line), buffer)
-}
-
-// A line without a place; where its words make no call, it is none.
-fn plain(call: Option<Call>) -> Line
-    ensures { result.call ≡ made call }
-{
-    Line {
-        call: call.unwrap_or(Call::NotACall),
-        place: [0u16; 16],
-    }
+    by_name(name, whole, behind(line), buffer).unwrap_or(Call::NotACall)
 }
 
 // A call by its name, whether that is the whole line, and the words behind it.
-fn by_name(name: Name, whole: bool, words: &[u8], buffer: &mut [u8]) -> Line
+fn by_name(name: Name, whole: bool, words: &[u8], buffer: &mut [u8]) -> Option<Call>
     requires { (length words.now ≤ 20000) × (20000 ≤ length buffer.old) }
-    ensures { Called name whole words.now buffer.new result }
+    ensures { Called name whole words.now buffer.new (made result) }
 {
     match name {
-        Name::Set => plain(set(words, buffer)),
-        Name::Lend => plain(tables::lend(words)),
-        Name::Replace => plain(alone(whole, Call::Replace)),
-        Name::Open => plain(alone(whole, Call::Open)),
-        Name::Feed => plain(feed(words, buffer)),
-        Name::Close => plain(close(words)),
-        Name::State => plain(state(words)),
-        Name::Take => plain(alone(whole, Call::Take)),
-        Name::Show => plain(alone(whole, Call::Show)),
-        Name::Build => plain(build(words)),
-        Name::Read => reads::read(words, buffer).unwrap_or(plain(None)),
-        Name::Poke => plain(tables::poke(words)),
-        Name::Peek => plain(tables::peek(words)),
+        Name::Set => set(words, buffer),
+        Name::Lend => tables::lend(words),
+        Name::Replace => alone(whole, Call::Replace),
+        Name::Open => alone(whole, Call::Open),
+        Name::Feed => feed(words, buffer),
+        Name::Close => close(words),
+        Name::State => state(words),
+        Name::Take => alone(whole, Call::Take),
+        Name::Show => alone(whole, Call::Show),
+        Name::Build => build(words),
+        Name::Read => reads::read(words, buffer),
+        Name::Poke => tables::poke(words),
+        Name::Peek => tables::peek(words),
     }
 }
 
@@ -142,7 +121,7 @@ fn alone(whole: bool, call: Call) -> Option<Call>
 
 fn set(words: &[u8], buffer: &mut [u8]) -> Option<Call>
     requires { (length words.now ≤ 20000) × (20000 ≤ length buffer.old) }
-    ensures { Filled buffer.new (set_by (set_of words.now)) (made result) }
+    ensures { Says buffer.new (set_by (set_of words.now)) (made result) }
 {
     let n = sets::set_bytes(words, buffer)?;
     Some(Call::Set(n))
@@ -151,9 +130,9 @@ fn set(words: &[u8], buffer: &mut [u8]) -> Option<Call>
 #[tactic(auto, using(crate::specs::Laws::Words::lengths))]
 fn feed(words: &[u8], buffer: &mut [u8]) -> Option<Call>
     requires { (length words.now ≤ 20000) × (20000 ≤ length buffer.old) }
-    ensures { Filled buffer.new (feed_by (number_of 4294967295 (word_of words.now)) (bytes_of (behind·of words.now))) (made result) }
+    ensures { Says buffer.new (feed_by (number_of 4294967295 (word_of words.now)) (bytes_of (behind·of words.now))) (made result) }
 {
-    let serial = number_of(word(words), LARGEST)?;
+    let serial = number_of(word(words), u32::MAX)?;
     let n = bytes_of(behind(words), buffer)?;
     Some(Call::Feed(serial, n))
 }
@@ -161,14 +140,14 @@ fn feed(words: &[u8], buffer: &mut [u8]) -> Option<Call>
 fn close(words: &[u8]) -> Option<Call>
     ensures { Plain (close_by (number_of 4294967295 words.now)) (made result) }
 {
-    let serial = number_of(words, LARGEST)?;
+    let serial = number_of(words, u32::MAX)?;
     Some(Call::Close(serial))
 }
 
 fn state(words: &[u8]) -> Option<Call>
     ensures { Plain (state_by (number_of 4294967295 words.now)) (made result) }
 {
-    let serial = number_of(words, LARGEST)?;
+    let serial = number_of(words, u32::MAX)?;
     Some(Call::State(serial))
 }
 

@@ -2,13 +2,13 @@
 ghost use Rattle.std.specs.Prelude.{◌≡◌, ◌≤◌, length};
 ghost use Rattle.script.specs.Words.{word_of};
 ghost use Rattle.script.specs.Words.{behind as behind·of};
-ghost use Rattle.script.specs.Calls.{SaysIfAny, layout_of, machines_of, place_in, place_of, read_from, read_over, read_on};
+ghost use Rattle.script.specs.Calls.{Says, made, layout_of, machines_of, place_in, place_of, read_from, read_over, read_on};
 
 use crate::bytes::bytes_of;
 use crate::names::layout_of;
 use crate::numbers::number_of;
 use crate::words::{behind, skipped, word};
-use crate::{Call, LARGEST, Layout, Line, ReadCall};
+use crate::{Call, Layout, ReadCall};
 
 // How many numbers a place of a layout has.
 pub fn machines(layout: Layout) -> usize
@@ -37,9 +37,9 @@ fn place_of(words: &[u8], k: usize) -> Option<[u16; 16]>
 }
 
 #[tactic(auto, using(crate::specs::Laws::Words::lengths))]
-pub fn read(words: &[u8], buffer: &mut [u8]) -> Option<Line>
+pub fn read(words: &[u8], buffer: &mut [u8]) -> Option<Call>
     requires { (length words.now ≤ 20000) × (20000 ≤ length buffer.old) }
-    ensures { SaysIfAny buffer.new (read_on (layout_of (word_of words.now)) (behind·of words.now)) result }
+    ensures { Says buffer.new (read_on (layout_of (word_of words.now)) (behind·of words.now)) (made result) }
 {
     let layout = layout_of(word(words))?;
     read_over(layout, behind(words), buffer)
@@ -47,32 +47,29 @@ pub fn read(words: &[u8], buffer: &mut [u8]) -> Option<Line>
 
 // COUNT ROOM PLACE... BYTES
 #[tactic(auto, using(crate::specs::Laws::Words::lengths), unfolding(crate::specs::Calls::read_over))]
-fn read_over(layout: Layout, words: &[u8], buffer: &mut [u8]) -> Option<Line>
+fn read_over(layout: Layout, words: &[u8], buffer: &mut [u8]) -> Option<Call>
     requires { (length words.now ≤ 20000) × (20000 ≤ length buffer.old) }
-    ensures { SaysIfAny buffer.new (read_over layout words.now) result }
+    ensures { Says buffer.new (read_over layout words.now) (made result) }
 {
-    let count = number_of(word(words), LARGEST)?;
+    let count = number_of(word(words), u32::MAX)?;
     let room = number_of(word(behind(words)), 2048)?;
     read_from(layout, count, room, skipped(words, 2), buffer)
 }
 
 // PLACE... BYTES
 #[tactic(auto, using(crate::specs::Laws::Words::lengths), unfolding(crate::specs::Calls::read_from))]
-fn read_from(layout: Layout, count: u32, room: u32, words: &[u8], buffer: &mut [u8]) -> Option<Line>
+fn read_from(layout: Layout, count: u32, room: u32, words: &[u8], buffer: &mut [u8]) -> Option<Call>
     requires { (length words.now ≤ 20000) × (20000 ≤ length buffer.old) × (room ≤ 2048) }
-    ensures { SaysIfAny buffer.new (read_from layout count room words.now) result }
+    ensures { Says buffer.new (read_from layout count room words.now) (made result) }
 {
     let k = machines(layout);
     let place = place_of(words, k)?;
     let piece = bytes_of(skipped(words, k), buffer)?;
-    let reading = ReadCall {
+    Some(Call::Read(ReadCall {
         layout,
         count,
         room: room as usize,
-        piece,
-    };
-    Some(Line {
-        call: Call::Read(reading),
         place,
-    })
+        piece,
+    }))
 }

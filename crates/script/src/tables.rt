@@ -5,7 +5,7 @@ ghost use Rattle.script.specs.Calls.{Plain, made, lend_of, peek_of, poke_of, siz
 
 use crate::numbers::{number_of, numbers_of};
 use crate::words::{behind, reach, word};
-use crate::{Call, LARGEST, Table};
+use crate::{Call, Table};
 
 // The numbers that the program has in a table.
 pub fn size_of(table: Table) -> u32
@@ -51,7 +51,7 @@ pub fn peek(words: &[u8]) -> Option<Call>
     ensures { Plain (peek_of (table_of (behind·of words.now)) words.now) (made result) }
 {
     let table = table_of(behind(words))?;
-    let (at, count) = numbers_of(words, LARGEST, 256)?;
+    let (at, count) = numbers_of(words, u32::MAX, 256)?;
     let from = at as usize;
     let shown = count as usize;
     let size = size_of(table) as usize;

@@ -1,5 +1,5 @@
 -- Laws of calls and of the places of a read.
-use Rattle.std.specs.Prelude.{ℕ, suc, ◌+◌, ◌-◌, ◌≤◌, ◌<◌, ◌≡◌, refl, Bool, true, false, cond, List, [], ◌∷◌, ◌++◌, eqb, length, take, set, get_or, Option, Some, None, unwrap_or, option_map, find, bytes_eq, ◌&&◌}
+use Rattle.std.specs.Prelude.{ℕ, suc, ◌+◌, ◌-◌, ◌≤◌, ◌<◌, ◌≡◌, refl, Bool, true, false, cond, List, [], ◌∷◌, ◌++◌, eqb, length, take, set, get_or, Option, Some, None, option_map, find, bytes_eq, ◌&&◌}
 use Rattle.std.proofs.Common.{arith, add-one, sym, ap, ap₂, subst, ◌∙◌, append_assoc, append-nil, take-suc-set, eq-eqb, ne_eqb, le-leb, lt-ltb, le-ltb}
 use Rattle.std.proofs.Math.Bool.{or-true}
 use Rattle.std.proofs.lemmas.Bool.{lt-leb}
@@ -9,7 +9,7 @@ use Rattle.script.specs.Words.{reach, word_of, behind, skipped}
 use Rattle.script.specs.Bytes.{bytes_of}
 use Rattle.script.specs.Numbers.{number_of, numbers_of}
 use Rattle.script.specs.Calls.{CallOf, passed_over, not_acall, call_peek, peek_by, place_by, place_of, machines_of}
-use Rattle.script.specs.Calls.{place_in, SaysIfAny, read_by, read_from, read_over, call_read, layout_of, meant, Bounded, Plain, Filled, Says, alone, Alone}
+use Rattle.script.specs.Calls.{place_in, read_by, read_from, read_over, call_read, layout_of, meant, Bounded, Plain, Says, alone, Alone}
 use Rattle.script.specs.Calls.{Called, name_of, Row, first_row, call_by, call_of, lend_by, lend_of, peek_of, poke_by, poke_of, size_of, table_by, table_of}
 use Rattle.script.specs.declared.Call.{Call}
 use Rattle.script.specs.declared.Call.TheVariants.{NotACall, PassedOver}
@@ -17,7 +17,6 @@ use Rattle.script.specs.declared.Table.{Table}
 use Rattle.script.specs.declared.Table.TheVariants.{First, Second}
 use Rattle.script.specs.declared.Layout.{Layout}
 use Rattle.script.specs.declared.Layout.TheVariants.{Split, Whole, Bitmap}
-use Rattle.script.specs.declared.Line.{Line}
 use Rattle.script.specs.declared.names.Name.{Name}
 
 -- ---- the numbers of a table
@@ -118,41 +117,34 @@ machines-most Bitmap = omega arith
 
 -- ---- a line's call
 
--- a line without a place says what its call says
-pub says_filled : {bytes : List ℕ} {says : CallOf} {l : Line} {call : Call} → l.call ≡ call → Filled bytes says call → Says bytes says l
-says_filled {bytes} {says} {l} e p = record { means = ap (meant l.place bytes) e ∙ p.means l.place; bounded = subst Bounded (sym e) p.bounded }
+-- a call says what another says that it is
+pub says_filled : {bytes : List ℕ} {says : CallOf} {r call : Call} → r ≡ call → Says bytes says call → Says bytes says r
+says_filled {bytes} {says} e p = subst (Says bytes says) (sym e) p
 
-pub filled_plain : {bytes : List ℕ} {says : CallOf} {call : Call} → Plain says call → Filled bytes says call
-filled_plain {bytes} p = record { means = λ place. p.means place bytes; bounded = p.bounded }
+pub filled_plain : {bytes : List ℕ} {says : CallOf} {call : Call} → Plain says call → Says bytes says call
+filled_plain {bytes} p = record { means = p.means bytes; bounded = p.bounded }
 
-pub says_none : {bytes : List ℕ} {says : CallOf} {l : Line} → l.call ≡ NotACall → says ≡ not_acall → Says bytes says l
-says_none {bytes} {says} {l} e f = record { means = ap (meant l.place bytes) e ∙ sym f; bounded = subst Bounded (sym e) tt }
+pub says_none : {bytes : List ℕ} {says : CallOf} {r : Call} → r ≡ NotACall → says ≡ not_acall → Says bytes says r
+says_none {bytes} e f = record { means = ap (meant bytes) e ∙ sym f; bounded = subst Bounded (sym e) tt }
 
--- and a line that may be none, where it is read as a line that is no call
-pub says_if_any : {bytes : List ℕ} {says : CallOf} {l : Line} (d : Line) (o : Option Line) → SaysIfAny bytes says o → d.call ≡ NotACall → l ≡ unwrap_or o d
-    → Says bytes says l
-says_if_any {bytes} {says} d (Some line) s e f = subst (Says bytes says) (sym f) s
-says_if_any {bytes} {says} {l} d None s e f = subst (Says bytes says) (sym f) (says_none e s)
+pub says_over : {bytes : List ℕ} {says : CallOf} {r : Call} → r ≡ PassedOver → says ≡ passed_over → Says bytes says r
+says_over {bytes} e f = record { means = ap (meant bytes) e ∙ sym f; bounded = subst Bounded (sym e) tt }
 
-pub says_over : {bytes : List ℕ} {says : CallOf} {l : Line} → l.call ≡ PassedOver → says ≡ passed_over → Says bytes says l
-says_over {bytes} {says} {l} e f = record { means = ap (meant l.place bytes) e ∙ sym f; bounded = subst Bounded (sym e) tt }
-
-pub says_as : {bytes : List ℕ} {x y : CallOf} {l : Line} → Says bytes x l → x ≡ y → Says bytes y l
+pub says_as : {bytes : List ℕ} {x y : CallOf} {r : Call} → Says bytes x r → x ≡ y → Says bytes y r
 says_as s e = record { means = s.means ∙ e; bounded = s.bounded }
 
 pub plain_none : Plain not_acall NotACall
-plain_none = record { means = λ place bytes. refl; bounded = tt }
+plain_none = record { means = λ bytes. refl; bounded = tt }
 
 pub plain_alone : {whole : Bool} {says : CallOf} {call r : Call} → Alone whole call r → Plain says call → Plain (alone whole says) r
-plain_alone {whole = true} e p =
-    record { means = λ place bytes. ap (meant place bytes) e.is ∙ p.means place bytes; bounded = subst Bounded (sym e.is) p.bounded }
-plain_alone {whole = false} e p = record { means = λ place bytes. ap (meant place bytes) e.is; bounded = subst Bounded (sym e.is) tt }
+plain_alone {whole = true} e p = record { means = λ bytes. ap (meant bytes) e.is ∙ p.means bytes; bounded = subst Bounded (sym e.is) p.bounded }
+plain_alone {whole = false} e p = record { means = λ bytes. ap (meant bytes) e.is; bounded = subst Bounded (sym e.is) tt }
 
 -- a row of calls: the name is the row's, and the line says what that row means
-pub called : {name k : Name} {whole : Bool} {words bytes : List ℕ} {l : Line} → name ≡ k → Says bytes (call_by (Some k) whole words) l
-    → Called name whole words bytes l
-called {whole = whole} {words = words} {bytes = bytes} {l = l} e s =
-    record { says = subst (λ (n : Name). Says bytes (call_by (Some n) whole words) l) (sym e) s }
+pub called : {name k : Name} {whole : Bool} {words bytes : List ℕ} {r : Call} → name ≡ k → Says bytes (call_by (Some k) whole words) r
+    → Called name whole words bytes r
+called {whole = whole} {words = words} {bytes = bytes} {r = r} e s =
+    record { says = subst (λ (n : Name). Says bytes (call_by (Some n) whole words) r) (sym e) s }
 
 pub call_long : (l : List ℕ) → 20000 < length l → call_of l ≡ not_acall
 unfolding call_of

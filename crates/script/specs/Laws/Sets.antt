@@ -88,8 +88,8 @@ entry_put kind b b₁ b₂ p n h e f =
 
 -- ---- at most 4,096 bytes
 
-pub within-Some : (most : ℕ) (l : List ℕ) → length l ≤ most → within most (Some l) ≡ Some l
-within-Some most l h = rw (le-leb _ _ h) refl
+pub within-these : (most : ℕ) (l : List ℕ) → length l ≤ most → within most (Some l) ≡ Some l
+within-these most l h = rw (le-leb _ _ h) refl
 
 pub within-long : (most : ℕ) (l : List ℕ) → most < length l → within most (Some l) ≡ None
 within-long most l h = rw (lt-leb _ _ h) refl
@@ -131,7 +131,7 @@ entry_fits kind b b₁ b₂ p n h g e f =
     let room : n + 4 + length p ≤ length b = omega arith in
     let first : n ≤ length b = omega arith in
     let short : length (take n b ++ entry_of kind p) ≤ 4096 = rw (length-append, length_entry, length-take-le n b first) (omega arith) in
-    ap Some (entry_put kind b b₁ b₂ p n room e f) ∙ sym (within-Some 4096 (take n b ++ entry_of kind p) short)
+    ap Some (entry_put kind b b₁ b₂ p n room e f) ∙ sym (within-these 4096 (take n b ++ entry_of kind p) short)
 
 -- ---- a whole set
 
@@ -155,7 +155,7 @@ pub set-many : (w b : List ℕ) (n : ℕ) → set_of w ≡ within 4096 (bytes_of
 set-many w b n q e m h = q ∙ ap (within 4096) e ∙ within-long 4096 (take n b) (rw (length-take-le n b m) h)
 
 pub set-few : (w b : List ℕ) (n : ℕ) → set_of w ≡ within 4096 (bytes_of w) → bytes_of w ≡ Some (take n b) → n ≤ length b → n ≤ 4096 → set_of w ≡ Some (take n b)
-set-few w b n q e m h = q ∙ ap (within 4096) e ∙ within-Some 4096 (take n b) (rw (length-take-le n b m) h)
+set-few w b n q e m h = q ∙ ap (within 4096) e ∙ within-these 4096 (take n b) (rw (length-take-le n b m) h)
 
 -- ---- the words are read quotation by quotation
 
