@@ -116,7 +116,7 @@ fn by_name(name: Name, whole: bool, words: &[u8], buffer: &mut [u8]) -> Option<C
 fn alone(whole: bool, call: Call) -> Option<Call>
     ensures { Alone whole call (made result) }
 {
-    if whole { Some(call) } else { None }
+    whole.then_some(call)
 }
 
 fn set(words: &[u8], buffer: &mut [u8]) -> Option<Call>

@@ -14,13 +14,9 @@ fn keep(line: &mut [u8], n: usize, more: &[u8]) -> usize
     ensures line_after { take result line.new ≡ take (length line.old) (take n line.old ++ more.now) }
     ensures upper_bound { result ≤ length line.old }
 {
-    let room = line.len() - n;
-    if room < more.len() {
-        put(line, n, &more[0..room]);
-        return n + room;
-    }
-    put(line, n, more);
-    n + more.len()
+    let fits = more.len().min(line.len() - n);
+    put(line, n, &more[0..fits]);
+    n + fits
 }
 
 // What a piece of the script adds to the line at hand: how many of its bytes are kept, how many of the piece are passed, and whether the line has ended.
@@ -42,16 +38,10 @@ pub fn line_part(line: &mut [u8], n: usize, piece: &[u8]) -> Part
 {
     let end = reach(piece, b'\n');
     let kept = keep(line, n, &piece[0..end]);
-    if end < piece.len() {
-        return Part {
-            kept,
-            passed: end + 1,
-            ended: true,
-        };
-    }
+    let ended = end < piece.len();
     Part {
         kept,
-        passed: end,
-        ended: false,
+        passed: end + usize::from(ended),
+        ended,
     }
 }

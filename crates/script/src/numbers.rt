@@ -12,7 +12,7 @@ pub fn digit(b: u8) -> Option<u8>
 {
     match b {
         b'0'..=b'9' => Some(b - b'0'),
-        b'a'..=b'f' => Some(b - 87),
+        b'a'..=b'f' => Some(b - b'a' + 10),
         _ => None,
     }
 }
