@@ -123,8 +123,8 @@ pub fn on_split(
     ensures { Walked result list.old list.new
         (read_in split_layout (first.now ∷ second.now ∷ []) start count (length list.old / 2) piece.now) }
 {
+    let mut hits: [u16; 256] = [0; 256];
     let mut starts: [usize; 256] = [0; 256];
     let tables = tables_at(first, second, slots, start, &mut starts);
-    let mut hits: [u16; 256] = [0; 256];
     on_blocks(&tables, start, count, piece, list, &mut hits)
 }
