@@ -12,7 +12,8 @@ use matching::slots;
 use passing::places::all_below;
 use passing::steps::Machines;
 
-// The slots of the two tables, by their lengths.
+// The slots of the two tables, by their lengths. The desk has this line too (desk/src/layout.rt): it stands on `reading`, and not on what
+// that is made of.
 pub fn slots_of(first: usize, second: usize) -> [usize; 2]
     ensures { result ≡ slots_over split_layout (first ∷ second ∷ []) }
 {

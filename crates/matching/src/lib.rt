@@ -16,7 +16,8 @@ pub enum Stop {
 // The slots of a machine, at most: `most_slots` in specs/Limits.antt.
 pub const MOST_SLOTS: usize = 513;
 
-// How many letters a machine of so many bits has.
+// How many letters a machine of so many bits has. Here and below bits are an argument and no const parameter: `tables` builds whichever
+// parts a layout has.
 pub fn letters(bits: usize) -> usize
     requires { bits ≤ 8 }
     ensures { result ≡ 2 ^ bits }
