@@ -3,7 +3,7 @@
 
 ghost use Rattle.std.specs.Prelude.{◌≡◌, ◌+◌, ◌<◌, ◌≤◌, length};
 ghost use Rattle.matching.specs.Laws.Dealt.{dealt};
-ghost use Rattle.choosing.specs.Choosing.{Choosing, ChosenOf, PlacesFit, with_place};
+ghost use Rattle.choosing.specs.Choosing.{ChosenOf, PlacesFit};
 ghost use Rattle.choosing.specs.Dealing.{DealtOut, Small, dealt_next, is_of};
 
 use tagset::Places;
@@ -16,35 +16,20 @@ pub struct Chosen {
     pub to: [usize; 16],
 }
 
-// One place behind those that are chosen.
-fn with_place(own: Chosen, a: usize, e: usize) -> Chosen
-    requires { own.count < 16 }
-    ensures { result ≡ with_place own a e }
-{
-    let n = own.count;
-    let mut from = own.from;
-    let mut to = own.to;
-    from[n] = a;
-    to[n] = e;
-    Chosen {
-        count: n + 1,
-        from,
-        to,
-    }
-}
+impl Chosen {
+    ghost use Rattle.std.specs.Prelude.{◌≡◌, ◌<◌, length};
+    ghost use Rattle.choosing.specs.Choosing.{RoomForAll, with_place};
 
-// The chosen of the first i + 1 tags, from those of the first i.
-fn chosen_next(own: Chosen, tags: Places, kind: usize, i: usize) -> Chosen
-    requires { (PlacesFit tags) × (i < tags.count) × (Choosing kind tags i own) }
-    ensures { Choosing kind tags (i + 1) result }
-{
-    let kinds = tags.kinds;
-    if kinds[i] != kind {
-        return own;
+    // One place behind those that are chosen.
+    fn push(&mut self, a: usize, e: usize)
+        requires { (self.old.count < 16) × RoomForAll self.old }
+        ensures { self.new ≡ with_place self.old a e }
+    {
+        let n = self.count;
+        self.from[n] = a;
+        self.to[n] = e;
+        self.count = n + 1;
     }
-    let from = tags.from;
-    let to = tags.to;
-    with_place(own, from[i], to[i])
 }
 
 // The places of the tags of one kind.
@@ -57,34 +42,20 @@ pub fn choose(tags: Places, kind: usize) -> Chosen
         from: [0; 16],
         to: [0; 16],
     };
-    let count = tags.count;
-    let mut i = 0;
-    while i < count {
-        own = chosen_next(own, tags, kind, i);
-        i += 1;
+    for i in 0..tags.count {
+        if tags.kinds[i] == kind {
+            own.push(tags.from[i], tags.to[i]);
+        }
     }
     own
 }
 
 // A vector on its way: the bits that are left, the value of the next tag's bit, and what is dealt.
-#[derive(Drop)]
+#[derive(Clone, Copy)]
 struct Dealing {
     left: usize,
     value: usize,
     out: usize,
-}
-
-fn wide(x: u16) -> usize
-    ensures { result ≡ x }
-{
-    x as usize
-}
-
-fn narrow(x: usize) -> u16
-    requires { x < 65536 }
-    ensures { result ≡ x }
-{
-    x as u16
 }
 
 // The next tag gets the lowest bit that is left, if it is of the kind.
@@ -100,11 +71,7 @@ fn deal_next(d: Dealing, own: bool) -> Dealing
             out: d.out + d.value * (d.left % 2),
         };
     }
-    Dealing {
-        left: d.left,
-        value,
-        out: d.out,
-    }
+    Dealing { value, ..d }
 }
 
 // A vector over the tags of one kind, its bits given to the numbers that they have among all tags.
@@ -113,19 +80,17 @@ fn deal(v: u16, kinds: &[usize], kind: usize) -> u16
     ensures { result ≡ dealt (is_of kind) kinds.now v }
 {
     let mut d = Dealing {
-        left: wide(v),
+        left: usize::from(v),
         value: 1,
         out: 0,
     };
-    let mut i = 0;
-    while i < kinds.len() {
+    for own in kinds {
         if d.left == 0 {
-            return narrow(d.out);
+            return d.out as u16;
         }
-        d = deal_next(d, kinds[i] == kind);
-        i += 1;
+        d = deal_next(d, *own == kind);
     }
-    narrow(d.out)
+    d.out as u16
 }
 
 // The vector of every slot, where a slot has a next for each letter and its vector behind them.
@@ -133,10 +98,7 @@ pub fn deal_out(kinds: &[usize], kind: usize, letters: usize, slots: &mut [u16])
     requires { (length kinds.now ≤ 16) × (letters ≤ 256) }
     ensures { DealtOut (dealt (is_of kind) kinds.now) letters slots.old slots.new }
 {
-    let size = letters + 1;
-    let mut i = letters;
-    while i < slots.len() {
+    for i in (letters..slots.len()).step_by(letters + 1) {
         slots[i] = deal(slots[i], kinds, kind);
-        i += size;
     }
 }

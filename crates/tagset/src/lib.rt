@@ -10,10 +10,12 @@ ghost use Rattle.tagset.specs.Grammar.{among_tags, entry_of, entries_from, bad_s
 ghost use Rattle.tagset.specs.Answer.{placed, set_read, verdict_of, cut_at, tags_in};
 ghost use Rattle.tagset.specs.Lying.{Cut, Lying};
 
+use distinct::ReadTags;
 use kinds::folding::fold_all;
 use kinds::{FOLDED, Takes, row_of, rows_taken, wrong_length};
 pub use letters::Words;
 
+mod distinct;
 mod letters;
 
 // The tags of a set, at most: `most_tags` in matching's specs/Limits.antt.
@@ -30,7 +32,8 @@ pub enum SetFault {
     Repeat(usize),
 }
 
-// Where each tag lies in the bytes of its set: tag i from from[i] up to to[i]; and its kind. Past the count all are 0.
+// Where each tag lies in the bytes of its set: tag i from from[i] up to to[i]; and its kind. Past the count all are 0. The three arrays stay apart since
+// `tag_bytes` and `choosing::deal_out` (docs/PROMISES.md) are lent one of them each, as a slice of numbers.
 #[derive(Clone, Copy)]
 pub struct Places {
     pub count: usize,
@@ -147,73 +150,7 @@ pub fn read_as<'a>(kind: usize, set: &'a [u8], folded: &'a [u8]) -> &'a [u8]
     set
 }
 
-// Whether tag i is of a kind, and has the same bytes as some that are read by it.
-fn equals<'a>(
-    tag: &[u8],
-    kind: usize,
-    set: &'a [u8],
-    folded: &'a [u8],
-    from: &[usize],
-    to: &[usize],
-    kinds: &[usize],
-    i: usize,
-) -> bool
-    requires lying { Lying set.now folded.now from.now to.now kinds.now }
-    requires i_in_bounds { let tags = tags_in set.now from.now to.now kinds.now in i < length tags }
-    ensures { let tags = tags_in set.now from.now to.now kinds.now in result ≡ (eqb (get_or tags i no_tag).kind kind && same tag.now (word_as kind (get_or tags i no_tag).word)) }
-{
-    if kinds[i] != kind {
-        return false;
-    }
-    let bytes = read_as(kind, set, folded);
-    let earlier = tag_bytes(bytes, from, to, i);
-    tag == earlier
-}
-
-// Whether tag t equals an earlier one.
-fn repeats<'a>(
-    set: &'a [u8],
-    folded: &'a [u8],
-    from: &[usize],
-    to: &[usize],
-    kinds: &[usize],
-    t: usize,
-) -> bool
-    requires lying { Lying set.now folded.now from.now to.now kinds.now }
-    requires t_in_bounds { let tags = tags_in set.now from.now to.now kinds.now in t < length tags }
-    ensures { let tags = tags_in set.now from.now to.now kinds.now in result ≡ among_tags (get_or tags t no_tag) (take t tags) }
-{
-    let kind = kinds[t];
-    let bytes = read_as(kind, set, folded);
-    let tag = tag_bytes(bytes, from, to, t);
-    for i in 0..t {
-        if equals(tag, kind, set, folded, from, to, kinds, i) {
-            return true;
-        }
-    }
-    false
-}
-
-// Bad if a tag equals an earlier one: the lowest-numbered.
-fn distinct_in<'a>(
-    set: &'a [u8],
-    folded: &'a [u8],
-    from: &[usize],
-    to: &[usize],
-    kinds: &[usize],
-) -> Result<(), SetFault>
-    requires { Lying set.now folded.now from.now to.now kinds.now }
-    ensures { let tags = tags_in set.now from.now to.now kinds.now in result ≡ verdict_of (distinct [] 0 tags) }
-{
-    for t in 0..from.len() {
-        if repeats(set, folded, from, to, kinds, t) {
-            return Err(SetFault::Repeat(t));
-        }
-    }
-    Ok(())
-}
-
-// The same, with the set folded for the tags that are compared so.
+// Whether the tags are distinct, with the set folded for those that are compared so: the fault is the lowest-numbered that equals an earlier one.
 fn distinct_tags(set: &[u8], from: &[usize], to: &[usize], kinds: &[usize]) -> Result<(), SetFault>
     requires { Cut set.now from.now to.now kinds.now }
     ensures { let tags = tags_in set.now from.now to.now kinds.now in result ≡ verdict_of (distinct [] 0 tags) }
@@ -221,7 +158,14 @@ fn distinct_tags(set: &[u8], from: &[usize], to: &[usize], kinds: &[usize]) -> R
     let mut folded = [0u8; 576];
     fold_all(set, &mut folded);
     let n = set.len();
-    distinct_in(set, &folded[..n], from, to, kinds)
+    let tags = ReadTags {
+        set,
+        folded: &folded[..n],
+        from,
+        to,
+        kinds,
+    };
+    tags.distinct()
 }
 
 // A set of bytes as docs/RULES.md, 1, has it, from the left, where tags of some kinds are taken.

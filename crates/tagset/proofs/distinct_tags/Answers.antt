@@ -2,6 +2,6 @@
 use Rattle.kinds.specs.Laws.Folding.{folded_front}
 use Rattle.tagset.proofs.distinct_tags.Goals as goal
 
-pub distinct_in-requires : goal.distinct_in-requires
-distinct_in-requires c =
-    record { cut = c.requires; folds = folded_front c.args.set.now c.fold_all.new.out _ c.fold_all.ensures }
+pub invariant_of-tags : goal.invariant_of-tags
+invariant_of-tags c =
+    record { lying = record { cut = c.requires; folds = folded_front c.args.set.now c.fold_all.new.out _ c.fold_all.ensures } }

@@ -1,16 +1,16 @@
--- `tagset::distinct_in` meets its contract. No tag before `t` repeats: the test goes on with the tags that are left.
+-- `tagset::distinct::ReadTags::distinct` meets its contract. No tag before `t` repeats: the test goes on with the tags that are left.
 use mathlib.Core.Path.{◌∙◌, ap, refl, sym}
 use native.Mathlib.Numerals.{add-one}
 use native.Mathlib.Omega.{arith}
 use Rattle.tagset.proofs.Parts.{tags-long}
 use Rattle.tagset.specs.Answer.{verdict_of}
 use Rattle.tagset.specs.Laws.Distinct.{distinct-end, distinct_hit, distinct_miss}
-use Rattle.tagset.proofs.distinct_in.Goals as goal
+use Rattle.tagset.proofs.distinct.ReadTags.distinct.Goals as goal
 
 pub loop-t-init : goal.loop-t-init
 loop-t-init c =
     let a = c.args in
-    (omega arith, tags-long a.set.now a.from.now a.to.now a.kinds.now c.requires.cut, refl)
+    (omega arith, tags-long a.self.now.set.now a.self.now.from.now a.self.now.to.now a.self.now.kinds.now a.self.now.lying.cut, refl)
 
 pub returns-then-repeats : goal.returns-then-repeats
 returns-then-repeats c =

@@ -1,6 +1,0 @@
--- `tagset::repeats` meets its contract. The tag is among the earlier ones exactly if it is among those not compared yet.
-use Rattle.tagset.proofs.Parts.{Comparing}
-use Rattle.tagset.proofs.repeats.Given as goal
-
-abbrev pub invariant-loop-i : goal.invariant-loop-i
-invariant-loop-i l = Comparing l.set l.from l.to l.kinds l.t l.kind l.tag l.i
