@@ -2,6 +2,7 @@
 pub mod Building
 pub mod Refusals
 pub mod AsRules
+pub mod Sliced
 pub mod Shape
 pub mod Props
 pub mod Laws

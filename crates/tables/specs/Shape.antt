@@ -32,6 +32,10 @@ pub record Shaped (part : Part) : Type 0 where
   pub mask : part.mask + 1 ≡ part.letters
   pub named : part.name < 256
 
+-- as every part is
+pub shape : (part : Part) → Shaped part
+shape part = record { slicing = part.sliced.slicing; letters = part.sliced.letters_are; mask = part.sliced.mask_is; named = part.sliced.named }
+
 -- ---- tags
 
 -- a set folded, at the front of an array

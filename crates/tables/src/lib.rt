@@ -4,6 +4,7 @@
 ghost use Rattle.std.specs.Prelude.{◌≡◌, cond, [], ◌∷◌, length};
 ghost use Rattle.matching.specs.Parts.{split_layout, whole_layout};
 ghost use Rattle.tables.specs.Building.{built_of, needed_of, tables_of};
+ghost use Rattle.tables.specs.Sliced.{Sliced};
 ghost use Rattle.tables.specs.declared.BuildFault.TheVariants.{Set};
 
 use good_set::GoodSet;
@@ -46,6 +47,7 @@ struct Part {
     name: usize,
     letters: usize,
     mask: u8,
+    ghost sliced: { Sliced bits machines name letters mask },
 }
 
 // The split layout has two parts, each with a machine for each bit of a byte.

@@ -9,7 +9,7 @@ ghost use Rattle.choosing.specs.Choosing.{ChosenOf, lying_in, own_words};
 ghost use Rattle.tables.specs.Building.{most_states, part_needs};
 ghost use Rattle.machines.specs.Rows.{Filled};
 ghost use Rattle.tables.specs.Props.{tagged_prop};
-ghost use Rattle.tables.specs.Shape.{Marked, Shaped, Tagged, as_part, judged_by, mark_by};
+ghost use Rattle.tables.specs.Shape.{Marked, Tagged, as_part, judged_by, mark_by};
 
 use super::{BuildFault, Part};
 use crate::good_set::GoodSet;
@@ -24,13 +24,11 @@ struct Machines<'a> {
     part: Part,
     bytes: &'a [u8],
     own: Chosen,
-    ghost shaped: { Shaped part },
     ghost tagged: { Tagged bytes.now own (own_words bytes.now own) } by { tagged_prop bytes.now own (own_words bytes.now own) },
 }
 
 impl<'a> Machines<'a> {
     fn of(good: &'a GoodSet, part: Part) -> Machines<'a>
-        requires { Shaped part }
         ensures { (result.part ≡ part) × (result.bytes.now ≡ word_as part.kind good.now.bytes.now) × ChosenOf part.kind good.now.places result.own }
     {
         Machines {
@@ -141,7 +139,6 @@ impl<'a> Machines<'a> {
 
 // Whether a run of so many numbers has slots enough for a part, or the lowest machine that is short of them. Nothing is written.
 pub fn judge_part(good: &GoodSet, part: Part, len: usize) -> Result<(), BuildFault>
-    requires { Shaped part }
     ensures { let tags = lying_in good.now.bytes.now good.now.places in result ≡ judged_by (part_room (as_part part) tags (part_slots (as_part part) len)) }
 {
     Machines::of(good, part).judge(slots(len, part.bits, part.machines))
@@ -149,7 +146,6 @@ pub fn judge_part(good: &GoodSet, part: Part, len: usize) -> Result<(), BuildFau
 
 // The slots that a part needs for the tags.
 pub fn part_needs(good: &GoodSet, part: Part) -> usize
-    requires { Shaped part }
     ensures { result ≡ part_needs (as_part part) (lying_in good.now.bytes.now good.now.places) }
 {
     Machines::of(good, part).most_states()
@@ -157,8 +153,7 @@ pub fn part_needs(good: &GoodSet, part: Part) -> usize
 
 // The machines of a part, at the front of its run.
 pub fn fill_part(good: &GoodSet, part: Part, table: &mut [u16])
-    requires { let tags = lying_in good.now.bytes.now good.now.places in (Shaped part)
-        × (EnoughFor (as_part part) tags (part_slots (as_part part) (length table.old))) }
+    requires { let tags = lying_in good.now.bytes.now good.now.places in EnoughFor (as_part part) tags (part_slots (as_part part) (length table.old)) }
     ensures { let tags = lying_in good.now.bytes.now good.now.places in table.new ≡ part_table (as_part part) tags table.old }
 {
     let s = slots(table.len(), part.bits, part.machines);

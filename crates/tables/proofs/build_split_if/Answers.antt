@@ -1,7 +1,6 @@
 -- `tables::build_split_if` meets its contract. By the set's fault, then part by part, and then its tags.
 use Prim.Native.Nat.{ℕ}
 use mathlib.Core.List.{[], ◌∷◌}
-use borrow.Author.Rules.{rules}
 use lib.ListN.{length}
 use Rattle.std.proofs.Common.{◌∙◌, ◌≡◌, Ok, refl}
 use Rattle.std.proofs.lemmas.Result.{err_from_is_err_and}
@@ -52,19 +51,15 @@ returns-in_err-judge_part-2 c =
 
 pub fill_part-requires : goal.fill_part-requires
 fill_part-requires c =
-    let a = c.args in (
-      search rules,
-      (room-enough split_layout a.set.now (split-taken _ c.in_ok-good.ensures.1) (a.first.now ∷ a.second.now ∷ [])
-          (both _ _ _ c.in_ok-judge_part.ensures c.in_ok-judge_part-2.ensures)).0,
-    )
+    let a = c.args in
+    (room-enough split_layout a.set.now (split-taken _ c.in_ok-good.ensures.1) (a.first.now ∷ a.second.now ∷ [])
+    (both _ _ _ c.in_ok-judge_part.ensures c.in_ok-judge_part-2.ensures)).0
 
 pub fill_part-requires-then-write : goal.fill_part-requires-then-write
 fill_part-requires-then-write c =
-    let a = c.args in (
-      search rules,
-      (room-enough split_layout a.set.now (split-taken _ c.in_ok-good.ensures.1) (a.first.now ∷ a.second.now ∷ [])
-          (both _ _ _ c.in_ok-judge_part.ensures c.in_ok-judge_part-2.ensures)).1.0,
-    )
+    let a = c.args in
+    (room-enough split_layout a.set.now (split-taken _ c.in_ok-good.ensures.1) (a.first.now ∷ a.second.now ∷ [])
+    (both _ _ _ c.in_ok-judge_part.ensures c.in_ok-judge_part-2.ensures)).1.0
 
 pub returns-then-write : goal.returns-then-write
 returns-then-write c =

@@ -1,7 +1,6 @@
 -- `tables::build_whole` meets its contract. By the set's fault, then its one part, and then its tags.
 use mathlib.Core.Bool.{true}
 use mathlib.Core.List.{[], ◌∷◌}
-use borrow.Author.Rules.{rules}
 use lib.ListN.{length}
 use Rattle.std.proofs.Common.{◌∙◌}
 use Rattle.std.proofs.lemmas.Result.{err_from_is_err_and}
@@ -30,11 +29,9 @@ returns-in_err-judge_part c =
     record { answer = rw (is, same) r.answer; left = r.left }
 
 pub fill_part-requires : goal.fill_part-requires
-fill_part-requires c = (
-  search rules,
-  (room-enough whole_layout c.args.set.now (whole_taken _ c.in_ok-good.ensures.1) (c.args.table.now ∷ [])
-      (c.in_ok-judge_part.ensures ∙ alone _ only_part (length c.args.table.now))).0,
-)
+fill_part-requires c =
+    (room-enough whole_layout c.args.set.now (whole_taken _ c.in_ok-good.ensures.1) (c.args.table.now ∷ [])
+    (c.in_ok-judge_part.ensures ∙ alone _ only_part (length c.args.table.now))).0
 
 pub returns : goal.returns
 returns c =

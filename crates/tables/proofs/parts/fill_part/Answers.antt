@@ -3,6 +3,7 @@ use native.Mathlib.Omega.{arith}
 use lib.ListN.{length}
 use Rattle.tables.proofs.OnePart.{kinds-many, part-enough, part_left}
 use Rattle.tables.proofs.Seen.{slots-room}
+use Rattle.tables.specs.Shape.{shape}
 use Rattle.tables.proofs.parts.fill_part.Goals as goal
 
 pub fill-requires : goal.fill-requires
@@ -12,8 +13,8 @@ fill-requires c =
     let held = a.good.now.held in
     rw is (
       omega (arith, kinds-many held, held.fit.few),
-      slots-room c.requires.0 (length a.table.now) _ c.slots-s.ensures,
-      part-enough a.part held _ chosen _ reads a.table.now _ c.slots-s.ensures c.requires.1,
+      slots-room (shape a.part) (length a.table.now) _ c.slots-s.ensures,
+      part-enough a.part held _ chosen _ reads a.table.now _ c.slots-s.ensures c.requires,
     )
 
 pub returns : goal.returns

@@ -2,10 +2,11 @@
 use Rattle.choosing.specs.Choosing.{own_words}
 use Rattle.tables.proofs.Machines.{filled_marked}
 use Rattle.tables.proofs.Seen.{letters-few}
+use Rattle.tables.specs.Shape.{shape}
 use Rattle.tables.proofs.parts.Machines.fill_machine.Goals as goal
 
 pub deal_out-requires : goal.deal_out-requires
-deal_out-requires c = (c.requires.1, letters-few c.args.self.now.shaped)
+deal_out-requires c = (c.requires.1, letters-few (shape c.args.self.now.part))
 
 pub returns : goal.returns
 returns c =

@@ -4,4 +4,4 @@ use Rattle.tables.proofs.parts.Machines.of.Goals as goal
 
 pub invariant_of-result : goal.invariant_of-result
 invariant_of-result c =
-    record { shaped = c.requires; tagged = own_tagged c.args.good.now.held c.args.part.kind _ c.choose.ensures _ c.read_as.ensures }
+    record { tagged = own_tagged c.args.good.now.held c.args.part.kind _ c.choose.ensures _ c.read_as.ensures }
