@@ -19,7 +19,7 @@ use Rattle.script.specs.declared.Table.{Table}
 use Rattle.script.specs.declared.Table.TheVariants.{First, Second}
 use Rattle.script.specs.declared.Layout.{Layout}
 use Rattle.script.specs.declared.Layout.TheVariants.{Split, Whole, Bitmap}
-use Rattle.calling.specs.declared.State.{State}
+use Rattle.calling.specs.declared.state.State.{State}
 use Rattle.bitmap_tables.specs.Building.{map_built_of, map_table_of}
 use Rattle.matching.specs.Parts.{first_run, split_layout, whole_layout}
 use Rattle.tables.specs.Building.{built_of, tables_of}
@@ -167,13 +167,12 @@ call_on h n (call_read layout count room place piece) = answered h (read_text (l
 call_on h n (call_poke at value t) = poke_on h at value t
 call_on h n (call_peek at count t) = answered h (numbers_line (take count (drop at (table_at h.tables t))))
 
--- what the state and its buffers hold
-abbrev pub held_by : State → List ℕ → Lent → Held
-held_by s bytes tables = record { desk = s.desk; bytes = take s.held bytes; tables = tables; lent = sizes s.first s.second }
+-- what the state holds, over any buffers and over its own
+abbrev pub held_with : State → List ℕ → Lent → Held
+held_with s bytes tables = record { desk = s.desk; bytes = take s.held bytes; tables = tables; lent = sizes s.first_lent s.second_lent }
 
--- the set and the lent parts are within their buffers
-abbrev pub Within : State → Type 0
-Within s = (s.held ≤ 4096) × (s.first ≤ 131841) × (s.second ≤ 16384)
+abbrev pub held_by : State → Held
+held_by s = held_with s s.set (lent s.first s.second)
 
 -- a call was made as it is defined: what is held after it, and what was put for it
 pub record Did (said : Answered) (before : Buffer) (holds : Held) (after : Buffer) : Type 0 where

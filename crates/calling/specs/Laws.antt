@@ -16,9 +16,9 @@ use Rattle.script.specs.declared.Call.{Call}
 use Rattle.script.specs.declared.Layout.{Layout}
 use Rattle.script.specs.declared.Table.{Table}
 use Rattle.script.specs.declared.Table.TheVariants.{First, Second}
-use Rattle.calling.specs.Calls.{Held, answered, build_on, built_by, Did, feed_on, front_of, held_by, lend_at, lend_on, poke_on, put_at, replace_on, sevens, table_at}
+use Rattle.calling.specs.Calls.{Held, answered, build_on, built_by, Did, feed_on, front_of, held_with, lend_at, lend_on, poke_on, put_at, replace_on, sevens, table_at}
 use Rattle.calling.specs.Calls.{tables_by, with_desk}
-use Rattle.calling.specs.declared.State.{State}
+use Rattle.calling.specs.declared.state.State.{State}
 use Rattle.tables.specs.Building.{Built}
 use Rattle.output.specs.Buffer.{Puts}
 use Rattle.output.specs.declared.Buffer.{Buffer}
@@ -48,11 +48,11 @@ front-off z l = ap₂ (λ (m n : ℕ). lent (take m l.first) (take n l.second)) 
 
 pub did_set : (s : State) (bytes buffer after : List ℕ) (tables : Lent) {b a : Buffer} (text : List ℕ) → after ≡ paste buffer 0 bytes (length bytes)
     → Puts b text a
-    → Did (answered (record { desk = s.desk; bytes = bytes; tables = tables; lent = sizes s.first s.second }) text) b
-    (record { desk = s.desk; bytes = take (length bytes) after; tables = tables; lent = sizes s.first s.second }) a
+    → Did (answered (record { desk = s.desk; bytes = bytes; tables = tables; lent = sizes s.first_lent s.second_lent }) text) b
+    (record { desk = s.desk; bytes = take (length bytes) after; tables = tables; lent = sizes s.first_lent s.second_lent }) a
 did_set s bytes buffer after tables text e p = record {
   same =
-      ap (λ (l : List ℕ). record { desk = s.desk; bytes = l; tables = tables; lent = sizes s.first s.second })
+      ap (λ (l : List ℕ). record { desk = s.desk; bytes = l; tables = tables; lent = sizes s.first_lent s.second_lent })
       (ap (take (length bytes)) e ∙ front-put buffer bytes (length bytes) refl);
   puts = p;
 }
@@ -64,27 +64,27 @@ held_after s d bytes tables run m n =
       desk = d;
       bytes = take s.held bytes;
       tables = lent (run.first ++ drop m tables.first) (run.second ++ drop n tables.second);
-      lent = sizes s.first s.second;
+      lent = sizes s.first_lent s.second_lent;
     }
 
 module _ (s : State) (bytes : List ℕ) (tables run : Lent) where
   abbrev lents : Sizes
-  lents = sizes s.first s.second
+  lents = sizes s.first_lent s.second_lent
 
   abbrev cut : Lent
-  cut = lent (take (s.first - 0) tables.first) (take (s.second - 0) tables.second)
+  cut = lent (take (s.first_lent - 0) tables.first) (take (s.second_lent - 0) tables.second)
 
   -- as the code cuts them, and as they are meant
   held-off : (d : Desk) (left : Lent) → run ≡ left
-      → held_after s d bytes tables run (s.first - 0) (s.second - 0) ≡ held_after s d bytes tables left s.first s.second
+      → held_after s d bytes tables run (s.first_lent - 0) (s.second_lent - 0) ≡ held_after s d bytes tables left s.first_lent s.second_lent
   held-off d left e =
-      ap (λ (l : Lent). held_after s d bytes tables l (s.first - 0) (s.second - 0)) e
-      ∙ ap₂ (held_after s d bytes tables left) (off s.first) (off s.second)
+      ap (λ (l : Lent). held_after s d bytes tables l (s.first_lent - 0) (s.second_lent - 0)) e
+      ∙ ap₂ (held_after s d bytes tables left) (off s.first_lent) (off s.second_lent)
 
   pub did_replace : (r : Replacing) {b a : Buffer} → r ≡ replace_of s.desk (by_set (take (s.held - 0) bytes)) (sizes_of cut)
       → run ≡ replaced_run s.desk (by_set (take (s.held - 0) bytes)) cut
       → Puts b (replace_line r.answer) a
-      → Did (replace_on (held_by s bytes tables)) b (held_after s r.desk bytes tables run (s.first - 0) (s.second - 0)) a
+      → Did (replace_on (held_with s bytes tables)) b (held_after s r.desk bytes tables run (s.first_lent - 0) (s.second_lent - 0)) a
   did_replace r e f p =
       let set : take (s.held - 0) bytes ≡ take s.held bytes = ap (λ (n : ℕ). take n bytes) (off s.held) in
       let front = front-off lents tables in
@@ -95,14 +95,14 @@ module _ (s : State) (bytes : List ℕ) (tables run : Lent) where
       record {
         same = held-off r.desk _ left
             ∙ ap (λ (x : Replacing). held_after s x.desk bytes tables (replaced_run s.desk (by_set (take s.held bytes)) (front_of lents tables))
-            s.first s.second) is;
+            s.first_lent s.second_lent) is;
         puts = said (ap (λ (x : Replacing). replace_line x.answer) is) p;
       }
 
   pub did_build : (layout : Layout) (x : Built) {b a : Buffer} → x ≡ built_by layout (take (s.held - 0) bytes) (sizes_of cut)
       → run ≡ tables_by layout (take (s.held - 0) bytes) cut
       → Puts b (built_line x) a
-      → Did (build_on (held_by s bytes tables) layout) b (held_after s s.desk bytes tables run (s.first - 0) (s.second - 0)) a
+      → Did (build_on (held_with s bytes tables) layout) b (held_after s s.desk bytes tables run (s.first_lent - 0) (s.second_lent - 0)) a
   did_build layout x e f p =
       let set : take (s.held - 0) bytes ≡ take s.held bytes = ap (λ (n : ℕ). take n bytes) (off s.held) in
       let front = front-off lents tables in
@@ -113,13 +113,13 @@ module _ (s : State) (bytes : List ℕ) (tables run : Lent) where
       record { same = held-off s.desk _ left; puts = said (ap built_line is) p }
 
 pub did_feed : (s : State) (serial : ℕ) (bytes : List ℕ) (tables : Lent) (piece : List ℕ) (r : Feeding) {b a : Buffer}
-    → r ≡ feed_of s.desk (serial_of serial) (lent (take (s.first - 0) tables.first) (take (s.second - 0) tables.second)) piece
+    → r ≡ feed_of s.desk (serial_of serial) (lent (take (s.first_lent - 0) tables.first) (take (s.second_lent - 0) tables.second)) piece
     → Puts b (feed_line r.answer) a
-    → Did (feed_on (held_by s bytes tables) serial piece) b (with_desk (held_by s bytes tables) r.desk) a
+    → Did (feed_on (held_with s bytes tables) serial piece) b (with_desk (held_with s bytes tables) r.desk) a
 did_feed s serial bytes tables piece r e p =
-    let is : r ≡ feed_of s.desk (serial_of serial) (front_of (sizes s.first s.second) tables) piece =
-    e ∙ ap (λ (l : Lent). feed_of s.desk (serial_of serial) l piece) (front-off (sizes s.first s.second) tables) in
-    did_desk (held_by s bytes tables) (ap (λ (x : Feeding). x.desk) is) (ap (λ (x : Feeding). feed_line x.answer) is) p
+    let is : r ≡ feed_of s.desk (serial_of serial) (front_of (sizes s.first_lent s.second_lent) tables) piece =
+    e ∙ ap (λ (l : Lent). feed_of s.desk (serial_of serial) l piece) (front-off (sizes s.first_lent s.second_lent) tables) in
+    did_desk (held_with s bytes tables) (ap (λ (x : Feeding). x.desk) is) (ap (λ (x : Feeding). feed_line x.answer) is) p
 
 -- ---- the numbers of a table, by which it is
 
@@ -153,9 +153,9 @@ pub numbers_said : (l : List ℕ) (at count : ℕ) (table : List ℕ) {b a : Buf
 numbers_said l at count table e p =
     said (ap₂ (λ (n : ℕ) (x : List ℕ). numbers_line (take n (drop at x))) (span at count) (sym e)) p
 
-pub did_lend : (s : State) (n : ℕ) (t : Table) (first second : ℕ) (bytes : List ℕ) (tables : Lent) {b a : Buffer} → sizes first second ≡ lend_at (sizes s.first s.second) n t
-    → Puts b (lend_on (held_by s bytes tables) n t).text a
-    → Did (lend_on (held_by s bytes tables) n t) b
+pub did_lend : (s : State) (n : ℕ) (t : Table) (first second : ℕ) (bytes : List ℕ) (tables : Lent) {b a : Buffer} → sizes first second ≡ lend_at (sizes s.first_lent s.second_lent) n t
+    → Puts b (lend_on (held_with s bytes tables) n t).text a
+    → Did (lend_on (held_with s bytes tables) n t) b
     (record { desk = s.desk; bytes = take s.held bytes; tables = tables; lent = sizes first second }) a
 did_lend s n t first second bytes tables e p = record {
   same = ap (λ (z : Sizes). record { desk = s.desk; bytes = take s.held bytes; tables = tables; lent = z }) e;
@@ -163,8 +163,8 @@ did_lend s n t first second bytes tables e p = record {
 }
 
 pub did_poke : (s : State) (at value : ℕ) (t : Table) (bytes : List ℕ) (tables after : Lent) {b a : Buffer} → after ≡ put_at tables at value t
-    → Puts b (poke_on (held_by s bytes tables) at value t).text a → Did (poke_on (held_by s bytes tables) at value t) b (held_by s bytes after) a
-did_poke s at value t bytes tables after e p = record { same = ap (held_by s bytes) e; puts = p }
+    → Puts b (poke_on (held_with s bytes tables) at value t).text a → Did (poke_on (held_with s bytes tables) at value t) b (held_with s bytes after) a
+did_poke s at value t bytes tables after e p = record { same = ap (held_with s bytes) e; puts = p }
 
 -- ---- reads outside the desk
 

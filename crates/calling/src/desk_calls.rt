@@ -1,155 +1,95 @@
 // The calls on the desk.
-ghost use Rattle.std.specs.Prelude.{List, ℕ, ◌≤◌, length};
-ghost use Rattle.desk.specs.Layout.{Lent, lent};
+ghost use Rattle.std.specs.Prelude.{◌≡◌, ◌≤◌, length};
 ghost use Rattle.answers.specs.Show.{show_lines};
-ghost use Rattle.calling.specs.Calls.{answered, held_by, Within, Did, replace_on, open_on, feed_on, close_on, state_on, take_on};
+ghost use Rattle.desk.specs.Layout.{by_set, lent, sizes, sizes_of};
+ghost use Rattle.desk.specs.Replace.{replace_of, replaced_run};
+ghost use Rattle.calling.specs.Calls.{answered, held_by, Did, front_of, behind_lent, replace_on, open_on, feed_on, close_on, state_on, take_on};
 
 use crate::State;
-use desk::Serial;
-use output::Buffer;
+use desk::{Desk, Replacing, Serial};
 
-pub fn replace(
-    s: State,
+// Over the first numbers of two tables.
+#[tactic(auto, using(crate::specs::Laws::off))]
+fn replace_over(
+    desk: Desk,
     set: &[u8],
     first: &mut [u16],
     second: &mut [u16],
-    out: &mut Buffer,
-) -> State
-    requires { (Within s) × (4096 ≤ length set.now) × (131841 ≤ length first.old) × (16384 ≤ length second.old) }
-    ensures did { Did (replace_on (held_by s set.now (lent first.old second.old))) out.old
-        (held_by result set.now (lent first.new second.new)) out.new }
-    ensures within { Within result }
+    a: usize,
+    b: usize,
+) -> Replacing
+    requires { (a ≤ length first.old) × (b ≤ length second.old) }
+    ensures value { result ≡ replace_of desk (by_set set.now) (sizes_of (front_of (sizes a b) (lent first.old second.old))) }
+    ensures second_after { lent first.new second.new ≡ behind_lent (sizes a b) (lent first.old second.old)
+        (replaced_run desk (by_set set.now) (front_of (sizes a b) (lent first.old second.old))) }
 {
-    let before = s.desk;
-    let held = s.held;
-    let a = s.first;
-    let b = s.second;
-    let r = before.replace(&set[0..held], &mut first[0..a], &mut second[0..b]);
-    let desk = r.desk;
-    let answer = r.answer;
-    answers::replaced(out, answer);
-    State {
-        desk,
-        held,
-        first: a,
-        second: b,
-    }
+    desk.replace(set, &mut first[..a], &mut second[..b])
 }
 
-pub fn open(s: State, out: &mut Buffer) -> State
-    requires { Within s }
-    ensures by_index { (bytes : List ℕ) (tables : Lent) → Did (open_on (held_by s bytes tables)) out.old (held_by result bytes tables)
-        out.new }
-    ensures within { Within result }
-{
-    let before = s.desk;
-    let r = before.open();
-    let desk = r.desk;
-    let answer = r.answer;
-    answers::opened(out, answer);
-    State {
-        desk,
-        held: s.held,
-        first: s.first,
-        second: s.second,
+impl State {
+    #[tactic(auto, using(crate::specs::Laws::off))]
+    pub(crate) fn replace(&mut self)
+        ensures { Did (replace_on (held_by self.old)) self.old.out (held_by self.new) self.new.out }
+    {
+        let r = replace_over(
+            self.desk,
+            &self.set[..self.held],
+            &mut self.first,
+            &mut self.second,
+            self.first_lent,
+            self.second_lent,
+        );
+        self.desk = r.desk;
+        answers::replaced(&mut self.out, r.answer);
     }
-}
 
-pub fn feed(
-    s: State,
-    serial: u32,
-    piece: &[u8],
-    first: &[u16],
-    second: &[u16],
-    out: &mut Buffer,
-) -> State
-    requires { (Within s) × (131841 ≤ length first.now) × (16384 ≤ length second.now) }
-    ensures by_index { (bytes : List ℕ) → Did (feed_on (held_by s bytes (lent first.now second.now)) serial piece.now)
-        out.old (held_by result bytes (lent first.now second.now)) out.new }
-    ensures within { Within result }
-{
-    let before = s.desk;
-    let a = s.first;
-    let b = s.second;
-    let r = before.feed(Serial(serial), &first[0..a], &second[0..b], piece);
-    let desk = r.desk;
-    let answer = r.answer;
-    answers::fed(out, answer);
-    State {
-        desk,
-        held: s.held,
-        first: a,
-        second: b,
+    pub(crate) fn open(&mut self)
+        ensures { Did (open_on (held_by self.old)) self.old.out (held_by self.new) self.new.out }
+    {
+        let r = self.desk.open();
+        self.desk = r.desk;
+        answers::opened(&mut self.out, r.answer);
     }
-}
 
-pub fn close(s: State, serial: u32, out: &mut Buffer) -> State
-    requires { Within s }
-    ensures by_index { (bytes : List ℕ) (tables : Lent) → Did (close_on (held_by s bytes tables) serial) out.old
-        (held_by result bytes tables) out.new }
-    ensures within { Within result }
-{
-    let before = s.desk;
-    let r = before.close(Serial(serial));
-    let desk = r.desk;
-    let answer = r.answer;
-    answers::closed(out, serial, answer);
-    State {
-        desk,
-        held: s.held,
-        first: s.first,
-        second: s.second,
+    pub(crate) fn feed(&mut self, serial: u32, piece: &[u8])
+        ensures { Did (feed_on (held_by self.old) serial piece.now) self.old.out (held_by self.new) self.new.out }
+    {
+        let r = self.desk.feed(
+            Serial(serial),
+            &self.first[..self.first_lent],
+            &self.second[..self.second_lent],
+            piece,
+        );
+        self.desk = r.desk;
+        answers::fed(&mut self.out, r.answer);
     }
-}
 
-pub fn tell(s: State, serial: u32, out: &mut Buffer) -> State
-    requires { Within s }
-    ensures by_index { (bytes : List ℕ) (tables : Lent) → Did (state_on (held_by s bytes tables) serial) out.old
-        (held_by result bytes tables) out.new }
-    ensures within { Within result }
-{
-    let desk = s.desk;
-    let answer = desk.state(Serial(serial));
-    answers::told(out, serial, answer);
-    State {
-        desk,
-        held: s.held,
-        first: s.first,
-        second: s.second,
+    pub(crate) fn close(&mut self, serial: u32)
+        ensures { Did (close_on (held_by self.old) serial) self.old.out (held_by self.new) self.new.out }
+    {
+        let r = self.desk.close(Serial(serial));
+        self.desk = r.desk;
+        answers::closed(&mut self.out, serial, r.answer);
     }
-}
 
-pub fn take(s: State, out: &mut Buffer) -> State
-    requires { Within s }
-    ensures by_index { (bytes : List ℕ) (tables : Lent) → Did (take_on (held_by s bytes tables)) out.old (held_by result bytes tables)
-        out.new }
-    ensures within { Within result }
-{
-    let before = s.desk;
-    let r = before.take();
-    let desk = r.desk;
-    let answer = r.answer;
-    answers::taken(out, answer);
-    State {
-        desk,
-        held: s.held,
-        first: s.first,
-        second: s.second,
+    pub(crate) fn tell(&mut self, serial: u32)
+        ensures { Did (state_on (held_by self.old) serial) self.old.out (held_by self.new) self.new.out }
+    {
+        let answer = self.desk.state(Serial(serial));
+        answers::told(&mut self.out, serial, answer);
     }
-}
 
-pub fn show(s: State, out: &mut Buffer) -> State
-    requires { Within s }
-    ensures by_index { (bytes : List ℕ) (tables : Lent) → Did (answered (held_by s bytes tables) (show_lines s.desk)) out.old
-        (held_by result bytes tables) out.new }
-    ensures within { Within result }
-{
-    let desk = s.desk;
-    answers::shown(out, desk);
-    State {
-        desk,
-        held: s.held,
-        first: s.first,
-        second: s.second,
+    pub(crate) fn take(&mut self)
+        ensures { Did (take_on (held_by self.old)) self.old.out (held_by self.new) self.new.out }
+    {
+        let r = self.desk.take();
+        self.desk = r.desk;
+        answers::taken(&mut self.out, r.answer);
+    }
+
+    pub(crate) fn show(&mut self)
+        ensures { Did (answered (held_by self.old) (show_lines self.old.desk)) self.old.out (held_by self.new) self.new.out }
+    {
+        answers::shown(&mut self.out, self.desk);
     }
 }

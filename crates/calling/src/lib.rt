@@ -1,99 +1,84 @@
-// What a replay script runs on: one desk, one set, two tables and one list; each call puts its answer.
+// What a replay script runs on, one desk, one set, two tables and one list, and the calls on it; each puts its answer.
 #![tactic(auto)]
 
 mod buffers;
 mod desk_calls;
 mod outside;
+mod state;
 
-ghost use Rattle.std.specs.Prelude.{◌≡◌, ◌≤◌, length};
-ghost use Rattle.desk.specs.Layout.{lent, one_bit};
+ghost use Rattle.std.specs.Prelude.{◌≡◌, ◌≤◌, length, replicate};
+ghost use Rattle.desk.specs.Layout.{one_bit};
 ghost use Rattle.desk.specs.Calls.{new_desk};
 ghost use Rattle.script.specs.Calls.{Bounded, meant, call_of};
-ghost use Rattle.calling.specs.Calls.{held_by, Within, Did, call_on};
+ghost use Rattle.calling.specs.Calls.{held_by, Did, call_on};
 
-use buffers::{lend, not_a_call, peek, poke, set_to};
 use desk::Desk;
-use desk_calls::{close, feed, open, replace, show, take, tell};
 use output::Buffer;
-use outside::{build, read};
 use script::Call;
+pub use state::State;
 
-// The set is the first `held` bytes of its buffer, and the first `first` numbers of the first table and the first `second` of the second
-// are lent.
-#[derive(Drop)]
-pub struct State {
-    pub desk: Desk,
-    pub held: usize,
-    pub first: usize,
-    pub second: usize,
+// At first all numbers are 0.
+fn zeros<const N: usize>() -> [u16; N]
+    ensures { result ≡ replicate N 0 }
+{
+    [0; N]
 }
 
-pub fn new_state() -> State
-    ensures { (result.desk ≡ new_desk one_bit) × (result.held ≡ 0) × (result.first ≡ 11496) × (result.second ≡ 11496) }
-{
-    let desk = Desk::new();
-    State {
-        desk,
-        held: 0,
-        first: 11496,
-        second: 11496,
+impl State {
+    pub fn new() -> State
+        ensures desk { result.desk ≡ new_desk one_bit }
+        ensures held { result.held ≡ 0 }
+        ensures first { (result.first ≡ replicate 131841 0) × (result.first_lent ≡ 11496) }
+        ensures second { (result.second ≡ replicate 16384 0) × (result.second_lent ≡ 11496) }
+        ensures out { result.out.used ≡ 0 }
+    {
+        State {
+            desk: Desk::new(),
+            set: [0; 4096],
+            held: 0,
+            first: zeros(),
+            first_lent: 11496,
+            second: zeros(),
+            second_lent: 11496,
+            list: [0; 2048],
+            out: Buffer {
+                bytes: [0; 65536],
+                used: 0,
+            },
+        }
     }
-}
 
-// Makes the call of line n.
-fn make(
-    s: State,
-    n: u64,
-    call: Call,
-    bytes: &[u8],
-    set: &mut [u8],
-    first: &mut [u16],
-    second: &mut [u16],
-    list: &mut [u32],
-    out: &mut Buffer,
-) -> State
-    requires { (Within s) × (Bounded call) × (20000 ≤ length bytes.now) × (4096 ≤ length set.old)
-        × (131841 ≤ length first.old) × (16384 ≤ length second.old) × (2048 ≤ length list.old) }
-    ensures did { Did (call_on (held_by s set.old (lent first.old second.old)) n (meant bytes.now call))
-        out.old (held_by result set.new (lent first.new second.new)) out.new }
-    ensures within { Within result }
-{
-    match call {
-        Call::PassedOver => s,
-        Call::NotACall => not_a_call(s, n, out),
-        Call::Set(k) => set_to(s, &bytes[0..k], set, out),
-        Call::Lend(lent, table) => lend(s, lent, table, out),
-        Call::Replace => replace(s, set, first, second, out),
-        Call::Open => open(s, out),
-        Call::Feed(serial, k) => feed(s, serial, &bytes[0..k], first, second, out),
-        Call::Close(serial) => close(s, serial, out),
-        Call::State(serial) => tell(s, serial, out),
-        Call::Take => take(s, out),
-        Call::Show => show(s, out),
-        Call::Build(layout) => build(s, layout, set, first, second, out),
-        Call::Read(reading) => read(s, reading, bytes, first, second, list, out),
-        Call::Poke(at, value, table) => poke(s, at, value, table, first, second, out),
-        Call::Peek(at, count, table) => peek(s, at, count, table, first, second, out),
+    // Makes the call of line n.
+    #[tactic(auto, unfolding(output::specs::Buffer::put_bytes))]
+    fn make(&mut self, n: u64, call: Call, bytes: &[u8])
+        requires bounded { Bounded call }
+        requires read { 20000 ≤ length bytes.now }
+        ensures { Did (call_on (held_by self.old) n (meant bytes.now call)) self.old.out (held_by self.new) self.new.out }
+    {
+        match call {
+            Call::PassedOver => {}
+            Call::NotACall => self.not_a_call(n),
+            Call::Set(k) => self.set_to(&bytes[..k]),
+            Call::Lend(lent, table) => self.lend(lent, table),
+            Call::Replace => self.replace(),
+            Call::Open => self.open(),
+            Call::Feed(serial, k) => self.feed(serial, &bytes[..k]),
+            Call::Close(serial) => self.close(serial),
+            Call::State(serial) => self.tell(serial),
+            Call::Take => self.take(),
+            Call::Show => self.show(),
+            Call::Build(layout) => self.build(layout),
+            Call::Read(reading) => self.read(reading, bytes),
+            Call::Poke(at, value, table) => self.poke(at, value, table),
+            Call::Peek(at, count, table) => self.peek(at, count, table),
+        }
     }
-}
 
-// Makes the call of line n, whatever its bytes.
-pub fn answer_line(
-    s: State,
-    n: u64,
-    line: &[u8],
-    bytes: &mut [u8; 20000],
-    set: &mut [u8; 4096],
-    first: &mut [u16; 131841],
-    second: &mut [u16; 16384],
-    list: &mut [u32; 2048],
-    out: &mut Buffer,
-) -> State
-    requires { Within s }
-    ensures did { Did (call_on (held_by s set.old (lent first.old second.old)) n (call_of line.now))
-        out.old (held_by result set.new (lent first.new second.new)) out.new }
-    ensures within { Within result }
-{
-    let call = script::call_of(line, bytes);
-    make(s, n, call, bytes, set, first, second, list, out)
+    // Makes the call of line n, whatever its bytes; those that the call names are put into the buffer.
+    pub fn answer_line(&mut self, n: u64, line: &[u8], bytes: &mut [u8; 20000])
+        ensures { Did (call_on (held_by self.old) n (call_of line.now)) self.old.out (held_by self.new) self.new.out }
+    {
+        let call = script::call_of(line, bytes);
+        self.make(n, call, bytes);
+    }
 }

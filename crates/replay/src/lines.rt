@@ -1,95 +1,65 @@
 // The lines of the input, read piece by piece.
-ghost use Rattle.std.specs.Prelude.{◌≡◌, ◌≤◌, length, take};
+ghost use Rattle.std.specs.Prelude.{◌≤◌};
 
 use std::io::{Error, Read};
 
-// What is read and not yet used: the bytes of the buffer from `from` up to `to`; none at the end of the input, or where a read failed.
+// What is read and not yet used: the bytes of `input` from `from` up to `to`. And the line read last: one byte more than a line may have,
+// so that one that is too long shows.
 #[derive(Drop)]
-pub struct Span {
-    pub from: usize,
-    pub to: usize,
-    pub failed: Option<Error>,
+pub struct Lines {
+    input: [u8; 65536],
+    from: usize,
+    to: usize,
+    line: [u8; 20001],
+    ghost ordered: { from ≤ to },
+    ghost within: { to ≤ 65536 },
 }
 
-// A line: how many of its bytes are kept, whether there was any line, and what is left of the buffer.
-#[derive(Drop)]
-pub struct Gathered {
-    pub kept: usize,
-    pub begun: bool,
-    pub rest: Span,
-}
-
-// What is left, or what one more read gives where nothing is.
-fn next_piece<R: Read>(reader: &mut R, input: &mut [u8], rest: Span) -> Span
-    ensures { (result.from ≤ result.to) × (result.to ≤ length input.new) }
-{
-    if rest.from < rest.to {
-        if rest.to <= input.len() {
-            return rest;
-        }
-    }
-    match reader.read(input) {
-        Ok(to) => Span {
-            from: 0,
-            to,
-            failed: None,
-        },
-        Err(error) => Span {
+impl Lines {
+    pub fn new() -> Lines {
+        Lines {
+            input: [0; 65536],
             from: 0,
             to: 0,
-            failed: Some(error),
-        },
-    }
-}
-
-// The next line without its end. Of one that is too long as much is kept as the line has room for.
-pub fn gather<R: Read>(reader: &mut R, input: &mut [u8], rest: Span, line: &mut [u8]) -> Gathered {
-    let mut left = rest;
-    let mut kept: usize = 0;
-    let mut begun = false;
-    let mut turns = u64::MAX;
-    while 0 < turns {
-        turns -= 1;
-        let piece = next_piece(reader, input, left);
-        let from = piece.from;
-        let to = piece.to;
-        if to <= from {
-            return Gathered {
-                kept,
-                begun,
-                rest: piece,
-            };
+            line: [0; 20001],
         }
-        let part = script::line_part(line, kept, &input[from..to]);
-        kept = part.kept;
-        begun = true;
-        let next = Span {
-            from: from + part.passed,
-            to,
-            failed: None,
-        };
-        if part.ended {
-            return Gathered {
-                kept,
-                begun: true,
-                rest: next,
-            };
-        }
-        left = next;
     }
-    Gathered {
-        kept,
-        begun,
-        rest: left,
-    }
-}
 
-// The first n bytes of a line.
-pub fn first(line: &[u8], n: usize) -> &[u8]
-    ensures { result.now ≡ take n line.now }
-{
-    if n < line.len() {
-        return &line[0..n];
+    // Whether a byte is at hand; where none is, after one more read.
+    fn at_hand<R: Read>(&mut self, reader: &mut R) -> Result<bool, Error> {
+        if self.from < self.to {
+            return Ok(true);
+        }
+        self.from = 0;
+        self.to = 0;
+        self.to = reader.read(&mut self.input)?;
+        Ok(0 < self.to)
     }
-    line
+
+    // How many bytes of the next line, without its end, are kept: of one that is too long as many as there is room for. None at the end of
+    // the input. A read that fails within a line ends it.
+    pub fn next_line<R: Read>(&mut self, reader: &mut R) -> Result<Option<usize>, Error> {
+        let mut kept = None;
+        for _ in 0..u64::MAX {
+            match self.at_hand(reader) {
+                Ok(true) => {}
+                Err(error) if kept.is_none() => return Err(error),
+                _ => return Ok(kept),
+            }
+            let input = &self.input[..];
+            let piece = &input[self.from..self.to];
+            let part = script::line_part(&mut self.line, kept.unwrap_or(0), piece);
+            kept = Some(part.kept);
+            self.from += part.passed;
+            if part.ended {
+                return Ok(kept);
+            }
+        }
+        Ok(kept)
+    }
+
+    // The first n bytes of the line read last.
+    pub fn line(&self, n: usize) -> &[u8] {
+        &self.line[..n.min(self.line.len())]
+    }
 }
