@@ -1,5 +1,5 @@
 -- What the program holds, what each call makes of it, and the text of its answer.
-use Rattle.std.specs.Prelude.{ℕ, ◌≤◌, ◌≡◌, List, [], ◌∷◌, ◌++◌, length, take, drop, set, get_or, replicate}
+use Rattle.std.specs.Prelude.{ℕ, ◌≡◌, List, [], ◌∷◌, ◌++◌, length, take, drop, set, get_or, replicate}
 use Rattle.answers.specs.Answers.{word_line, not_acall_line, replace_line, open_line, feed_line, close_line, state_line, take_line, built_line, numbers_line, read_lines}
 use Rattle.answers.specs.Answers.{map_lines}
 use Rattle.answers.specs.Show.{show_lines}

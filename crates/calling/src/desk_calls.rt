@@ -6,7 +6,7 @@ ghost use Rattle.desk.specs.Replace.{replace_of, replaced_run};
 ghost use Rattle.calling.specs.Calls.{answered, held_by, Did, front_of, behind_lent, replace_on, open_on, feed_on, close_on, state_on, take_on};
 
 use crate::State;
-use desk::{Desk, Replacing, Serial};
+use desk::{After, Desk, ReplaceRefusal, Replaced, Serial};
 
 // Over the first numbers of two tables.
 #[tactic(auto, using(crate::specs::Laws::off))]
@@ -17,7 +17,7 @@ fn replace_over(
     second: &mut [u16],
     a: usize,
     b: usize,
-) -> Replacing
+) -> After<Result<Replaced, ReplaceRefusal>>
     requires { (a ≤ length first.old) × (b ≤ length second.old) }
     ensures value { result ≡ replace_of desk (by_set set.now) (sizes_of (front_of (sizes a b) (lent first.old second.old))) }
     ensures second_after { lent first.new second.new ≡ behind_lent (sizes a b) (lent first.old second.old)
