@@ -8,7 +8,8 @@ ghost use Rattle.choosing.specs.Dealing.{DealtOut, Small, dealt_next, is_of};
 
 use tagset::Places;
 
-// Where the tags of one kind lie in the bytes of their set, in the order of the set. What stands past the count is nobody's.
+// Where the tags of one kind lie in the bytes of their set, in the order of the set. What stands past the count is nobody's. The arrays
+// stay apart as those of `Places` do: `tag_bytes` is lent one of them each.
 #[derive(Clone, Copy)]
 pub struct Chosen {
     pub count: usize,

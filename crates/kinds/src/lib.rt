@@ -7,7 +7,8 @@ ghost use Rattle.std.specs.Prelude.{◌≡◌, ◌||◌, ◌<◌, ◌≤◌, Mat
 ghost use Rattle.matching.specs.Kinds.{kinds, no_kind};
 ghost use Rattle.kinds.specs.Rows.{kinds_taken, row_of};
 
-// The numbers of the two kinds.
+// The numbers of the two kinds, as an entry of a set has them. Numbers and no enum: `read_as`, `choose` and `deal_out`, which docs/PROMISES.md names, answer
+// for every number.
 pub const EXACT: usize = 1;
 
 pub const FOLDED: usize = 2;

@@ -55,7 +55,7 @@ fn number_at(set: &[u8], at: usize) -> usize
     requires { at + 1 < length set.now }
     ensures { result ≡ get_or set.now at 0 + 256 * get_or set.now (at + 1) 0 }
 {
-    usize::from(set[at]) + 256 * usize::from(set[at + 1])
+    usize::from(u16::from_le_bytes([set[at], set[at + 1]]))
 }
 
 // Entry k, which begins at `at`, where tags of the kinds in the first rows of their table are taken: its checks in the rules' order.
