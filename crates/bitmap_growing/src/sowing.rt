@@ -1,4 +1,6 @@
 // The children of a settled state, sown tag by tag: each tag that goes on from it marks the child on its next byte.
+// `table` and `s` go together through this crate, and not in a struct: one that holds a `&mut` asks each function that it passes through to
+// say that it keeps the reference, which is a fact more in each contract.
 ghost use Rattle.std.specs.Prelude.{◌≡◌, ◌+◌, ◌*◌, ◌<◌, ◌≤◌, ◌^◌, length};
 ghost use Rattle.tagset.specs.Cutting.{words_of};
 ghost use Rattle.bitmap.specs.Steps.{step, vector_at};

@@ -5,9 +5,8 @@ use Rattle.matching.specs.Words.{Word, begins_one}
 use Rattle.bitmap.specs.Slots.{bits_from}
 use Rattle.bitmap.specs.Steps.{number_at}
 
--- tags, few enough for a mask, and a slot q of the table whose map is zeros but for its first number, which may be any
-pub record Unlaid (ts : List Word) (q : ℕ) (table : List ℕ) : Type 0 where
-  pub few : length ts ≤ 16
+-- a slot q of the table whose map is zeros but for its first number, which may be any
+pub record Unlaid (q : ℕ) (table : List ℕ) : Type 0 where
   pub room : q * 19 + 18 < length table
   pub bare : (j : ℕ) → 0 < j → j < 16 → number_at table q j ≡ 0
 

@@ -28,7 +28,7 @@ fn lay_tag(tag: &[u8], table: &mut [u16], q: usize, d: usize, goes: bool)
 
 // The map of the state in slot q, of depth d, from the mask of the tags that go through it.
 pub fn lay_map(words: &Words, table: &mut [u16], q: usize, d: usize, mask: u16)
-    requires { Unlaid (words_of words.now) q table.old }
+    requires { Unlaid q table.old }
     ensures { let ts = words_of words.now in (p : Word) → Waits ts p d mask → MapLaid ts p q table.old table.new }
 {
     table[q * 19] = 0;

@@ -16,7 +16,6 @@ fn is_own(tag: &[u8], d: usize, goes: bool) -> bool
 
 // The tags that are the word of a state of depth d, from the mask of those that go through it.
 pub fn own_tags(words: &Words, d: usize, mask: u16) -> u16
-    requires { length (words_of words.now) ≤ 16 }
     ensures { let ts = words_of words.now in (p : Word) → Waits ts p d mask → result ≡ own_tags ts p }
 {
     let mut v: u16 = 0;

@@ -20,7 +20,6 @@ struct Walk {
 
 // The tags before their first letters.
 fn start(words: &Words) -> [Walk; 16]
-    requires { length (words_of words.now) ≤ 16 }
     ensures { Started (words_of words.now) result }
 {
     let mut walks = [Walk {

@@ -49,6 +49,8 @@ pub fn count_states(words: &Words) -> usize
 }
 
 // The slots of a machine of m letters, whatever stood there.
+// `words`, `m` and `part` go on together from here, and not in a struct: one that holds a `&mut` asks each function that it passes through
+// to say that it keeps the reference. `Fit` and `Roomy` stay facts, since `Words` is taken too where they are not asked.
 pub fn make_slots(words: &Words, m: usize, part: &mut [u16])
     requires { let ts = words_of words.now in (Fit ts) × (Roomy ts m (length part.old)) }
     ensures { Filled (words_of words.now) m part.new }

@@ -43,7 +43,6 @@ pub fn tag_ends(word: &[u8], tag: &[u8]) -> bool
 
 // The vector of a word: bit i is set exactly if tag i ends it.
 pub fn vector_of(word: &[u8], words: &Words) -> u16
-    requires { length (words_of words.now) ≤ 16 }
     ensures { result ≡ vector (words_of words.now) word.now }
 {
     let mut v: u16 = 0;

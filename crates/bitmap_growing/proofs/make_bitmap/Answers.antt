@@ -10,4 +10,4 @@ begin-requires c =
 
 pub grow-requires : goal.grow-requires
 grow-requires c =
-    let p = c.requires in (p.1, begun_growing p.0 (omega (arith, p.1, p.2)) p.3 (sym c.count.ensures) c.begin.ensures)
+    let p = c.requires in (p.1, begun_growing p.0 (omega (arith, p.1, p.2)) p.3 (sym c.count.ensures.counted) c.begin.ensures)

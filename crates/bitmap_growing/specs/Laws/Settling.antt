@@ -74,8 +74,8 @@ module _ {ts : List Word} {s : ℕ} {table : List ℕ} {q k : ℕ} (g : Growing 
   pub turn_found : (d f mask : ℕ) → d ≡ number_at table q 0 → f ≡ fail_at table q → mask ≡ vector_at table q → Found ts q d f mask
   turn_found d f mask a b c = record { waits = record { deep = a ∙ waits.depth; goes = c ∙ waits.mask }; fails = b ∙ waits.fail }
 
-  pub turn_unlaid : Unlaid ts q table
-  turn_unlaid = record { few = g.lawful.few; room = turn_room; bare = λ j a b. waits.bare j a (omega arith) }
+  pub turn_unlaid : Unlaid q table
+  turn_unlaid = record { room = turn_room; bare = λ j a b. waits.bare j a (omega arith) }
 
   module _ {d f mask : ℕ} (o : Found ts q d f mask) {mid : List ℕ} (laid : MapLaid ts p q table mid) {own : ℕ} (eo : own ≡ own_tags ts p) where
     -- laying a map changes no other slot, and of its own only the map

@@ -22,7 +22,7 @@ begins_one_snoc [] v t = or-false (begins v t)
 begins_one_snoc (u ∷ us) v t = ap (λ (b : Bool). begins v u || b) (begins_one_snoc us v t) ∙ sym (or_assoc (begins v u) (begins_one v us) (begins v t))
 
 -- no tag yet: a map of zeros
-module _ (ts : List Word) (p : Word) (q : ℕ) (table : List ℕ) (u : Unlaid ts q table) where
+module _ (p : Word) (q : ℕ) (table : List ℕ) (u : Unlaid q table) where
   abbrev bare : List ℕ
   bare = set table (q * 19) 0
 

@@ -28,6 +28,6 @@ returns c =
     let t = c.args.table.now in
     let s = c.map_slots-s in
     let n = c.count_states-n in record {
-      answer = done-answer p.1 t s.result s.ensures n.result n.ensures c.if-s-n.false _ (sym c.count.ensures);
+      answer = done-answer p.1 t s.result s.ensures n.result n.ensures c.if-s-n.false _ (sym c.count.ensures.counted);
       left = done-table p.1 t s.result s.ensures n.result n.ensures c.if-s-n.false _ c.make_bitmap.ensures;
     }

@@ -8,7 +8,7 @@ use Rattle.bitmap_maps.specs.Laws.Masks.{goes-begins}
 use Rattle.bitmap_maps.proofs.laying.lay_map.Goals as goal
 
 pub loop-u-init : goal.loop-u-init
-loop-u-init c = λ p w. laid_none (words_of c.args.words.now) p c.args.q c.args.table.now c.requires
+loop-u-init c = λ p w. laid_none p c.args.q c.args.table.now c.requires
 
 pub loop-u-preserved : goal.loop-u-preserved
 loop-u-preserved c = λ p w.

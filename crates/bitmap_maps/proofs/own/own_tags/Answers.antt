@@ -18,7 +18,7 @@ bit_of false = refl
 pub loop-u-init : goal.loop-u-init
 loop-u-init c = record {
   few = pow_pos (length (words_of c.args.words.now) - c.count-u.result);
-  own = λ p w. own-none (words_of c.args.words.now) p c.count-u.result (sym c.count-u.ensures);
+  own = λ p w. own-none (words_of c.args.words.now) p c.count-u.result (sym c.count-u.ensures.counted);
 }
 
 pub loop-u-preserved : goal.loop-u-preserved

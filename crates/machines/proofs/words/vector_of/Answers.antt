@@ -8,11 +8,11 @@ pub loop-i-init : goal.loop-i-init
 loop-i-init c = vector-none (words_of c.args.words.now) c.args.word.now c.count-i.result (omega arith)
 
 pub overflow_mul-v : goal.overflow_mul-v
-overflow_mul-v c = omega (arith, vector-half (words_of c.args.words.now) c.args.word.now c.loop-i.i c.loop-i-test.true c.requires)
+overflow_mul-v c = omega (arith, vector-half (words_of c.args.words.now) c.args.word.now c.loop-i.i c.loop-i-test.true (omega arith))
 
 pub overflow_add-v : goal.overflow_add-v
 overflow_add-v c =
-    omega (arith, vector-half (words_of c.args.words.now) c.args.word.now c.loop-i.i c.loop-i-test.true c.requires, bit_small c.tag_ends.result)
+    omega (arith, vector-half (words_of c.args.words.now) c.args.word.now c.loop-i.i c.loop-i-test.true (omega arith), bit_small c.tag_ends.result)
 
 pub loop-i-preserved : goal.loop-i-preserved
 loop-i-preserved c =
