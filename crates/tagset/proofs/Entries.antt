@@ -1,5 +1,5 @@
 -- An entry, as the code reads it where it stands in the set, where tags of the kinds in the first rows of their table are taken.
-use Prim.Native.Nat.{◌*◌, ◌+◌, ◌-◌, ◌<◌, ◌≤◌, suc, zero, ℕ}
+use Prim.Native.Nat.{◌*◌, ◌+◌, ◌-◌, ◌<◌, ◌≤◌, ℕ}
 use mathlib.Core.Bool.{Bool, ◌||◌, false, true}
 use mathlib.Core.List.{List}
 use mathlib.Core.Logic.{◌⊎◌, inl, inr}
@@ -37,20 +37,6 @@ kind-here s at =
 -- no length for the kind in a row
 abbrev pub wrong_in : ℕ → ℕ → Bool
 wrong_in row long = ltb long (get_or kinds row no_kind).shortest || ltb (get_or kinds row no_kind).longest long
-
--- no kind has tags of more than 32 bytes
-longest-few : (row : ℕ) → (get_or kinds row no_kind).longest ≤ 32
-longest-few zero = omega arith
-longest-few (suc zero) = omega arith
-longest-few (suc (suc row)) = omega arith
-
-pub short-length : (row long : ℕ) → wrong_in row long ≡ false → long ≤ 32
-short-length row long right =
-    omega (
-      arith,
-      longest-few row,
-      ltb-false (get_or kinds row no_kind).longest long (or_false-r (ltb long (get_or kinds row no_kind).shortest) (ltb (get_or kinds row no_kind).longest long) right),
-    )
 
 module _ (s : List ℕ) (rows : ℕ) (two : rows ≤ 2) (k at : ℕ) where
   rows_long : length (take rows kinds) ≡ rows

@@ -1,15 +1,14 @@
 -- Parts of a set, and words compared letter by letter.
-use Prim.Native.Nat.{◌+◌, ◌-◌, ◌<◌, ◌≤◌, min, suc, zero, ℕ}
+use Prim.Native.Nat.{◌+◌, ◌<◌, ◌≤◌, suc, zero, ℕ}
 use mathlib.Core.Bool.{Bool, ◌&&◌, ◌||◌, false, true}
 use mathlib.Core.List.{List, [], ◌∷◌, map}
 use mathlib.Core.Path.{◌∙◌, ◌≡◌, ap, refl, sym}
-use native.Mathlib.Decide.{dec_le}
 use native.Mathlib.Numerals.{add-one}
 use native.Mathlib.Omega.{arith}
 use lib.Dec.{eqb}
-use lib.ListN.{drop, drop_of_length-le, get_or, length, length-drop, length-take, take}
+use lib.ListN.{drop, drop_of_length-le, get_or, length, length-take, take}
 use lib.Pointwise.{pointwise}
-use lib.Seq.{drop-cons, get_or-take, length-take-le, take_all, take-nil}
+use lib.Seq.{drop-cons, get_or-take, length-take-le}
 use borrow.Author.Tests.{eq-eqb, ne_eqb}
 use Rattle.matching.specs.Laws.Bools.{or_l}
 use Rattle.matching.specs.Kinds.{as_read}
@@ -19,29 +18,6 @@ use Rattle.tagset.specs.Answer.{cut_at, tags_in}
 use Rattle.tagset.specs.Grammar.{among_tags, same_tag}
 use Rattle.tagset.specs.Laws.Places.{as_tags-at, as_tags-length, cut-map, cut_at-length}
 use Rattle.tagset.specs.Lying.{Cut}
-
--- a part that is cut to what there is
-pub part_cut : (l : List ℕ) (a e end begin : ℕ) → end ≡ min e (length l) → begin ≡ min a end → take (end - begin) (drop begin l) ≡ take (e - a) (drop a l)
-part_cut l a e end begin he hb = go (dec_le a end) (dec_le e (length l))
-  where
-    go : Dec (a ≤ end) → Dec (e ≤ length l) → take (end - begin) (drop begin l) ≡ take (e - a) (drop a l)
-    go (yes h) (yes k) =
-        let x : begin ≡ a = omega arith in
-        let y : end ≡ e = omega arith in
-        rw (x, y)
-    go (yes h) (no k) =
-        let x : begin ≡ a = omega arith in
-        let y : end ≡ length l = omega arith in
-        rw (x, y)
-        (take_all (length l - a) (drop a l) (omega (arith, length-drop a l)) ∙ sym (take_all (e - a) (drop a l) (omega (arith, length-drop a l))))
-    go (no h) (yes k) =
-        let x : end - begin ≡ 0 = omega arith in
-        let y : e - a ≡ 0 = omega arith in
-        rw (x, y)
-    go (no h) (no k) =
-        let x : end - begin ≡ 0 = omega arith in
-        let y : drop a l ≡ [] = drop_of_length-le l {i = a} (omega arith) in
-        rw (x, y) (sym (take-nil (e - a)))
 
 -- ---- same, as `==` of two slices says it
 
