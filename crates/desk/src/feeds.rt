@@ -31,9 +31,8 @@ pub fn read_on(
     requires { (i < most_tickets) × (t.taken + length piece.now ≤ largest) }
     ensures { result ≡ read_in desk i t (lent first.now second.now) piece.now }
 {
-    let held = desk.records;
     let place = t.place;
-    let room = Desk::RECORDS.saturating_sub(held.count);
+    let room = Desk::RECORDS.saturating_sub(desk.records.count);
     let scan = scan::read_for(first, second, place, t.taken, piece, room);
     let read = scan.read;
     let list = scan.list;
@@ -43,15 +42,14 @@ pub fn read_on(
     let serial = t.serial;
     let edition = t.edition;
     let after = read.place;
-    let records = shared::append(held, serial, edition, &list, read.records);
     let mut fed = desk;
+    shared::append(&mut fed.records, serial, edition, &list, read.records);
     fed.tickets[i] = Ticket {
         serial,
         edition,
         taken: t.taken + (read.taken as u32),
         place: after,
     };
-    fed.records = records;
     let answer = Ok(Advance {
         taken: read.taken,
         records: read.records,

@@ -22,7 +22,7 @@ ghost use Rattle.numbers.specs.Answers.{state_answer, built_answer, needed_answe
 
 use desk::{Desk, Serial};
 use gate::Gate;
-use numbers::Answer;
+use numbers::{Answer, Said};
 
 // A desk after a call, and the call's answer.
 #[repr(C)]
@@ -38,6 +38,27 @@ pub struct Reply {
 pub struct GateReply {
     pub gate: Gate,
     pub answer: Answer,
+}
+
+// The desk after a call, and what the call answers as numbers.
+fn desk_told<A, F: FnOnce(A) -> Said>(after: desk::After<A>, said: F) -> Reply
+    requires { F.IsAlwaysCallable said }
+    ensures { (result.desk ≡ after.desk) × ((s : Said) × F.post said after.answer s × (result.answer ≡ s.answer)) }
+{
+    Reply {
+        desk: after.desk,
+        answer: said(after.answer).answer,
+    }
+}
+
+fn gate_told<A, F: FnOnce(A) -> Said>(after: gate::After<A>, said: F) -> GateReply
+    requires { F.IsAlwaysCallable said }
+    ensures { (result.gate ≡ after.gate) × ((s : Said) × F.post said after.answer s × (result.answer ≡ s.answer)) }
+{
+    GateReply {
+        gate: after.gate,
+        answer: said(after.answer).answer,
+    }
 }
 
 // How many records were taken at once.
@@ -96,28 +117,14 @@ pub extern "C" fn sleet_desk_replace(
     ensures second_after { lent first.new second.new
         ≡ replaced_run desk (by_set set.now) (lent first.old second.old) }
 {
-    let r = desk.replace(set, first, second);
-    let after = r.desk;
-    let said = r.answer;
-    let answer = numbers::of_replace(said).answer;
-    Reply {
-        desk: after,
-        answer,
-    }
+    desk_told(desk.replace(set, first, second), numbers::of_replace)
 }
 
 #[unsafe(no_mangle)]
 pub extern "C" fn sleet_desk_open(desk: Desk) -> Reply
     ensures { OpenTold result (open_of desk) }
 {
-    let r = desk.open();
-    let after = r.desk;
-    let said = r.answer;
-    let answer = numbers::of_open(said).answer;
-    Reply {
-        desk: after,
-        answer,
-    }
+    desk_told(desk.open(), numbers::of_open)
 }
 
 #[unsafe(no_mangle)]
@@ -130,42 +137,24 @@ pub extern "C" fn sleet_desk_feed(
 ) -> Reply
     ensures { FeedTold result (feed_of desk (serial_of serial) (lent first.now second.now) piece.now) }
 {
-    let r = desk.feed(Serial(serial), first, second, piece);
-    let after = r.desk;
-    let said = r.answer;
-    let answer = numbers::of_feed(said).answer;
-    Reply {
-        desk: after,
-        answer,
-    }
+    desk_told(
+        desk.feed(Serial(serial), first, second, piece),
+        numbers::of_feed,
+    )
 }
 
 #[unsafe(no_mangle)]
 pub extern "C" fn sleet_desk_close(desk: Desk, serial: u32) -> Reply
     ensures { CloseTold result (close_of desk (serial_of serial)) }
 {
-    let r = desk.close(Serial(serial));
-    let after = r.desk;
-    let said = r.answer;
-    let answer = numbers::of_close(said).answer;
-    Reply {
-        desk: after,
-        answer,
-    }
+    desk_told(desk.close(Serial(serial)), numbers::of_close)
 }
 
 #[unsafe(no_mangle)]
 pub extern "C" fn sleet_desk_take(desk: Desk) -> Reply
     ensures { TakeTold result (take_of desk) }
 {
-    let r = desk.take();
-    let after = r.desk;
-    let said = r.answer;
-    let answer = numbers::of_take(said).answer;
-    Reply {
-        desk: after,
-        answer,
-    }
+    desk_told(desk.take(), numbers::of_take)
 }
 
 #[unsafe(no_mangle)]
@@ -206,28 +195,14 @@ pub extern "C" fn sleet_gate_replace(
     ensures second_after { lent first.new second.new
         ≡ replaced_run gate.desk (by_set set.now) (lent first.old second.old) }
 {
-    let r = gate.replace(set, first, second);
-    let after = r.gate;
-    let said = r.answer;
-    let answer = numbers::of_replace(said).answer;
-    GateReply {
-        gate: after,
-        answer,
-    }
+    gate_told(gate.replace(set, first, second), numbers::of_replace)
 }
 
 #[unsafe(no_mangle)]
 pub extern "C" fn sleet_gate_begin(gate: Gate) -> GateReply
     ensures { BeginTold result (begin_of gate) }
 {
-    let r = gate.begin();
-    let after = r.gate;
-    let said = r.answer;
-    let answer = numbers::of_open(said).answer;
-    GateReply {
-        gate: after,
-        answer,
-    }
+    gate_told(gate.begin(), numbers::of_open)
 }
 
 #[unsafe(no_mangle)]
@@ -240,28 +215,17 @@ pub extern "C" fn sleet_gate_piece(
 ) -> GateReply
     ensures { PieceTold result (piece_of gate (serial_of serial) (lent first.now second.now) piece.now) }
 {
-    let r = gate.piece(Serial(serial), first, second, piece);
-    let after = r.gate;
-    let said = r.answer;
-    let answer = gate_numbers::of_piece(said).answer;
-    GateReply {
-        gate: after,
-        answer,
-    }
+    gate_told(
+        gate.piece(Serial(serial), first, second, piece),
+        gate_numbers::of_piece,
+    )
 }
 
 #[unsafe(no_mangle)]
 pub extern "C" fn sleet_gate_decide(gate: Gate, serial: u32) -> GateReply
     ensures { DecideTold result (decide_of gate (serial_of serial)) }
 {
-    let r = gate.decide(Serial(serial));
-    let after = r.gate;
-    let said = r.answer;
-    let answer = gate_numbers::of_verdict(said).answer;
-    GateReply {
-        gate: after,
-        answer,
-    }
+    gate_told(gate.decide(Serial(serial)), gate_numbers::of_verdict)
 }
 
 // The slots of the split layout's first and second table.

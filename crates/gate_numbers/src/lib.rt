@@ -7,16 +7,16 @@ ghost use Rattle.numbers.specs.Answers.{said_of};
 
 use desk::NoTicket;
 use gate::{Piece, PieceRefusal, Verdict};
-use numbers::{Said, bare, one, two};
+use numbers::Said;
 
 pub fn of_piece(said: Result<Piece, PieceRefusal>) -> Said
     ensures { result ≡ said_of (piece_number said) (piece_values said) }
 {
     match said {
-        Ok(Piece::Read) => one(0, 1),
-        Ok(Piece::Cut(taken)) => two(0, 0, taken as u64),
-        Err(PieceRefusal::NoTicket) => bare(12),
-        Err(PieceRefusal::Stale(edition)) => one(13, u64::from(edition.0)),
+        Ok(Piece::Read) => Said::new(0, &[1]),
+        Ok(Piece::Cut(taken)) => Said::new(0, &[0, taken as u64]),
+        Err(PieceRefusal::NoTicket) => Said::new(12, &[]),
+        Err(PieceRefusal::Stale(edition)) => Said::new(13, &[u64::from(edition.0)]),
     }
 }
 
@@ -25,10 +25,10 @@ pub fn of_verdict(said: Result<Verdict, NoTicket>) -> Said
     ensures { result ≡ said_of (verdict_number said) (verdict_values said) }
 {
     match said {
-        Ok(Verdict::Pass) => one(0, 1),
-        Ok(Verdict::Hold(mask)) => two(0, 2, mask),
-        Ok(Verdict::Stale(edition)) => two(0, 3, u64::from(edition.0)),
-        Ok(Verdict::Unread) => one(0, 4),
-        Err(NoTicket) => bare(12),
+        Ok(Verdict::Pass) => Said::new(0, &[1]),
+        Ok(Verdict::Hold(mask)) => Said::new(0, &[2, mask]),
+        Ok(Verdict::Stale(edition)) => Said::new(0, &[3, u64::from(edition.0)]),
+        Ok(Verdict::Unread) => Said::new(0, &[4]),
+        Err(NoTicket) => Said::new(12, &[]),
     }
 }

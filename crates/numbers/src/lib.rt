@@ -39,46 +39,26 @@ pub struct Said {
     pub count: u64,
 }
 
-fn with(refusal: u64, count: u64, a: u64, b: u64, c: u64, d: u64) -> Said
-    ensures { result ≡ record { answer = answer_of refusal (a ∷ b ∷ c ∷ d ∷ []); count = count } }
-{
-    Said {
-        answer: Answer {
-            refusal,
-            a,
-            b,
-            c,
-            d,
-            e: 0,
-            f: 0,
-            g: 0,
-        },
-        count,
+impl Said {
+    // Of so many values: those that there aren't are 0.
+    pub fn new(refusal: u64, values: &[u64]) -> Self
+        ensures { result ≡ said_of refusal values.now }
+    {
+        let at = |i: usize| values.get(i).copied().unwrap_or(0);
+        Said {
+            answer: Answer {
+                refusal,
+                a: at(0),
+                b: at(1),
+                c: at(2),
+                d: at(3),
+                e: at(4),
+                f: at(5),
+                g: at(6),
+            },
+            count: values.len() as u64,
+        }
     }
-}
-
-pub fn bare(refusal: u64) -> Said
-    ensures { result ≡ said_of refusal [] }
-{
-    with(refusal, 0, 0, 0, 0, 0)
-}
-
-pub fn one(refusal: u64, a: u64) -> Said
-    ensures { result ≡ said_of refusal (a ∷ []) }
-{
-    with(refusal, 1, a, 0, 0, 0)
-}
-
-pub fn two(refusal: u64, a: u64, b: u64) -> Said
-    ensures { result ≡ said_of refusal (a ∷ b ∷ []) }
-{
-    with(refusal, 2, a, b, 0, 0)
-}
-
-fn three(a: u64, b: u64, c: u64) -> Said
-    ensures { result ≡ said_of 0 (a ∷ b ∷ c ∷ []) }
-{
-    with(0, 3, a, b, c, 0)
 }
 
 fn of_stop(stop: Stop) -> u64
@@ -95,14 +75,14 @@ fn of_stopped(taken: usize, records: usize, stop: Stop) -> Said
     ensures { result ≡ said_of 0 (taken ∷ stop_number stop ∷ records ∷ []) }
 {
     let why = of_stop(stop);
-    three(taken as u64, why, records as u64)
+    Said::new(0, &[taken as u64, why, records as u64])
 }
 
 fn of_moved(taken: usize, records: usize, moves: usize, stop: Stop) -> Said
     ensures { result ≡ said_of 0 (taken ∷ stop_number stop ∷ records ∷ moves ∷ []) }
 {
     let why = of_stop(stop);
-    with(0, 4, taken as u64, why, records as u64, moves as u64)
+    Said::new(0, &[taken as u64, why, records as u64, moves as u64])
 }
 
 fn of_advance(advance: Advance) -> Said
@@ -116,12 +96,12 @@ fn of_fault(fault: SetFault) -> Said
     ensures { result ≡ said_of (fault_number fault) (fault_values fault) }
 {
     match fault {
-        SetFault::Cut(k) => one(1, k as u64),
-        SetFault::Many(k) => one(2, k as u64),
-        SetFault::Kind(k) => one(3, k as u64),
-        SetFault::Length(k) => one(4, k as u64),
-        SetFault::Empty => one(5, 0),
-        SetFault::Repeat(k) => one(6, k as u64),
+        SetFault::Cut(k) => Said::new(1, &[k as u64]),
+        SetFault::Many(k) => Said::new(2, &[k as u64]),
+        SetFault::Kind(k) => Said::new(3, &[k as u64]),
+        SetFault::Length(k) => Said::new(4, &[k as u64]),
+        SetFault::Empty => Said::new(5, &[0]),
+        SetFault::Repeat(k) => Said::new(6, &[k as u64]),
     }
 }
 
@@ -129,9 +109,9 @@ pub fn of_built(built: Result<usize, BuildFault>) -> Said
     ensures { result ≡ said_of (built_number built) (built_values built) }
 {
     match built {
-        Ok(count) => one(0, count as u64),
+        Ok(count) => Said::new(0, &[count as u64]),
         Err(BuildFault::Set(fault)) => of_fault(fault),
-        Err(BuildFault::Table(machine, needs)) => two(7, machine as u64, needs as u64),
+        Err(BuildFault::Table(machine, needs)) => Said::new(7, &[machine as u64, needs as u64]),
     }
 }
 
@@ -139,7 +119,7 @@ pub fn of_needed(needed: Result<Needed, SetFault>) -> Said
     ensures { result ≡ said_of (needed_number needed) (needed_values needed) }
 {
     match needed {
-        Ok(needed) => two(0, needed.first as u64, needed.second as u64),
+        Ok(needed) => Said::new(0, &[needed.first as u64, needed.second as u64]),
         Err(fault) => of_fault(fault),
     }
 }
@@ -148,10 +128,10 @@ pub fn of_replace(said: Result<Replaced, ReplaceRefusal>) -> Said
     ensures { result ≡ said_of (replace_number said) (replace_values said) }
 {
     match said {
-        Ok(given) => two(0, u64::from(given.edition.0), given.tags as u64),
+        Ok(given) => Said::new(0, &[u64::from(given.edition.0), given.tags as u64]),
         Err(ReplaceRefusal::Fault(fault)) => of_fault(fault),
-        Err(ReplaceRefusal::Table(machine, needs)) => two(7, machine as u64, needs as u64),
-        Err(ReplaceRefusal::EditionEnd) => bare(8),
+        Err(ReplaceRefusal::Table(machine, needs)) => Said::new(7, &[machine as u64, needs as u64]),
+        Err(ReplaceRefusal::EditionEnd) => Said::new(8, &[]),
     }
 }
 
@@ -159,10 +139,10 @@ pub fn of_open(said: Result<Serial, OpenRefusal>) -> Said
     ensures { result ≡ said_of (open_number said) (open_values said) }
 {
     match said {
-        Ok(serial) => one(0, u64::from(serial.0)),
-        Err(OpenRefusal::NoSet) => bare(9),
-        Err(OpenRefusal::SerialEnd) => bare(10),
-        Err(OpenRefusal::NoRoom) => bare(11),
+        Ok(serial) => Said::new(0, &[u64::from(serial.0)]),
+        Err(OpenRefusal::NoSet) => Said::new(9, &[]),
+        Err(OpenRefusal::SerialEnd) => Said::new(10, &[]),
+        Err(OpenRefusal::NoRoom) => Said::new(11, &[]),
     }
 }
 
@@ -171,9 +151,9 @@ pub fn of_feed(said: Result<Advance, FeedRefusal>) -> Said
 {
     match said {
         Ok(advance) => of_advance(advance),
-        Err(FeedRefusal::NoTicket) => bare(12),
-        Err(FeedRefusal::Stale(edition)) => one(13, u64::from(edition.0)),
-        Err(FeedRefusal::Long) => bare(14),
+        Err(FeedRefusal::NoTicket) => Said::new(12, &[]),
+        Err(FeedRefusal::Stale(edition)) => Said::new(13, &[u64::from(edition.0)]),
+        Err(FeedRefusal::Long) => Said::new(14, &[]),
     }
 }
 
@@ -181,8 +161,8 @@ pub fn of_close(said: Result<(), NoTicket>) -> Said
     ensures { result ≡ said_of (close_number said) (close_values said) }
 {
     match said {
-        Ok(()) => bare(0),
-        Err(NoTicket) => bare(12),
+        Ok(()) => Said::new(0, &[]),
+        Err(NoTicket) => Said::new(12, &[]),
     }
 }
 
@@ -190,15 +170,16 @@ pub fn of_take(said: Option<Record>) -> Said
     ensures { result ≡ said_of (take_number said) (take_values said) }
 {
     match said {
-        Some(r) => with(
+        Some(r) => Said::new(
             0,
-            4,
-            u64::from(r.serial.0),
-            u64::from(r.edition.0),
-            u64::from(r.end),
-            u64::from(r.tag.0),
+            &[
+                u64::from(r.serial.0),
+                u64::from(r.edition.0),
+                u64::from(r.end),
+                u64::from(r.tag.0),
+            ],
         ),
-        None => bare(16),
+        None => Said::new(16, &[]),
     }
 }
 
@@ -206,10 +187,16 @@ pub fn of_state(said: StateAnswer) -> Said
     ensures { result ≡ said_of 0 (state_values said) }
 {
     match said {
-        StateAnswer::Never => one(0, 0),
-        StateAnswer::Closed => one(0, 1),
-        StateAnswer::Stale(edition, taken) => three(2, u64::from(edition.0), u64::from(taken)),
-        StateAnswer::Open(edition, taken) => three(3, u64::from(edition.0), u64::from(taken)),
+        StateAnswer::Never => Said::new(0, &[0]),
+        StateAnswer::Closed => Said::new(0, &[1]),
+        StateAnswer::Stale(edition, taken) => Said::new(
+            0,
+            &[2, u64::from(edition.0), u64::from(taken)],
+        ),
+        StateAnswer::Open(edition, taken) => Said::new(
+            0,
+            &[3, u64::from(edition.0), u64::from(taken)],
+        ),
     }
 }
 
@@ -217,8 +204,8 @@ fn of_refusal(why: ReadRefusal) -> Said
     ensures { result ≡ said_of (read_number why) (read_values why) }
 {
     match why {
-        ReadRefusal::Long => bare(14),
-        ReadRefusal::Place => bare(15),
+        ReadRefusal::Long => Said::new(14, &[]),
+        ReadRefusal::Place => Said::new(15, &[]),
     }
 }
 

@@ -10,8 +10,8 @@ returns-in_default c =
     c.saturating_sub-room.ensures c.read_for-scan.result c.read_for-scan.ensures _ c.in_default.is _
     c.damaged.ensures
 
-pub append-records-requires : goal.append-records-requires
-append-records-requires c =
+pub append-requires : goal.append-requires
+append-requires c =
     let a = c.args in
     let w = on-stopped a.desk a.i a.t (lent a.first.now a.second.now) a.piece.now c.requires.1 _
     c.saturating_sub-room.ensures c.read_for-scan.result c.read_for-scan.ensures _ c.in-Ok.is in
@@ -33,7 +33,7 @@ overflow_add-fed c =
 
 pub returns : goal.returns
 returns c =
-    let append = c.append-records in
+    let append = c.append in
     let a = c.args in
     let w = on-stopped a.desk a.i a.t (lent a.first.now a.second.now) a.piece.now c.requires.1 _
     c.saturating_sub-room.ensures c.read_for-scan.result c.read_for-scan.ensures _ c.in-Ok.is in

@@ -9,11 +9,11 @@ loop-j-preserved c =
     let asked = c.requires in
     let l = loop in
     let a = args in
-    rw c.from.ensures (handing_more a.records a.n a.list.now l.q l.list l.j (omega arith)
+    rw c.from.ensures (handing_more a.records.now a.n a.list.now l.records l.list l.j (omega arith)
     (omega (arith, l.invariant.count, asked)) l.invariant)
 
 pub returns : goal.returns
 returns c =
     let l = c.loop-j in
     let a = c.args in
-    handing_end a.records a.n a.list.now l.q l.list l.j (omega arith) l.invariant
+    handing_end a.records.now a.n a.list.now l.records l.list l.j (omega arith) l.invariant
