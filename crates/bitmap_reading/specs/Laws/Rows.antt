@@ -22,8 +22,11 @@ leads_to s table c n m h e k ek =
     let z : m ≡ 0 = omega (arith, (sound s table 0 c n m h e).1) in
     sym e ∙ ap (To n) z ∙ ap (λ (x : ℕ). To x 0) cc
 
+pub leads_nowhere : (s : ℕ) (table : List ℕ) (c : ℕ) → Leads s table c None
+leads_nowhere s table c n e = absurd (let y : ◌≡◌ {A = ℕ} 0 1 = cc in omega arith)
+
 pub row_none : (s : ℕ) (table : List ℕ) → Row s table (replicate 256 None)
-row_none s table c hc n e = absurd (let z : None ≡ Some n = sym (get_or-replicate 256 c None None hc) ∙ e in let y : ◌≡◌ {A = ℕ} 0 1 = cc in omega arith)
+row_none s table c hc = subst (Leads s table c) (sym (get_or-replicate 256 c None None hc)) (leads_nowhere s table c)
 
 pub row_set : (s : ℕ) (table : List ℕ) (row : List (Option ℕ)) (c : ℕ) (v : Option ℕ) → Row s table row → c < length row → Leads s table c v
     → Row s table (set row c v)

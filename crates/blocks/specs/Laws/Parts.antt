@@ -21,6 +21,30 @@ use Rattle.blocks.specs.Running.{Came, Ran}
 use Rattle.blocks.specs.Walking.{Noted, NotedIf}
 use Rattle.blocks.specs.declared.walks.Walked.{Walked}
 
+-- of two, the first; and what is not the first is the second
+pub first_of : (g : ℕ) (a b : List ℕ) → g ≡ 0 → a ≡ get_or (a ∷ b ∷ []) g []
+first_of g a b e = rw e refl
+
+pub second-of : (g : ℕ) (a b : List ℕ) → g < 2 → (g ≡ 0 → ⊥) → b ≡ get_or (a ∷ b ∷ []) g []
+second-of zero a b h n = absurd (n refl)
+second-of (suc zero) a b h n = refl
+second-of (suc (suc g)) a b h n = absurd (omega arith)
+
+-- ---- what is part g's own
+
+module _ (awake : Bool) (g s to : ℕ) (runs : Runs) (table : List ℕ) (et : table ≡ get_or runs g []) (place own : List ℕ) (ep : own ≡ take 8 (drop (g * 8) place))
+    (bytes : List ℕ) where
+  pub own_able : (starts : List ℕ)
+      → (awake ≡ true → steps.Step 1 s (get_or runs g []) (take 128 (drop (g * 128) starts)) (take 8 (drop (g * 8) place)) × ((to ≤ length bytes) × (to ≤ 256)))
+      → awake ≡ true → steps.Step 1 s table (take (g * 128 + 128 - g * 128) (drop (g * 128) starts)) own × ((to ≤ length bytes) × (to ≤ 256))
+  own_able starts able e =
+      let n : g * 128 + 128 - g * 128 ≡ 128 = omega arith in
+      rw (n, et, ep) (able e)
+
+  pub own-noted : (r : Walked 8) (h₀ h : List ℕ) → NotedIf awake (table_step 1 s table) own bytes to r h₀ h
+      → NotedIf awake (table_step 1 s (get_or runs g [])) (take 8 (drop (g * 8) place)) bytes to r h₀ h
+  own-noted r h₀ h n = rw (et, ep) at n
+
 -- ---- one part
 
 module _ (p : Part) (run : List ℕ) (s : ℕ) (starts place : List ℕ) where

@@ -4,8 +4,8 @@ use Rattle.std.proofs.Math.Bool.{true}
 use mathlib.Core.Bool.{true≢false}
 use denote.Ref.{Bor}
 use Rattle.std.proofs.Math.ListN.{length-replicate}
-use mathlib.Core.List.{List, [], ◌++◌, ◌∷◌}
-use Rattle.std.proofs.Common.{◌∙◌, subst, sym, arith, length-append, length-drop, drop_at, drop-drop, length-take-le, take_all, take_at}
+use mathlib.Core.List.{List, [], ◌++◌, ◌∷◌, append-nil}
+use Rattle.std.proofs.Common.{◌∙◌, subst, sym, arith, drop_of_length-le, length-append, length-drop, drop_at, drop-drop, length-take-le, take_all, take_at}
 use Rattle.std.proofs.Math.Path.{ap, refl}
 use Rattle.std.proofs.Math.Seq.{take-take}
 use Rattle.matching.specs.Kinds.{as_read}
@@ -204,6 +204,14 @@ begins-split slots awake a b la lb first second = record { of_part = each; long 
     each zero h e = rw (take_at a b 128 la) (first e)
     each (suc zero) h e = rw (drop_at a b 128 la, take_all 128 b (omega (arith, lb))) (second e)
     each (suc (suc g)) h e = absurd (omega arith)
+
+-- the second written behind the first, in a run of just their numbers
+pub begins-put : (slots : List ℕ) (awake : List Bool) (l a b : List ℕ) → length l ≡ 256 → length a ≡ 128 → length b ≡ 128
+    → (get_or awake 0 false ≡ true → Starts 1 (get_or slots 0 0) a) → (get_or awake 1 false ≡ true → Starts 1 (get_or slots 1 0) b)
+    → Begins split_layout slots awake (take 128 (a ++ drop 128 l) ++ (b ++ drop 128 (drop 128 (a ++ drop 128 l))))
+begins-put slots awake l a b ll la lb first second =
+    let none : drop 128 (drop 128 l) ≡ [] = drop_of_length-le (drop 128 l) {i = 128} (omega (arith, length-drop 128 l, ll)) in
+    rw (take_at a (drop 128 l) 128 la, drop_at a (drop 128 l) 128 la, none, append-nil b) (begins-split slots awake a b la lb first second)
 
 -- ---- both, as the code makes them: for each its starts, or it is still
 
