@@ -4,7 +4,6 @@ use mathlib.Core.List.{List, ◌++◌, map}
 use mathlib.Core.Path.{◌∙◌, ◌≡◌, ap, subst, sym}
 use native.Mathlib.Omega.{arith}
 use lib.ListN.{length, length-replicate, replicate, take}
-use lib.Seq.{length-take-le}
 use Rattle.matching.specs.Kinds.{TagKind, lower}
 use Rattle.kinds.specs.Laws.Folding.{folded_front}
 use Rattle.kinds.specs.Rows.{kinds_taken}
@@ -28,10 +27,6 @@ set_folded set out rest long e = record {
   long = long ∙ length-replicate {A = ℕ} 576 0;
   front = folded_front set out rest e;
 }
-
--- it is lent as far as the set goes
-pub folded_lent : {set out : List ℕ} → Folded set out → length set ≤ 576 → length set ≡ length (take (length set) out)
-folded_lent {set} {out} f h = sym (length-take-le (length set) out (omega (arith, f.long)))
 
 -- ---- a set that was read
 

@@ -4,7 +4,6 @@ use Rattle.tables.specs.declared.BuildFault.TheVariants as B
 use Prim.Native.Nat.{◌+◌, ◌-◌, ◌<◌, ◌≤◌, max, suc, ℕ}
 use mathlib.Core.List.{List}
 use mathlib.Core.Path.{◌∙◌, ◌≡◌, ap, sym}
-use native.Mathlib.Nat.{sub-zero}
 use native.Mathlib.Numerals.{add-one}
 use native.Mathlib.Omega.{arith}
 use Rattle.matching.specs.Laws.Tables.{room_from-next, room_from-short}
@@ -21,9 +20,6 @@ module _ (p : Part) (s : ℕ) (ts : List Word) where
   -- no machine before m is short of slots
   abbrev pub EnoughBefore : ℕ → Type 0
   EnoughBefore m = room_from p.bits s ts 0 p.machines ≡ room_from p.bits s ts m (p.machines - m)
-
-  pub enough-none : EnoughBefore 0
-  enough-none = ap (room_from p.bits s ts 0) (sym (sub-zero p.machines))
 
   module _ (m : ℕ) (low : m < p.machines) (before : EnoughBefore m) (needs : ℕ) (is : needs ≡ states (tags_for p.bits ts m)) where
     one_left : room_from p.bits s ts 0 p.machines ≡ room_from p.bits s ts m (suc (p.machines - (m + 1)))
@@ -62,8 +58,3 @@ module _ (n : ℕ) (ts : List Word) (k : ℕ) where
       let a : k - (m - 1) ≡ suc (k - m) = omega arith in
       let b : suc (m - 1) ≡ m = omega arith in
       rw (ez, a, b, is, e)
-
-  pub most-all : (m most : ℕ) → m ≤ 0 → MostFrom m most → most ≡ most_states n ts 0 k
-  most-all m most h e =
-      let z : m ≡ 0 = omega arith in
-      e ∙ ap (λ (i : ℕ). most_states n ts i (k - i)) z ∙ ap (most_states n ts 0) (sub-zero k)

@@ -99,10 +99,6 @@ pub laid_none : (n s : ℕ) (ts : List Word) (mark : ℕ → Word → ℕ) (l : 
 unfolding laid
 laid_none n s ts mark l = record { place = sym (zero-mul (s * slot_size n)); is = refl; long = refl }
 
-pub size_fits : {part : Part} → Shaped part → (s len : ℕ) → part.machines * (s * (part.letters + 1)) ≤ len → s * (part.letters + 1) ≤ len
-size_fits {part} shaped s len h =
-    omega (arith, mul-le-mul_right {m = 1} {n = part.machines} (s * (part.letters + 1)) shaped.slicing.machines)
-
 module _ {part : Part} (shaped : Shaped part) {s : ℕ} {ts : List Word} {mark : ℕ → Word → ℕ} {m at : ℕ} {l₀ l : List ℕ}
     (L : Laid part.bits s ts mark m at l₀ l) where
   size_is : s * (part.letters + 1) ≡ s * slot_size part.bits
@@ -169,9 +165,6 @@ module _ {part : Part} (shaped : Shaped part) {s : ℕ} {ts : List Word} {mark :
                 L.long,
               );
         }
-
-    pub laid_asks : states (tags_for part.bits ts m) * (part.letters + 1) ≤ length (take (at + s * (part.letters + 1) - at) (drop at l))
-    laid_asks = rw part-long (mul-le-mul_right (part.letters + 1) few)
 
     pub laid_more : (ys : List ℕ) → length ys ≡ length (take (at + s * (part.letters + 1) - at) (drop at l))
         → Marked (tags_for part.bits ts m) (mark m) part.letters ys

@@ -2,12 +2,11 @@
 use Prim.Native.Nat.{◌*◌, ◌+◌, ◌-◌, ◌/◌, ◌<◌, ◌^◌, ◌≤◌, suc, zero, ℕ}
 use mathlib.Core.List.{List, [], ◌∷◌, map}
 use mathlib.Core.Path.{◌∙◌, ◌≡◌, ap, fun_ext, subst, sym}
-use native.Mathlib.Nat.{mod-lt, mul-le-mul_left, mul-le-mul_right, mul-zero, suc-mul}
+use native.Mathlib.Nat.{mod-lt, mul-le-mul_right, mul-zero}
 use native.Mathlib.Omega.{arith}
 use lib.Bits.{and_mask}
-use lib.ListN.{length, length-map, length-replicate, replicate, take}
+use lib.ListN.{length, length-map, take}
 use lib.Pow.{pow_mono}
-use lib.Seq.{length-take-le}
 use Rattle.machines.specs.Letters.{letter_by}
 use Rattle.machines.specs.Rows.{Filled, Fit, Roomy}
 use Rattle.matching.specs.Laws.Slots.{slots-fit}
@@ -48,12 +47,6 @@ module _ {bytes : List ℕ} {own : Chosen} {ts : List Word} (tagged : Tagged byt
   pub fits-to : own.count ≤ length own.to
   fits-to = omega (arith, own-few, tagged.roomy.to)
 
-  pub lent-from : own.count ≡ length (own_begins own)
-  lent-from = sym (length-take-le own.count own.from fits-from)
-
-  pub lent-to : own.count ≡ length (own_ends own)
-  lent-to = sym (length-take-le own.count own.to fits-to)
-
 -- ---- the slices of a part
 
 module _ {part : Part} (shaped : Shaped part) where
@@ -67,9 +60,6 @@ module _ {part : Part} (shaped : Shaped part) where
   pub bits-few : part.bits ≤ 8
   bits-few = omega (arith, shaped.slicing.byte, mul-le-mul_right {m = 1} {n = part.machines} part.bits shaped.slicing.machines)
 
-  pub machines-few : part.machines ≤ 8
-  machines-few = omega (arith, shaped.slicing.byte, mul-le-mul_left {m = 1} {n = part.bits} part.machines bits-some)
-
   pub letters-few : part.letters ≤ 256
   letters-few = omega (arith, shaped.letters, pow_mono {i = part.bits} {j = 8} bits-few)
 
@@ -81,16 +71,6 @@ module _ {part : Part} (shaped : Shaped part) where
   slots-room len s e = rw (e, shaped.letters) (slots-fit part.bits part.machines len)
 
   module _ (m : ℕ) (low : m < part.machines) where
-    pub shift_small : m * part.bits < 8
-    shift_small =
-        omega (
-          arith,
-          shaped.slicing.byte,
-          bits-some,
-          suc-mul m part.bits,
-          mul-le-mul_right {m = suc m} {n = part.machines} part.bits low,
-        )
-
     letter_slice : (c : ℕ) → letter_by (m * part.bits) part.mask c ≡ slice part.bits m c
     unfolding slice
     letter_slice c =
@@ -135,7 +115,3 @@ module _ {part : Part} (shaped : Shaped part) where
       pub seen_filled : (l : List ℕ) → Filled (own_words (take (length bytes) out) own) part.letters l
           → Filled (tags_for part.bits words m) part.letters l
       seen_filled l f = subst (λ (ts : List Word). Filled ts part.letters l) seen f
-
--- the letters are lent as they were spelled, at the front of 576 places
-pub spelled_long : (n : ℕ) (out : List ℕ) → n ≤ 576 → length out ≡ length {A = ℕ} (replicate 576 0) → n ≡ length (take n out)
-spelled_long n out h e = sym (length-take-le n out (omega (arith, e, length-replicate {A = ℕ} 576 0)))
