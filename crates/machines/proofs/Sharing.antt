@@ -80,9 +80,6 @@ unfolding known
 known_cons u us w = refl
 
 module _ (ts : List Word) (t : ℕ) (h : t < length ts) where
-  pub known_start : known (take t ts) (get_or ts t []) ≡ max 0 (known (drop 0 (take t ts)) (get_or ts t []))
-  known_start = omega arith
-
   pub known_more : (i most more z : ℕ) (v u : Word) → i < t → v ≡ get_or ts t [] → u ≡ get_or ts i [] → z ≡ shared v u → more ≡ max most z
       → max most (known (drop i (take t ts)) (get_or ts t [])) ≡ max more (known (drop (i + 1) (take t ts)) (get_or ts t []))
   known_more i most more z v u k ev eu ez em =

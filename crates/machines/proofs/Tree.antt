@@ -197,11 +197,6 @@ module _ {ts : List Word} {m t count : ℕ} {l₀ : List ℕ} (p : Planting ts m
 pub roomy-same : {ts : List Word} {m a b : ℕ} → Roomy ts m a → b ≡ a → Roomy ts m b
 roomy-same r e = record { low = r.low; small = r.small; room = rw e r.room }
 
-pub plant_again : {ts : List Word} {m t₀ t count₀ count : ℕ} {l₀ l : List ℕ} → Planting ts m t₀ count₀ l₀ → length l ≡ length l₀
-    → Planted (take t ts) m count l → Planting ts m t count l
-plant_again {ts} {m} p e q =
-    record { fit = p.fit; roomy = roomy-same p.roomy e; planted = q }
-
 pub plant_all : (ts : List Word) (t : ℕ) {m count : ℕ} {l : List ℕ} → length ts ≤ t → Planted (take t ts) m count l → Planted ts m (states ts) l
 plant_all ts t {m} {count} {l} h p =
     let q : Planted ts m count l = subst (λ (us : List Word). Planted us m count l) (take_all t ts h) p in
