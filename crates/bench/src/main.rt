@@ -62,33 +62,20 @@ fn replaced(
     Desk::new().replace(bytes, first, second)
 }
 
-// The desk after a piece, and whether there may be more.
-#[derive(Drop)]
-struct Turn {
-    desk: Desk,
-    more: bool,
-}
-
-// Reads a piece of at most 4,096 bytes and feeds it.
+// Reads a piece of at most 4,096 bytes and feeds it; whether there may be more.
 fn next_piece(
     file: &mut File,
-    desk: Desk,
+    desk: &mut Desk,
     serial: Serial,
     first: &[u16; 11496],
     second: &[u16; 11496],
     out: &mut Buffer,
-) -> Turn {
+) -> bool {
     let mut piece = [0u8; 4096];
     let n = read_full(file, &mut piece);
-    if n == 0 {
-        return Turn { desk, more: false };
-    }
-    let fed = serving::feed_piece(desk, serial, first, second, &piece[..n], out);
-    let next = fed.desk;
-    Turn {
-        desk: next,
-        more: fed.taken == n,
-    }
+    let fed = serving::feed_piece(*desk, serial, first, second, &piece[..n], out);
+    *desk = fed.desk;
+    0 < n && fed.taken == n
 }
 
 // The bytes taken by the one ticket, whose room is the first.
@@ -110,10 +97,7 @@ fn feed_all(
 ) {
     let mut now = desk;
     for _ in 0..u64::MAX {
-        let turn = next_piece(file, now, serial, first, second, out);
-        let next = turn.desk;
-        now = next;
-        if !turn.more {
+        if !next_piece(file, &mut now, serial, first, second, out) {
             return serving::lines::put_taken(out, taken_in_all(now));
         }
     }

@@ -41,7 +41,8 @@ fn feed_rest(
     }
 }
 
-// Feeds until the piece is taken, or a feed takes nothing: LONG is refused before the first byte.
+// Feeds until the piece is taken, or a feed takes nothing: LONG is refused before the first byte. A while, since a step is what a feed
+// took: a for's step is 1.
 pub fn feed_piece(
     desk: Desk,
     serial: Serial,
