@@ -6,7 +6,8 @@ use Rattle.desk.specs.Numbers.{state_values, stop_number, take_number, take_valu
 use Rattle.desk.specs.declared.StateAnswer.{StateAnswer}
 use Rattle.numbers.specs.declared.Answer.{Answer}
 use Rattle.numbers.specs.declared.Said.{Said}
-use Rattle.reading.specs.Outside.{Ending, read_number, read_values}
+use Rattle.reading.specs.Outside.{Ending, read_values}
+pub use Rattle.reading.specs.Refusals.{ending_number}
 use Rattle.reading.specs.declared.Answer.{Answer as Read}
 use Rattle.tables.specs.Building.{built_number, built_values, needed_number, needed_values}
 use Rattle.tables.specs.Building.{Built}
@@ -58,10 +59,6 @@ abbrev pub state_answer : StateAnswer → Answer
 state_answer r = answer_of 0 (state_values r)
 
 -- a read outside: the bytes taken, why it stopped, the records written, and what else its layout tells
-abbrev pub ending_number : Ending → ℕ
-ending_number (Ok stop) = 0
-ending_number (Err why) = read_number why
-
 abbrev pub ending_with : List ℕ → ℕ → ℕ → Ending → List ℕ
 ending_with more count records (Ok stop) = count ∷ stop_number stop ∷ records ∷ more
 ending_with more count records (Err why) = read_values why
