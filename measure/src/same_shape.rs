@@ -1,5 +1,5 @@
-// Our engines' shapes written in Rust, function for function: what the proved code is held against. CHECKED says whether each
-// index is tested, as Rust's own indexing does, or not, as the proved code need not.
+// Our engines' shapes written in Rust, function for function as they were divided before docs/DESIGN-PASS.md: what the proved code
+// is held against. CHECKED says whether each index is tested, as Rust's own indexing does, or not, as the proved code need not.
 use crate::engine::{Engine, Out};
 use crate::ours::{self, SplitTables, BITMAP_SLOT, WHOLE_SLOT};
 use crate::same_shape_bitmap::on_bitmap;
