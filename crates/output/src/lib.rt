@@ -39,13 +39,6 @@ impl Buffer {
     pub fn put_words(&mut self, words: &[u8])
         ensures { Puts self.old words.now self.new }
     {
-        let used = self.used;
-        if used < SIZE && words.len() < SIZE - used {
-            let end = used + words.len();
-            self.bytes[used..end].copy_from_slice(words);
-            self.used = end;
-            return;
-        }
         for byte in words {
             self.put_byte(*byte);
         }

@@ -1,8 +1,6 @@
 -- What is put waits behind what waited.
-use Rattle.std.specs.Prelude.{ℕ, zero, suc, ◌+◌, ◌<◌, ◌≤◌, length, get_or, set, take, ltb, Bool, true, false, List, [], ◌∷◌, ◌++◌, ◌≡◌, refl}
-use Rattle.std.proofs.Common.{lt-ltb, le-ltb, ltb-true, length-set, take-suc, take-suc-set, take_all, append-nil, append_assoc, sym, ap, ◌∙◌, add-zero, add-one, add_assoc, arith}
-use Rattle.std.proofs.Math.Seq.{paste}
-use Rattle.std.proofs.lemmas.List.Edits.{paste_none, paste_more}
+use Rattle.std.specs.Prelude.{ℕ, ◌+◌, ◌<◌, ◌≤◌, length, get_or, set, take, ltb, Bool, true, false, List, [], ◌∷◌, ◌++◌, ◌≡◌, refl}
+use Rattle.std.proofs.Common.{lt-ltb, le-ltb, ltb-true, length-set, take-suc, take-suc-set, take_all, append-nil, append_assoc, sym, ap, ◌∙◌, add-one, arith}
 use Rattle.output.specs.declared.Buffer.{Buffer}
 use Rattle.output.specs.Buffer.{buffer, waiting, put_by, put_byte, put_bytes, Puts, handed, handed_by}
 
@@ -34,19 +32,6 @@ put_next xs i h p q = rw (add-one i, take-suc xs i 0 h) (put_then p q)
 
 pub put_all : {b c : Buffer} (xs : List ℕ) (i : ℕ) → length xs ≤ i → Puts b (take i xs) c → Puts b xs c
 put_all xs i h p = rw (take_all i xs h) at p
-
--- bytes that all have room stand behind those that wait
-pub put_room : (b : Buffer) (xs : List ℕ) → length b.bytes ≡ 65536 → b.used + length xs ≤ 65536
-    → Puts b xs (buffer (paste b.bytes b.used xs (length xs)) (b.used + length xs))
-put_room b xs long room = put_all xs (length xs) (omega arith) (first (length xs) (omega arith))
-  where
-    first : (i : ℕ) → i ≤ length xs → Puts b (take i xs) (buffer (paste b.bytes b.used xs i) (b.used + i))
-    first zero h = rw (← paste_none b.bytes b.used xs, add-zero b.used) (put-none b)
-    first (suc i) h =
-        let before = buffer (paste b.bytes b.used xs i) (b.used + i) in
-        let next : Puts b (take (i + 1) xs) (buffer (set before.bytes before.used (get_or xs i 0)) (before.used + 1)) =
-        put_next xs i (omega arith) (first i (omega arith)) (put-with-room before (get_or xs i 0) (omega arith)) in
-        rw (← add-one i, ← paste_more b.bytes b.used xs i 0 (omega arith) (omega arith), ← add_assoc b.used i 1) next
 
 -- one byte: what is handed out and what waits is what waited, and the byte
 put_in_order : (b : Buffer) (x : ℕ) → length b.bytes ≡ 65536 → handed_by b (ltb b.used 65536) ++ waiting (put_byte b x) ≡ waiting b ++ (x ∷ [])
