@@ -3,7 +3,8 @@
 // A line is made of its answer's number and values, those that C and Rust get (`answer_line` of specs/Answers.antt, which docs/PROMISES.md
 // names): so each function asks that number whether the call was refused, and `put_stop` takes a stop by its number. The text is put by
 // words and numbers and not by `write!`: of what `write!` writes std promises something on Ok alone, and that it is Ok nowhere, while these
-// functions promise their lines on every input.
+// functions promise their lines on every input. `read_lines` and `map_lines` stay two, since their lines are told by different numbers and
+// values; what they share is `put_read`, `put_place` and `refused`.
 #![tactic(auto, using(output::specs::Laws::Waiting::put_append), unfolding(output::specs::Buffer::put_bytes))]
 
 mod show;

@@ -20,6 +20,8 @@ pub fn put_blank_number(out: &mut Buffer, n: u64)
     out.put_number(n);
 }
 
+// Two, for numbers of 16 bits and of 32: over any T with `u64: From<T>` the clause would have to speak of what `from` gives for each number
+// of a list, and a law would have to take that back for each T, so one generic function is no plainer than a second loop of one line.
 #[tactic(auto, unfolding(output::specs::Buffer::put_bytes, crate::specs::Answers::listed))]
 pub fn put_numbers(out: &mut Buffer, numbers: &[u16])
     ensures { Puts out.old (listed [] numbers.now) out.new }

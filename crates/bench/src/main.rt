@@ -18,7 +18,8 @@ fn new_table() -> [u16; 11496]
     [0u16; 11496]
 }
 
-// Reads until the bytes are full, the file ends or a read fails; how many of them were read.
+// Reads until the bytes are full, the file ends or a read fails; how many of them were read. A while, since a step is what a read gave; and by
+// hand, since std's `read_exact` takes a short file for an error.
 fn read_full(file: &mut File, bytes: &mut [u8]) -> usize
     ensures { result ≤ length bytes.new }
 {

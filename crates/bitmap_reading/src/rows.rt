@@ -10,7 +10,8 @@ use bitmap::slots::Slot;
 // The state that each byte leads to from state 0; none, where a number on its way is wrong.
 pub type Leading = [Option<u16>; 256];
 
-// Where a walk stands: the byte, the state then, and the failure moves up to it.
+// Where a walk stands: the byte, the state then, and the failure moves up to it. Apart from passing's `Came`, which has no moves: a generic one
+// would be a pair with a byte.
 #[derive(Clone, Copy)]
 pub struct Came {
     pub at: usize,

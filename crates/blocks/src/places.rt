@@ -1,7 +1,7 @@
 // A place of the split layout has the states of eight machines for each part, one part behind the other.
 ghost use Rattle.std.specs.Prelude.{◌≡◌, ◌++◌, ◌*◌, ◌<◌, drop, take};
 
-// The states of part g.
+// The states of part g, by number: `split_layout` is a list of parts.
 pub fn part_of(place: [usize; 16], g: usize) -> [usize; 8]
     requires { g < 2 }
     ensures { result ≡ take 8 (drop (g * 8) place) }

@@ -10,7 +10,8 @@ use crate::tables::BitTable;
 use passing::places::all_below;
 use passing::steps::Machines;
 
-// How far a walk of N machines came, the place there if that is the end, and whether something was noted.
+// How far a walk of N machines came, the place there if that is the end, and whether something was noted. `loud` is a flag and no Option of the
+// notes: these are lent by the reading, which has them once for all blocks (fixed memory).
 #[derive(Clone, Copy)]
 pub struct Walked<const N: usize> {
     pub at: usize,

@@ -70,6 +70,9 @@ impl State {
     }
 }
 
+// The three reads stay three: each calls another function, whose place is 16 numbers, one, or one with its moves; what they share is `fill`
+// and the lines.
+
 // A list before a read: each of its numbers is 7.
 fn fill(list: &mut [u32])
     ensures { list.new ≡ sevens (length list.old) }

@@ -17,6 +17,7 @@ pub fn new_ticket(serial: Serial, edition: Edition) -> Ticket
     }
 }
 
+// No Option of a serial: a free room is wanted, and not nothing.
 #[derive(Clone, Copy)]
 pub enum Wanted {
     Free,

@@ -69,7 +69,7 @@ pub struct TakenMany {
     pub count: u64,
 }
 
-// A read outside the desk: its answer, and the place after it.
+// A read outside the desk: its answer, and the place after it. Three types, since C has a name for each (include/sleet.h).
 #[repr(C)]
 #[derive(Drop)]
 pub struct SplitReply {

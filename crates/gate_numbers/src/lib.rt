@@ -1,4 +1,4 @@
-// The gate's answers as numbers. What its replacing and its beginning answer is the desk's.
+// The gate's answers as numbers. What its replacing and its beginning answer is the desk's. Functions and no `From`s, as in `numbers`.
 #![tactic(auto)]
 
 ghost use Rattle.std.specs.Prelude.{◌≡◌};

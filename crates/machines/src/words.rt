@@ -25,7 +25,8 @@ fn agrees(word: &[u8], tag: &[u8], i: usize) -> bool
     word[word.len() - 1 - i] == tag[tag.len() - 1 - i]
 }
 
-// Whether a tag ends a word. Most tags differ from it in one of the last letters, and so these are compared first.
+// Whether a tag ends a word. Most tags differ from it in one of the last letters, and so these are compared first: with the library's
+// `ends_with`, which was tried, building takes a tenth more instructions.
 pub fn tag_ends(word: &[u8], tag: &[u8]) -> bool
     ensures { result ≡ ends tag.now word.now }
 {

@@ -1,4 +1,5 @@
-// Answers as numbers: 0 and what the call gives, or the refusal's number and what is returned with it.
+// Answers as numbers: 0 and what the call gives, or the refusal's number and what is returned with it. Functions and no `From`s: a read is told
+// by more than one value, and what a `From` promises stands in a ghost member of its impl, where these clauses are read at the function.
 #![tactic(auto)]
 
 ghost use Rattle.std.specs.Prelude.{◌≡◌, [], ◌∷◌};

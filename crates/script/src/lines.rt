@@ -19,7 +19,9 @@ fn keep(line: &mut [u8], n: usize, more: &[u8]) -> usize
     n + fits
 }
 
-// What a piece of the script adds to the line at hand: how many of its bytes are kept, how many of the piece are passed, and whether the line has ended.
+// What a piece of the script adds to the line at hand: how many of its bytes are kept, how many of the piece are passed, and whether the line
+// has ended.
+// `ended` is no Option around the rest: both counts hold either way.
 #[derive(Drop)]
 pub struct Part {
     pub kept: usize,

@@ -42,7 +42,7 @@ fn feed_rest(
 }
 
 // Feeds until the piece is taken, or a feed takes nothing: LONG is refused before the first byte. A while, since a step is what a feed
-// took: a for's step is 1.
+// took: a for's step is 1. The gate has the same steps (gate/src/feeding.rt says why there are two).
 pub fn feed_piece(
     desk: Desk,
     serial: Serial,

@@ -113,7 +113,7 @@ pub fn build_split(set: &[u8], first: &mut [u16], second: &mut [u16]) -> Result<
     build_split_if(set, first, second, true)
 }
 
-// The whole-byte table of a set, of exact tags alone. It stands beside `build_split_if` since C calls each, and they are lent other runs.
+// The whole-byte table of a set, of exact tags alone. It stands beside `build_split_if`: docs/PROMISES.md names both, and they are lent other runs.
 pub fn build_whole(set: &[u8], table: &mut [u16]) -> Result<usize, BuildFault>
     ensures answer { result ≡ built_of whole_layout set.now (length table.old ∷ []) }
     ensures left { table.new ∷ [] ≡ tables_of whole_layout set.now (table.old ∷ []) }
@@ -135,7 +135,7 @@ pub fn slots_needed(set: &[u8]) -> Result<Needed, SetFault>
     })
 }
 
-// The slots that the whole-byte table needs for a set; or its fault.
+// The slots that the whole-byte table needs for a set; or its fault. Named beside `slots_needed` in docs/PROMISES.md, for other runs.
 pub fn whole_slots_needed(set: &[u8]) -> Result<Needed, SetFault>
     ensures { result ≡ needed_of whole_layout set.now }
 {
