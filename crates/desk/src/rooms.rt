@@ -17,6 +17,7 @@ pub fn new_ticket(serial: Serial, edition: Edition) -> Ticket
     }
 }
 
+// An enum and no closure: each caller's proof names the room that it finds by one test of these two, whatever code makes it.
 // No Option of a serial: a free room is wanted, and not nothing.
 #[derive(Clone, Copy)]
 pub enum Wanted {

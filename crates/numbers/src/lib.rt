@@ -1,5 +1,6 @@
-// Answers as numbers: 0 and what the call gives, or the refusal's number and what is returned with it. Functions and no `From`s: a read is told
-// by more than one value, and what a `From` promises stands in a ghost member of its impl, where these clauses are read at the function.
+// Answers as numbers: 0 and what the call gives, or the refusal's number and what is returned with it. A function for each call and no From:
+// what an Option of a record or a Result without a value says depends on the call; and the gate's answers, Results too, are told in a crate
+// above this one, where neither side of a From would be of the crate itself.
 #![tactic(auto)]
 
 ghost use Rattle.std.specs.Prelude.{◌≡◌, [], ◌∷◌};
