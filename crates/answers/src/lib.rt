@@ -97,8 +97,8 @@ pub fn closed(out: &mut Buffer, serial: u32, answer: Result<(), NoTicket>)
 fn put_held(out: &mut Buffer, words: &[u8], edition: Edition, count: u32)
     ensures { Puts out.old (held_part words.now edition count) out.new }
 {
-    put_numbered(out, words, edition.0 as u64);
-    put_blank_number(out, count as u64);
+    put_numbered(out, words, u64::from(edition.0));
+    put_blank_number(out, u64::from(count));
     out.put_line_end();
 }
 
@@ -116,7 +116,7 @@ fn put_state(out: &mut Buffer, answer: StateAnswer)
 pub fn told(out: &mut Buffer, serial: u32, answer: StateAnswer)
     ensures { Puts out.old (state_line serial answer) out.new }
 {
-    put_numbered(out, b"state ", serial as u64);
+    put_numbered(out, b"state ", u64::from(serial));
     put_state(out, answer);
 }
 

@@ -32,7 +32,7 @@ fn low(word: u16, k: usize) -> u16
 impl<'a> Slot<'a> {
     // Number j of the slot.
     pub fn number(&self, j: usize) -> u16
-        requires { j < 19 }
+        requires { self.now.state * 19 + j < length self.now.table.now }
         ensures { result ≡ number_at self.now.table.now self.now.state j }
     {
         self.table[self.state * 19 + j]

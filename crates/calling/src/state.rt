@@ -5,7 +5,8 @@ use desk::Desk;
 use output::Buffer;
 
 // The set is the first `held` bytes of its buffer, the first `first_lent` numbers of the first table and the first `second_lent` of the
-// second are lent, the list takes what a read outside the desk finds, and each call puts its answer into `out`.
+// second are lent, the list takes what a read outside the desk finds, and each call puts its answer into `out`. No heap: each buffer is an
+// array, and how much of it counts stands beside it.
 #[derive(Drop)]
 pub struct State {
     pub desk: Desk,

@@ -14,7 +14,7 @@ use tagset::Words;
 
 mod counting;
 mod filling;
-mod planting;
+pub mod planting;
 mod words;
 
 // What a machine sees of a byte.

@@ -11,7 +11,7 @@ const SIZE: usize = 65536;
 // The descriptor of standard output.
 const STDOUT: i32 = 1;
 
-// The first `used` bytes wait: all of them where `used` is more than there are.
+// The first `used` bytes wait: all of them where `used` is more than there are. An array and a count, since nothing here takes memory.
 #[derive(Drop)]
 pub struct Buffer {
     pub bytes: [u8; 65536],

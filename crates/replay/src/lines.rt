@@ -1,5 +1,5 @@
 // The lines of the input, read piece by piece.
-ghost use Rattle.std.specs.Prelude.{◌≤◌};
+ghost use Rattle.std.specs.Prelude.{◌≡◌, ◌≤◌, take};
 
 use std::io::{Error, Read};
 
@@ -59,7 +59,9 @@ impl Lines {
     }
 
     // The first n bytes of the line read last.
-    pub fn line(&self, n: usize) -> &[u8] {
+    pub fn line(&self, n: usize) -> &[u8]
+        ensures { result.now ≡ take n self.now.line }
+    {
         &self.line[..n.min(self.line.len())]
     }
 }
