@@ -1,6 +1,8 @@
 -- What is known of the tags of a set.
+use Rattle.std.specs.Coded.{×_prop, Unit-prop, le_prop}
 use Rattle.std.specs.Prelude.{ℕ, suc, ◌<◌, ◌≤◌, Bool, false, ◌↔◌, ◌⊎◌, ◌≡◌, refl, get_or, length, take}
 use Rattle.std.proofs.Math.Bool.{true}
+use Rattle.std.proofs.Props.{props}
 use mathlib.Core.List.{List, Memᴰ, [], ◌∷◌, map}
 use Rattle.std.proofs.Common.{inl, inr, ◌∙◌, ap₂, sym, zero-add, arith, ltb→lt, lt→ltb}
 use Rattle.std.proofs.Math.Path.{ap, fun_ext, subst}
@@ -17,7 +19,7 @@ use Rattle.matching.specs.Limits.{longest_tag, most_tags}
 use Rattle.matching.specs.Occurrence.{Ordered, numbers_where, occurrences_by, occurrences_from, tags_ending}
 use Rattle.matching.specs.Tags.{AllLawful, LawfulTags, Tag, Tags, chosen, ends_by, exact, exact_tag, found_from, found_in, is_kind, no_tag, of_kind}
 use Rattle.matching.specs.Tags.{tag_count, tag_ends, tags_at, word_as}
-use Rattle.matching.specs.Words.{AllBelow, AllShort, Lawful, Word, ends}
+use Rattle.matching.specs.Words.{AllBelow, AllShort, Below, Lawful, Word, ends}
 
 -- ---- tags that are matched byte for byte: what is found of them is what is found of their words
 
@@ -139,3 +141,17 @@ module _ (tags : Tags) where
     λ m. (let h = (found_iff (tags_at tags) w e i).0 m in (h.0, h.1, (at_iff (take e w) i).0 h.2)),
     λ h. (found_iff (tags_at tags) w e i).1 (h.0, h.1, (at_iff (take e w) i).1 h.2),
   )
+
+-- ---- that tags are lawful is said in one way only
+
+below_prop : (m : ℕ) (l : List ℕ) → IsProp (Below m l)
+below_prop m [] = Unit-prop
+below_prop m (x ∷ l) = ×_prop le_prop (below_prop m l)
+
+all_lawful_prop : (tags : Tags) → IsProp (AllLawful tags)
+all_lawful_prop [] = Unit-prop
+all_lawful_prop (t ∷ tags) = ×_prop (hlevel (props, below_prop 256 t.word)) (all_lawful_prop tags)
+
+pub lawful_tags_prop : (tags : Tags) → IsProp (LawfulTags tags)
+unfolding LawfulTags
+lawful_tags_prop tags = ×_prop le_prop (all_lawful_prop tags)
