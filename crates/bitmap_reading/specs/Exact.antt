@@ -6,7 +6,7 @@ use borrow.Author.Tests.{le-ltb, lt-ltb, ltb-false, ltb-true}
 use Rattle.matching.specs.Refusal.{first_of}
 use Rattle.matching.specs.Stepping.{OutcomeOf, goes_to, is_damaged}
 use Rattle.matching.specs.Words.{Word}
-use Rattle.reading.specs.Laws.Outside.{KeptBy, answer-number, answer-refused, by_grounds, by_keeps, by-long_iff, by_number, by-place_iff}
+use Rattle.reading.specs.Laws.Outside.{KeptBy, answer-number, answer-refused, by_grounds, by_keeps, by-long_iff, by_number, by-place_iff, number_by}
 use Rattle.reading.specs.Outside.{Ending, ReadAt, list_by, read_to, refused_read}
 use Rattle.reading.specs.Refusals.{RefusedWith, ending_number, read_grounds}
 use Rattle.reading.specs.declared.ReadRefusal.{ReadRefusal}
@@ -22,6 +22,13 @@ use Rattle.matching.specs.Reading.{ones_of}
 use Rattle.bitmap.specs.Steps.{Step, Wrong, step, vector_at}
 use Rattle.bitmap.specs.Ways.{Way}
 use Rattle.bitmap.specs.Laws.Ways.{way_iff}
+
+-- the answer names the refusal, and their number is that of the read, as in every layout
+map-refused_iff : (place : ℕ) (r : ReadAt Standing) (why : ReadRefusal) → ((map_by place r).ending ≡ Err why) ↔ (r ≡ refused_read why)
+map-refused_iff place r why = answer-refused (λ p. p) (record { state = place; moves = 0 }) r why
+
+map-number : (place : ℕ) (r : ReadAt Standing) → ending_number (map_by place r).ending ≡ number_by r
+map-number place r = answer-number (λ p. p) (record { state = place; moves = 0 }) r
 
 module _ (table : List ℕ) (place count : ℕ) (piece : Word) (len : ℕ) where
   abbrev slots : ℕ

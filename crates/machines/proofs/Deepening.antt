@@ -12,6 +12,7 @@ use Rattle.machines.proofs.Growing.{states-small}
 use Rattle.machines.proofs.Levels.{at_low, fail-low, gone_on, level-end, level-known, level-made, level_skip, level-start, q-low, x-low}
 use Rattle.machines.proofs.Lows.{all-at, below_at, short-at}
 use Rattle.machines.proofs.Making.{first-low}
+use Rattle.machines.proofs.Tree.{roomy-same}
 use Rattle.machines.specs.Rows.{Filled, Filling, Fit, Level, Made, Planted, Roomy, Started, cell, no_walk}
 use Rattle.machines.specs.declared.filling.Walk.{Walk}
 use Rattle.matching.specs.Machine.{states, vector}
@@ -68,3 +69,20 @@ module _ {ts : List Word} {m len : ℕ} (fit : Fit ts) (roomy : Roomy ts m len) 
 
   pub fill_end : {d t : ℕ} {walks : List Walk} {l : List ℕ} → 32 ≤ d → Level ts m d t walks l → Filled ts m l
   fill_end {d} {t} {walks} {l} h L = level-end ts m d t walks l L (λ u. omega (arith, short-at 32 ts u fit.short))
+
+-- ---- a level on its way, from its parts
+-- Laws that the pages name, though no proof needs them any more.
+
+pub filling_again : {ts : List Word} {m d₀ t₀ d t : ℕ} {walks₀ walks : List Walk} {l₀ l : List ℕ} → Filling ts m d₀ t₀ walks₀ l₀
+    → length l ≡ length l₀ → Level ts m d t walks l → Filling ts m d t walks l
+filling_again {ts} {m} F el L =
+    record {
+      fit = F.fit;
+      roomy = roomy-same F.roomy el;
+      level = L;
+    }
+
+module _ {ts : List Word} {m len : ℕ} (fit : Fit ts) (roomy : Roomy ts m len) where
+  pub filling_on : {d t : ℕ} {walks : List Walk} {l : List ℕ} → length l ≡ len → Level ts m d t walks l → Filling ts m d t walks l
+  filling_on e L =
+      record { fit = fit; roomy = roomy-same roomy e; level = L }

@@ -1,12 +1,13 @@
 -- Letters, and the test whether a tag ends a word.
 use Prim.Native.Nat.{suc, ℕ, ◌*◌, ◌+◌, ◌-◌, ◌<◌, ◌≤◌}
 use mathlib.Core.Bool.{Bool, cond, false, true, ◌&&◌}
-use mathlib.Core.List.{List, [], append-nil, append_assoc, ◌++◌, ◌∷◌}
+use mathlib.Core.List.{List, [], append-nil, append_assoc, map, ◌++◌, ◌∷◌}
 use mathlib.Core.Path.{ap, ap₂, refl, subst, sym, ◌∙◌, ◌≡◌}
+use native.Mathlib.Numerals.{add-one}
 use native.Mathlib.Omega.{arith}
-use lib.ListN.{drop, drop_of_length-le, get_or, get_or-append, length, length-append, length-drop, take}
+use lib.ListN.{drop, drop_of_length-le, get_or, get_or-append, length, length-append, length-drop, set, take}
 use lib.Pow.{pow_mono}
-use lib.Seq.{append_snoc, drop-cons, get_or-append_seam, take-length, take-suc, take_all}
+use lib.Seq.{append_snoc, drop-cons, get_or-append_seam, get_or-drop, take-length, take-suc, take-suc-set, take_all}
 use Rattle.matching.specs.Laws.Bools.{and_both, and_l, and_r, both_ways, is_false}
 use Rattle.matching.specs.Laws.Vectors.{vector_lt}
 use Rattle.matching.specs.Laws.Words.{drop-ends, ends-drop, ends-split, ends_append}
@@ -140,3 +141,54 @@ ends-none w t =
 
 pub ends-whole : (w t : Word) (i : ℕ) → length t ≤ i → ends (drop (length t - i) t) w ≡ ends t w
 ends-whole w t i h = let e : length t - i ≡ 0 = omega arith in rw e
+
+-- ---- spelling, and words compared from the end
+-- Laws that the pages name, though no proof needs them any more.
+
+map_snoc : (f : ℕ → ℕ) (w : List ℕ) (x : ℕ) → map f (w ++ x ∷ []) ≡ map f w ++ f x ∷ []
+map_snoc f [] x = refl
+map_snoc f (y ∷ w) x = ap (λ (l : List ℕ). f y ∷ l) (map_snoc f w x)
+
+pub spell_more : (f : ℕ → ℕ) (s out : List ℕ) (i z : ℕ) → i < length s → i < length out → z ≡ f (get_or s i 0) → take i out ≡ map f (take i s)
+    → take (i + 1) (set out i z) ≡ map f (take (i + 1) s)
+spell_more f s out i z h k e each =
+    rw (add-one i, take-suc s i 0 h, map_snoc f (take i s) (get_or s i 0), ← e, ← each) (take-suc-set out i z k)
+
+pub spell_end : (f : ℕ → ℕ) (s out : List ℕ) (i : ℕ) → i ≤ length s → length s ≤ i → take i out ≡ map f (take i s) → take (length s) out ≡ map f s
+spell_end f s out i h k each =
+    let e : length s ≡ i = omega arith in
+    ap (λ (n : ℕ). take n out) e ∙ each ∙ ap (map f) (take_all i s k)
+
+-- the last i + 1 letters of a word are the one before the last i, and those
+one_more : (w : Word) (i : ℕ) → i < length w → drop (length w - (i + 1)) w ≡ get_or w (length w - 1 - i) 0 ∷ drop (length w - i) w
+one_more w i h =
+    let j : length w - (i + 1) ≡ length w - 1 - i = omega arith in
+    let k : suc (length w - 1 - i) ≡ length w - i = omega arith in
+    ap (λ (a : ℕ). drop a w) j ∙ drop-cons w (length w - 1 - i) 0 (omega arith) ∙ ap (λ (a : ℕ). get_or w (length w - 1 - i) 0 ∷ drop a w) k
+
+-- before any is compared the last letters, none, are the same
+pub last_none : (w t : Word) → drop (length w - 0) w ≡ drop (length t - 0) t
+last_none w t = drop_of_length-le w {i = length w - 0} (omega arith) ∙ sym (drop_of_length-le t {i = length t - 0} (omega arith))
+
+module _ (w t : Word) (i : ℕ) (fits : length t ≤ length w) where
+  -- one more that is the same
+  pub last_more : i < length t → drop (length w - i) w ≡ drop (length t - i) t → get_or w (length w - 1 - i) 0 ≡ get_or t (length t - 1 - i) 0
+      → drop (length w - (i + 1)) w ≡ drop (length t - (i + 1)) t
+  last_more h e l = one_more w i (omega arith) ∙ ap₂ {C = Word} (λ (x : ℕ) (u : Word). x ∷ u) l e ∙ sym (one_more t i h)
+
+  -- one that differs, and so the tag ends no such word
+  pub last_differ : i < length t → (get_or w (length w - 1 - i) 0 ≡ get_or t (length t - 1 - i) 0 → ⊥) → false ≡ ends t w
+  last_differ h d = sym (is_false (ends t w) (λ e. d (same e)))
+    where
+      same : ends t w ≡ true → get_or w (length w - 1 - i) 0 ≡ get_or t (length t - 1 - i) 0
+      same e =
+          let j : length w - 1 - i ≡ length w - length t + (length t - 1 - i) = omega arith in
+          ap (λ (a : ℕ). get_or w a 0) j ∙ sym (get_or-drop (length w - length t) w (length t - 1 - i) 0)
+          ∙ ap (λ (l : Word). get_or l (length t - 1 - i) 0) (ends-drop t w e)
+
+  -- all of the tag's letters were the same
+  pub last_all : length t ≤ i → i ≤ length t → drop (length w - i) w ≡ drop (length t - i) t → true ≡ ends t w
+  last_all h k e =
+      let m : i ≡ length t = omega arith in
+      let z : length t - i ≡ 0 = omega arith in
+      sym (drop-ends t w (ap (λ (a : ℕ). drop (length w - a) w) (sym m) ∙ e ∙ ap (λ (a : ℕ). drop a t) z))

@@ -30,8 +30,8 @@ pub record Front (ts : List Word) (v : Word) : Type 0 where
   pub long : length v ≤ length (get_or ts tag [])
   pub is : take (length v) (get_or ts tag []) ≡ v
 
-pub front_in : (ts : List Word) (v : Word) → begins_one v ts ≡ true → Front ts v
-front_in ts v e =
+pub front_of : (ts : List Word) (v : Word) → begins_one v ts ≡ true → Front ts v
+front_of ts v e =
     let s = begins_find v ts e in
     record {
       tag = s.0;
@@ -45,7 +45,7 @@ state-front ts v a h = go (or_cases (same v []) (begins_one v ts) (sym (among-pr
   where
     go : (same v [] ≡ true) ⊎ (begins_one v ts ≡ true) → Front ts v
     go (inl e) = absurd (omega (arith, ap {B = ℕ} length (same_eq v [] e)))
-    go (inr e) = front_in ts v e
+    go (inr e) = front_of ts v e
 
 one-begins : (ts : List Word) (u : ℕ) (v r : Word) → u < length ts → get_or ts u [] ≡ v ++ r → begins_one v ts ≡ true
 unfolding begins_one

@@ -14,7 +14,7 @@ use lib.Seq.{get_or-set_other, get_or-set_same, get_or-take, length-take-le, tak
 use borrow.Author.Tests.{eq-eqb, le-leb, ne_eqb}
 use Rattle.machines.proofs.Cells.{cell_col, cell-fits}
 use Rattle.machines.proofs.Growing.{begins-known}
-use Rattle.machines.proofs.Heads.{Front, front-among, front_in, state-front}
+use Rattle.machines.proofs.Heads.{Front, front-among, front_of as front_in, state-front}
 use Rattle.machines.proofs.Making.{Cell, cell-child, cells-all, done_all, done-slot, first-low, root_done, states-is}
 use Rattle.machines.specs.Fronts.{known}
 use Rattle.machines.specs.Rows.{Done, Filled, Level, Made, Place, Sown, Started, cell, front_of, no_walk}

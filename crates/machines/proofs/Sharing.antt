@@ -3,13 +3,13 @@ use Prim.Native.Nat.{◌+◌, ◌-◌, ◌<◌, ◌≤◌, max, min, suc, ℕ}
 use mathlib.Core.Bool.{false, true}
 use mathlib.Core.List.{List, [], ◌++◌, ◌∷◌}
 use mathlib.Core.Logic.{◌⊎◌, inl, inr}
-use mathlib.Core.Path.{◌∙◌, ◌≡◌, ap, ap₂, refl, sym}
-use native.Mathlib.Decide.{dec_le}
+use mathlib.Core.Path.{◌∙◌, ◌≡◌, ap, ap₂, refl, subst, sym}
+use native.Mathlib.Decide.{dec_le, dec_lt}
 use native.Mathlib.Numerals.{add-one}
 use native.Mathlib.Omega.{arith}
 use lib.Dec.{eqb}
-use lib.ListN.{drop, drop_of_length-le, get_or, length, length-take, take}
-use lib.Seq.{drop-cons, get_or-take, length-take-le, take-length}
+use lib.ListN.{drop, drop_of_length-le, get_or, length, length-take, set, take}
+use lib.Seq.{drop-cons, get_or-set_other, get_or-set_same, get_or-take, length-take-le, take-length}
 use borrow.Author.Tests.{eq-eqb, ne_eqb}
 use Rattle.machines.proofs.Growing.{states-next, states-small, states-within, tag-next}
 use Rattle.machines.specs.Fronts.{known, shared}
@@ -118,3 +118,21 @@ module _ {ts : List Word} (fit : Fit ts) (t : ℕ) (n : t < length ts) (w : Word
         s,
         ap states (tag-next ts t n ∙ ap (λ (x : Word). take t ts ++ x ∷ []) (sym (take-length (get_or ts t [])))),
       )
+
+-- ---- from tag to tag
+-- Laws that the pages name, though no proof needs them any more.
+
+module _ (ts : List Word) (t : ℕ) (h : t < length ts) where
+  pub known_start : known (take t ts) (get_or ts t []) ≡ max 0 (known (drop 0 (take t ts)) (get_or ts t []))
+  known_start = omega arith
+
+-- what holds of each index below t holds below t + 1 after a store at t
+pub each_more : (F : ℕ → ℕ) (l : List ℕ) (t z : ℕ) → ((u : ℕ) → u < t → get_or l u 0 ≡ F u) → t < length l → z ≡ F t
+    → (u : ℕ) → u < t + 1 → get_or (set l t z) u 0 ≡ F u
+each_more F l t z each h e u k = go (dec_lt u t)
+  where
+    go : Dec (u < t) → get_or (set l t z) u 0 ≡ F u
+    go (yes j) = get_or-set_other l t u z 0 (λ q. omega arith) ∙ each u j
+    go (no j) =
+        let q : u ≡ t = omega arith in
+        subst (λ (n : ℕ). get_or (set l t z) n 0 ≡ F n) (sym q) (get_or-set_same l t z 0 h ∙ e)

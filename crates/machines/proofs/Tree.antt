@@ -228,3 +228,11 @@ all-zero {l} n e j = go (dec_lt j n)
 pub plant_first : {ts : List Word} {m len : ℕ} {l : List ℕ} → Fit ts → Roomy ts m len → length l ≡ len → ((j : ℕ) → get_or l j 0 ≡ 0)
     → Planting ts m 0 1 l
 plant_first {ts} {m} {len} {l} f r e z = record { fit = f; roomy = roomy-same r e; planted = plant_none m l z }
+
+-- ---- a tree on its way, from its parts
+-- Laws that the pages name, though no proof needs them any more.
+
+pub plant_again : {ts : List Word} {m t₀ t count₀ count : ℕ} {l₀ l : List ℕ} → Planting ts m t₀ count₀ l₀ → length l ≡ length l₀
+    → Planted (take t ts) m count l → Planting ts m t count l
+plant_again {ts} {m} p e q =
+    record { fit = p.fit; roomy = roomy-same p.roomy e; planted = q }

@@ -1,7 +1,7 @@
 -- What building answers, and what it leaves: a layout's parts judged one after the other, and a set.
 use Rattle.tables.specs.declared.BuildFault.TheVariants as B
 use Prim.Native.Nat.{ℕ}
-use mathlib.Core.Bool.{Bool, cond, false, true}
+use mathlib.Core.Bool.{Bool, cond, false, false≢true, not, true}
 use mathlib.Core.List.{List, [], ◌∷◌}
 use mathlib.Core.Path.{◌≡◌, ap, ap₂, refl, sym}
 use native.Mathlib.Omega.{arith}
@@ -115,3 +115,14 @@ module _ (layout : Layout) (bytes : List ℕ) where
         → Ok (of_parts first second) ≡ needed_of layout bytes
     unfolding needed_of
     good-needed first second e f = rw (good, e, f)
+
+-- ---- a test that was turned round
+-- Laws that the pages name, though no proof needs them any more.
+
+pub so_false : (found is : Bool) → found ≡ is → not found ≡ true → is ≡ false
+so_false true is e h = absurd (false≢true h)
+so_false false is e h = sym e
+
+pub so_true : (found is : Bool) → found ≡ is → not found ≡ false → is ≡ true
+so_true true is e h = sym e
+so_true false is e h = absurd (false≢true (sym h))

@@ -4,6 +4,7 @@ use mathlib.Core.List.{List, ◌++◌, map}
 use mathlib.Core.Path.{◌∙◌, ◌≡◌, ap, subst, sym}
 use native.Mathlib.Omega.{arith}
 use lib.ListN.{length, length-replicate, replicate, take}
+use lib.Seq.{length-take-le}
 use Rattle.matching.specs.Kinds.{TagKind, lower}
 use Rattle.kinds.specs.Laws.Folding.{folded_front}
 use Rattle.kinds.specs.Rows.{kinds_taken}
@@ -57,3 +58,10 @@ split-taken set e = ap (λ (ks : List TagKind). set_of ks set) split-kinds ∙ e
 
 pub whole_taken : (set : List ℕ) {s : SetOf} → set_of (kinds_taken ExactAlone) set ≡ s → set_of (kinds_for whole_layout) set ≡ s
 whole_taken set e = ap (λ (ks : List TagKind). set_of ks set) whole_kinds ∙ e
+
+-- ---- the folded set, lent
+-- Laws that the pages name, though no proof needs them any more.
+
+-- it is lent as far as the set goes
+pub folded_lent : {set out : List ℕ} → Folded set out → length set ≤ 576 → length set ≡ length (take (length set) out)
+folded_lent {set} {out} f h = sym (length-take-le (length set) out (omega (arith, f.long)))

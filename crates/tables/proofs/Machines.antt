@@ -178,3 +178,16 @@ module _ {part : Part} (shaped : Shaped part) {s : ℕ} {ts : List Word} {mark :
   laid-all e =
       L.is
       ∙ ap₂ {C = List ℕ} (λ (x i : ℕ). laid (slots part.bits s ts mark) 0 x ++ drop i l₀) e (L.place ∙ ap (λ (x : ℕ). x * (s * slot_size part.bits)) e)
+
+-- ---- room for a machine
+-- Laws that the pages name, though no proof needs them any more.
+
+pub size_fits : {part : Part} → Shaped part → (s len : ℕ) → part.machines * (s * (part.letters + 1)) ≤ len → s * (part.letters + 1) ≤ len
+size_fits {part} shaped s len h =
+    omega (arith, mul-le-mul_right {m = 1} {n = part.machines} (s * (part.letters + 1)) shaped.slicing.machines)
+
+module _ {part : Part} (shaped : Shaped part) {s : ℕ} {ts : List Word} {mark : ℕ → Word → ℕ} {m at : ℕ} {l₀ l : List ℕ}
+    (L : Laid part.bits s ts mark m at l₀ l) where
+  module _ (room : at + s * (part.letters + 1) ≤ length l) (few : states (tags_for part.bits ts m) ≤ s) where
+    pub laid_asks : states (tags_for part.bits ts m) * (part.letters + 1) ≤ length (take (at + s * (part.letters + 1) - at) (drop at l))
+    laid_asks = rw (part-long shaped L room few) (mul-le-mul_right (part.letters + 1) few)

@@ -2,11 +2,12 @@
 use Prim.Native.Nat.{◌*◌, ◌+◌, ◌-◌, ◌/◌, ◌<◌, ◌^◌, ◌≤◌, suc, zero, ℕ}
 use mathlib.Core.List.{List, [], ◌∷◌, map}
 use mathlib.Core.Path.{◌∙◌, ◌≡◌, ap, fun_ext, subst, sym}
-use native.Mathlib.Nat.{mod-lt, mul-le-mul_right, mul-zero}
+use native.Mathlib.Nat.{mod-lt, mul-le-mul_right, mul-zero, suc-mul}
 use native.Mathlib.Omega.{arith}
 use lib.Bits.{and_mask}
-use lib.ListN.{length, length-map, take}
+use lib.ListN.{length, length-map, length-replicate, replicate, take}
 use lib.Pow.{pow_mono}
+use lib.Seq.{length-take-le}
 use Rattle.machines.specs.Letters.{letter_by}
 use Rattle.machines.specs.Rows.{Filled, Fit, Roomy}
 use Rattle.matching.specs.Laws.Slots.{slots-fit}
@@ -115,3 +116,22 @@ module _ {part : Part} (shaped : Shaped part) where
       pub seen_filled : (l : List ℕ) → Filled (own_words (take (length bytes) out) own) part.letters l
           → Filled (tags_for part.bits words m) part.letters l
       seen_filled l f = subst (λ (ts : List Word). Filled ts part.letters l) seen f
+
+-- ---- a slice's bits, and the letters lent
+-- Laws that the pages name, though no proof needs them any more.
+
+module _ {part : Part} (shaped : Shaped part) where
+  module _ (m : ℕ) (low : m < part.machines) where
+    pub shift_small : m * part.bits < 8
+    shift_small =
+        omega (
+          arith,
+          shaped.slicing.byte,
+          bits-some shaped,
+          suc-mul m part.bits,
+          mul-le-mul_right {m = suc m} {n = part.machines} part.bits low,
+        )
+
+-- the letters are lent as they were spelled, at the front of 576 places
+pub spelled_long : (n : ℕ) (out : List ℕ) → n ≤ 576 → length out ≡ length {A = ℕ} (replicate 576 0) → n ≡ length (take n out)
+spelled_long n out h e = sym (length-take-le n out (omega (arith, e, length-replicate {A = ℕ} 576 0)))

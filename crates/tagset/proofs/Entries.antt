@@ -13,7 +13,7 @@ use borrow.Author.Tests.{ltb-false, ltb-true}
 use Rattle.std.specs.Prelude.{Err, Ok}
 use Rattle.matching.specs.Kinds.{TagKind, is_among, kind_of, kinds, no_kind}
 use Rattle.matching.specs.Laws.Bools.{or_cases, or_false-l, or_false-r}
-use Rattle.kinds.specs.Laws.Rows.{row_among, row_kind, row_none}
+use Rattle.kinds.specs.Laws.Rows.{row_among, row_kind, row_most, row_none}
 use Rattle.kinds.specs.Rows.{row_of}
 use Rattle.tagset.specs.Answer.{placed}
 use Rattle.tagset.specs.Grammar.{entry_of, kind_at, length_at}
@@ -135,3 +135,13 @@ module _ (s : List ℕ) (rows : ℕ) (two : rows ≤ 2) (k at : ℕ) where
                 rest = omega (arith, long-here, left_is);
               } in
               rw (whole_entry w, payload_length w, long-here, kind-is)
+
+-- ---- the row of a kind that is taken
+-- Laws that the pages name, though no proof needs them any more.
+
+module _ (s : List ℕ) (rows : ℕ) (two : rows ≤ 2) (k at : ℕ) where
+  module _ (four : 4 ≤ length s - at) where
+    module _ (room : k ≡ 16 → ⊥) (kind : ℕ) (is : kind ≡ number s (at + 2)) (row : ℕ) (found : row ≡ row_of kind (take rows kinds)) where
+      module _ (one : row ≡ rows → ⊥) (long : ℕ) (says : long ≡ number s at) where
+        pub in_table : row < 2
+        in_table = omega (arith, row_most kind (take rows kinds), rows_long s rows two k at, found, one)

@@ -1,16 +1,18 @@
 -- Parts of a set, and words compared letter by letter.
-use Prim.Native.Nat.{◌+◌, ◌<◌, ◌≤◌, suc, zero, ℕ}
+use Prim.Native.Nat.{◌+◌, ◌-◌, ◌<◌, ◌≤◌, min, suc, zero, ℕ}
 use mathlib.Core.Bool.{Bool, ◌&&◌, ◌||◌, false, true}
 use mathlib.Core.List.{List, [], ◌∷◌, map}
 use mathlib.Core.Path.{◌∙◌, ◌≡◌, ap, refl, sym}
+use native.Mathlib.Decide.{dec_le}
 use native.Mathlib.Numerals.{add-one}
 use native.Mathlib.Omega.{arith}
 use lib.Dec.{eqb}
-use lib.ListN.{drop, drop_of_length-le, get_or, length, length-take, take}
+use lib.ListN.{drop, drop_of_length-le, get_or, length, length-drop, length-take, take}
 use lib.Pointwise.{pointwise}
-use lib.Seq.{drop-cons, get_or-take, length-take-le}
+use lib.Seq.{drop-cons, get_or-take, length-take-le, take_all, take-nil}
 use borrow.Author.Tests.{eq-eqb, ne_eqb}
-use Rattle.matching.specs.Laws.Bools.{or_l}
+use Rattle.matching.specs.Laws.Bools.{is_false, or_l}
+use Rattle.matching.specs.Laws.Words.{same_eq}
 use Rattle.matching.specs.Kinds.{as_read}
 use Rattle.matching.specs.Tags.{Tag, Tags, no_tag, word_as}
 use Rattle.matching.specs.Words.{Word, same}
@@ -154,3 +156,55 @@ module _ (set from to kinds : List ℕ) (t kind : ℕ) (tag : Word) (i : ℕ) (g
 
   pub comparing_end : t ≤ i → false ≡ among_tags (get_or (tags_in set from to kinds) t no_tag) (take t (tags_in set from to kinds))
   comparing_end h = among-end (get_or (tags_in set from to kinds) t no_tag) (tags_in set from to kinds) t i h ∙ sym g.left
+
+-- ---- a part cut, and same from letter to letter
+-- Laws that the pages name, though no proof needs them any more.
+
+-- a part that is cut to what there is
+pub part_cut : (l : List ℕ) (a e end begin : ℕ) → end ≡ min e (length l) → begin ≡ min a end → take (end - begin) (drop begin l) ≡ take (e - a) (drop a l)
+part_cut l a e end begin he hb = go (dec_le a end) (dec_le e (length l))
+  where
+    go : Dec (a ≤ end) → Dec (e ≤ length l) → take (end - begin) (drop begin l) ≡ take (e - a) (drop a l)
+    go (yes h) (yes k) =
+        let x : begin ≡ a = omega arith in
+        let y : end ≡ e = omega arith in
+        rw (x, y)
+    go (yes h) (no k) =
+        let x : begin ≡ a = omega arith in
+        let y : end ≡ length l = omega arith in
+        rw (x, y)
+        (take_all (length l - a) (drop a l) (omega (arith, length-drop a l)) ∙ sym (take_all (e - a) (drop a l) (omega (arith, length-drop a l))))
+    go (no h) (yes k) =
+        let x : end - begin ≡ 0 = omega arith in
+        let y : e - a ≡ 0 = omega arith in
+        rw (x, y)
+    go (no h) (no k) =
+        let x : end - begin ≡ 0 = omega arith in
+        let y : drop a l ≡ [] = drop_of_length-le l {i = a} (omega arith) in
+        rw (x, y) (sym (take-nil (e - a)))
+
+same-lengths : (v w : Word) → same v w ≡ true → length v ≡ length w
+same-lengths v w e = ap {B = ℕ} length (same_eq v w e)
+
+pub same_uneven : (v w : Word) → (length v ≡ length w → ⊥) → false ≡ same v w
+same_uneven v w n = sym (is_false (same v w) (λ e. n (same-lengths v w e)))
+
+same_cons : (x y : ℕ) (v w : Word) → same (x ∷ v) (y ∷ w) ≡ (eqb x y && same v w)
+unfolding same
+same_cons x y v w = refl
+
+module _ (v w : Word) (i : ℕ) (even : length v ≡ length w) (left : i < length v) where
+  step : same (drop i v) (drop i w) ≡ (eqb (get_or v i 0) (get_or w i 0) && same (drop (suc i) v) (drop (suc i) w))
+  step =
+      rw (drop-cons v i 0 left, drop-cons w i 0 (omega arith))
+      (same_cons (get_or v i 0) (get_or w i 0) (drop (suc i) v) (drop (suc i) w))
+
+  pub same-differ : (get_or v i 0 ≡ get_or w i 0 → ⊥) → false ≡ same (drop i v) (drop i w)
+  same-differ n = sym (rw (step, ne_eqb (get_or v i 0) (get_or w i 0) n))
+
+  pub same_agree : get_or v i 0 ≡ get_or w i 0 → same (drop i v) (drop i w) ≡ same (drop (i + 1) v) (drop (i + 1) w)
+  same_agree e = rw (add-one i, step, eq-eqb (get_or v i 0) (get_or w i 0) e)
+
+pub same_end : (v w : Word) (i : ℕ) → length v ≡ length w → length v ≤ i → true ≡ same (drop i v) (drop i w)
+unfolding same
+same_end v w i even h = sym (rw (drop_of_length-le v h, drop_of_length-le w (rw even at h)))

@@ -27,6 +27,14 @@ unfolding read_of
 read_refusals layout runs place count piece len =
     by_grounds _ (place_below layout (slots_over layout (lengths runs)) place) (ltb 4294967295 (count + length piece))
 
+-- Laws that the pages name, though no proof needs them any more: `answer-number` in the two layouts.
+
+split-number : (place : List ℕ) (r : ReadOf) → ending_number (split_by place r).ending ≡ number_by r
+split-number place r = answer-number (λ p. p) place r
+
+whole-number : (place : ℕ) (r : ReadOf) → ending_number (whole_by place r).ending ≡ number_by r
+whole-number place r = answer-number (λ p. get_or p 0 0) place r
+
 -- SO FOR EACH CALL, in its own answer: 15, with nothing returned, exactly if a state is not below the s of its table; 14 exactly if each is, and the bytes
 -- taken and the piece pass 4,294,967,295
 
