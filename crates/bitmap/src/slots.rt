@@ -29,13 +29,21 @@ fn low(word: u16, k: usize) -> u16
     word & ((1 << k) - 1)
 }
 
+// Number j behind the begin of state q's slot, wherever the table ends.
+pub fn number(table: &[u16], q: usize, j: usize) -> u16
+    requires { q * 19 + j < length table.now }
+    ensures { result ≡ number_at table.now q j }
+{
+    table[q * 19 + j]
+}
+
 impl<'a> Slot<'a> {
     // Number j of the slot.
     pub fn number(&self, j: usize) -> u16
         requires { self.now.state * 19 + j < length self.now.table.now }
         ensures { result ≡ number_at self.now.table.now self.now.state j }
     {
-        self.table[self.state * 19 + j]
+        number(self.table, self.state, j)
     }
 
     // A byte's bit of the map.

@@ -11,6 +11,9 @@ use kinds::folding::fold_all;
 // The most bytes of a block.
 pub const MOST: usize = 256;
 
+// The parts of the split layout: `split_layout` in matching's specs/Parts.antt.
+pub const PARTS: usize = 2;
+
 // The second table over the whole block, then the first up to the byte to which the second came.
 fn walk_both(
     tables: &SplitTables,
@@ -26,7 +29,7 @@ fn walk_both(
 {
     let second = tables
         .folded
-        .walk(part_of(start, 1), near, block.len(), hits);
+        .walk(part_of(start, PARTS - 1), near, block.len(), hits);
     let first = tables.exact.walk(part_of(start, 0), block, second.at, hits);
     Walked {
         at: first.at,
