@@ -3,7 +3,7 @@ ghost use Rattle.std.specs.Prelude.{◌≡◌, position};
 ghost use Rattle.desk.specs.Rooms.{new_ticket};
 ghost use Rattle.desk.specs.Wanted.{is_wanted};
 
-use crate::{Edition, Serial, Ticket};
+use crate::{Desk, Edition, Serial, Ticket};
 
 // A ticket at place 0 with no byte taken; with serial 0, a free room.
 pub fn new_ticket(serial: Serial, edition: Edition) -> Ticket
@@ -39,5 +39,6 @@ pub fn is_wanted(t: &Ticket, wanted: Wanted) -> bool
 pub fn first_room(tickets: &[Ticket; 16], wanted: Wanted) -> Option<usize>
     ensures { result ≡ position (is_wanted wanted) tickets.now }
 {
-    tickets.iter().position(|t| is_wanted(t, wanted))
+    let rooms = &tickets[..Desk::TICKETS];
+    rooms.iter().position(|t| is_wanted(t, wanted))
 }
