@@ -1,30 +1,23 @@
--- `choosing::deal_out` meets its contract.
-use Prim.Native.Nat.{◌+◌}
+-- `choosing::deal_out` meets its contract: slot after slot, up to the last.
+use Rattle.std.proofs.Common.{length}
 use native.Mathlib.Omega.{arith}
 use Rattle.matching.specs.Laws.Dealt.{dealt}
 use Rattle.choosing.specs.Dealing.{is_of}
-use Rattle.choosing.specs.Laws.Dealing.{dealing_all, dealing_more, dealt-zero}
+use Rattle.choosing.specs.Laws.Dealing.{dealing_all, dealing_next, dealt-zero, slot_fits, slots_end}
 use Rattle.choosing.proofs.deal_out.Goals as goal
 
-pub loop-i-preserved : goal.loop-i-preserved
-loop-i-preserved c =
+pub loop-q-preserved : goal.loop-q-preserved
+loop-q-preserved c =
     let a = c.args in
-    let l = c.loop-i in
-    dealing_more (dealt (is_of a.kind) a.kinds.now) a.letters a.slots.now _ l.i l.invariant (omega (arith, l.invariant.long, c.loop-i-test.true)) c.deal.result
+    let l = c.loop-q in
+    let fits = slot_fits (dealt (is_of a.kind) a.kinds.now) a.letters l.q (length a.slots.now) c.loop-q-test.true in
+    dealing_next (dealt (is_of a.kind) a.kinds.now) a.letters a.slots.now _ l.q l.invariant (omega (arith, l.invariant.long, fits)) c.deal.result
     c.deal.ensures
 
 pub returns : goal.returns
 returns c =
     let a = c.args in
-    let l = c.loop-i in
-    dealing_all (dealt (is_of a.kind) a.kinds.now) a.letters a.slots.now _ l.i l.invariant
-    (dealt-zero (is_of a.kind) a.kinds.now) (omega (arith, l.invariant.long, c.loop-i-test.false))
-
-pub returns-2 : goal.returns-2
-returns-2 c =
-    let a = c.args in
-    let l = c.loop-i in
-    let more = dealing_more (dealt (is_of a.kind) a.kinds.now) a.letters a.slots.now _ l.i l.invariant (omega (arith, l.invariant.long, c.loop-i-test.true))
-    c.deal.result c.deal.ensures in
-    dealing_all (dealt (is_of a.kind) a.kinds.now) a.letters a.slots.now _ (l.i + (a.letters + 1)) more
-    (dealt-zero (is_of a.kind) a.kinds.now) (omega (arith, more.long))
+    let l = c.loop-q in
+    let ends = slots_end (dealt (is_of a.kind) a.kinds.now) a.letters l.q (length a.slots.now) (omega (arith, c.loop-q-test.false)) in
+    dealing_all (dealt (is_of a.kind) a.kinds.now) a.letters a.slots.now _ _ l.invariant (dealt-zero (is_of a.kind) a.kinds.now)
+    (omega (arith, l.invariant.long, ends))

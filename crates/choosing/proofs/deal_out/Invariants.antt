@@ -1,12 +1,8 @@
--- `choosing::deal_out` meets its contract.
-use Prim.Native.Nat.{◌-◌}
-use lib.ListN.{length}
+-- `choosing::deal_out` meets its contract: the slots before q are dealt.
+use Rattle.std.proofs.Common.{◌+◌, ◌*◌}
 use Rattle.matching.specs.Laws.Dealt.{dealt}
 use Rattle.choosing.specs.Dealing.{DealingOut, is_of}
 use Rattle.choosing.proofs.deal_out.Given as goal
 
-abbrev pub invariant-loop-i : goal.invariant-loop-i
-invariant-loop-i l = DealingOut (dealt (is_of l.kind) l.kinds) l.letters l.initial.slots l.slots l.i
-
-abbrev pub decreases-loop-i : goal.decreases-loop-i
-decreases-loop-i l = length l.initial.slots - l.i
+abbrev pub invariant-loop-q : goal.invariant-loop-q
+invariant-loop-q l = DealingOut (dealt (is_of l.kind) l.kinds) l.letters l.initial.slots l.slots (l.q * (l.letters + 1) + l.letters)
