@@ -33,6 +33,10 @@ pub fn lay_map(words: &Words, table: &mut [u16], q: usize, d: usize, mask: u16)
 {
     table[q * 19] = 0;
     for u in 0..words.count() {
-        lay_tag(words.tag(u), table, q, d, goes_through(mask, u));
+        // The mask first, since few tags go through a state, and a tag is cut from the letters.
+        let goes = goes_through(mask, u);
+        if goes {
+            lay_tag(words.tag(u), table, q, d, goes);
+        }
     }
 }

@@ -20,7 +20,9 @@ pub fn own_tags(words: &Words, d: usize, mask: u16) -> u16
 {
     let mut v: u16 = 0;
     for u in (0..words.count()).rev() {
-        v = v * 2 + u16::from(is_own(words.tag(u), d, goes_through(mask, u)));
+        // The mask first, as in `lay_map`.
+        let goes = goes_through(mask, u);
+        v = v * 2 + u16::from(goes && is_own(words.tag(u), d, goes));
     }
     v
 }

@@ -13,6 +13,11 @@ Leads s table c r = (n : ℕ) → r ≡ Some n → step s table 0 c ≡ To n 0
 abbrev pub Row : ℕ → List ℕ → List (Option ℕ) → Type 0
 Row s table row = (c : ℕ) → c < 256 → Leads s table c (get_or row c None)
 
+-- it is made for the bytes below i, and says of the others that they stay in state 0
+pub record Making (s : ℕ) (table : List ℕ) (row : List (Option ℕ)) (i : ℕ) : Type 0 where
+  pub made : (c : ℕ) → c < i → Leads s table c (get_or row c None)
+  pub stay : (c : ℕ) → i ≤ c → c < 256 → get_or row c None ≡ Some 0
+
 -- it is not deep: it is state 0, or the byte is not in its map and it fails to state 0
 abbrev pub Shallow : List ℕ → ℕ → ℕ → Bool → Type 0
 Shallow table q c deep = deep ≡ false → (q ≡ 0) ⊎ ((in_map table q c ≡ false) × (fail_at table q ≡ 0))

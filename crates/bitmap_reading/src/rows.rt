@@ -1,7 +1,7 @@
 // Passing over quiet bytes. Most bytes are read near state 0: from a state that fails to it, and has the byte not in its map, a byte leads where it
 // leads from state 0. So a row of these is made once for a long piece, and asked by one test, which can be guessed.
-ghost use Rattle.std.specs.Prelude.{IfSome, ◌≡◌, ◌*◌, ◌<◌, ◌≤◌, ◌^◌, length};
-ghost use Rattle.bitmap_reading.specs.Rows.{Row, Leads, Quick, Shallow, Few, PassedTo, moves_from};
+ghost use Rattle.std.specs.Prelude.{◌≡◌, ◌+◌, ◌*◌, ◌<◌, ◌≤◌, ◌^◌, length};
+ghost use Rattle.bitmap_reading.specs.Rows.{Row, Making, Leads, Quick, Shallow, Few, PassedTo, moves_from};
 
 use crate::tables::MapTable;
 use bitmap::Reached;
@@ -28,24 +28,40 @@ fn leads(table: &MapTable, c: u8) -> Option<u16>
     Some(to.state as u16)
 }
 
-// The row of state 0.
-fn row_of(table: &MapTable) -> Leading
+// A word of state 0's map, which is for 16 bytes: the row says where its bytes lead.
+fn lead_word(table: &MapTable, row: &mut Leading, j: usize)
+    requires j_in_bounds { (0 < table.now.states) × (j < 16) }
+    requires making { Making table.now.states table.now.numbers.now row.old (16 * j) }
+    ensures { Making table.now.states table.now.numbers.now row.new (16 * (j + 1)) }
+{
+    let root = Slot {
+        table: table.numbers,
+        state: 0,
+    };
+    for k in 0..16 {
+        let c = 16 * j + k;
+        if root.has(c as u8) {
+            row[c] = leads(table, c as u8);
+        }
+    }
+}
+
+// The row of state 0, for a piece that is long enough for it to pay. Most bytes are not in its map, and stay there: the row begins so.
+pub fn row_for(table: &MapTable) -> Leading
     requires { 0 < table.now.states }
     ensures { Row table.now.states table.now.numbers.now result }
 {
-    let mut row: Leading = [None; 256];
-    for c in 0..256 {
-        row[c] = leads(table, c as u8);
+    let root = Slot {
+        table: table.numbers,
+        state: 0,
+    };
+    let mut row: Leading = [Some(0); 256];
+    for j in 0..16 {
+        if root.number(j) != 0 {
+            lead_word(table, &mut row, j);
+        }
     }
     row
-}
-
-// A row for a piece that is long enough for it to pay.
-pub fn row_for(table: &MapTable, long: bool) -> Option<Leading>
-    requires { 0 < table.now.states }
-    ensures { IfSome result (Row table.now.states table.now.numbers.now) }
-{
-    if long { Some(row_of(table)) } else { None }
 }
 
 fn times(q: usize, marks: u16) -> usize

@@ -1,19 +1,21 @@
 -- What the row of state 0 tells, and passing by it.
-use Rattle.std.specs.Prelude.{None, Option, Some, ◌*◌, ◌+◌, ◌<◌, ◌^◌, ◌≤◌, suc, zero, ℕ, Bool, false, not, true, List, ◌⊎◌, ◌≡◌, refl, eqb, get_or, length, replicate, set}
+use Rattle.std.specs.Prelude.{None, Option, Some, ◌%◌, ◌/◌, ◌*◌, ◌+◌, ◌<◌, ◌^◌, ◌≤◌, suc, zero, ℕ, Bool, false, not, true, List, ◌⊎◌, ◌≡◌, refl, eqb, ltb, get_or, length, replicate, set}
 use Rattle.std.proofs.lemmas.Bool.{false≢true}
-use Rattle.std.proofs.Common.{inl, inr, ◌∙◌, ap, subst, sym, mul-le-mul, arith, get_or-set_other, get_or-set_same}
+use Rattle.std.proofs.Common.{inl, inr, ◌∙◌, ap, subst, sym, mul-le-mul, arith, ltb-false, ltb-true, get_or-set_other, get_or-set_same}
 use Rattle.std.proofs.Math.Decide.{ℕ_discrete}
+use Rattle.std.proofs.Math.Nat.{zero-div}
 use Rattle.std.specs.Int.Bits.{bit_or}
 use Rattle.std.proofs.lemmas.List.{get_or-replicate}
 use Rattle.passing.specs.Laws.Passing.{ones_none, quiet-byte, quiet_none, quiet-on}
 use Rattle.passing.specs.Laws.Runs.{or_zero}
+use Rattle.matching.specs.Laws.Bools.{decided}
 use Rattle.matching.specs.Reading.{ones_of}
 use Rattle.matching.specs.Stepping.{goes_to}
-use Rattle.bitmap.specs.Laws.Steps.{sound, step-fail}
-use Rattle.bitmap.specs.Steps.{To, fail_at, in_map, moved, step, vector_at}
+use Rattle.bitmap.specs.Laws.Steps.{sound, step-fail, step_stay}
+use Rattle.bitmap.specs.Steps.{To, fail_at, in_map, moved, number_at, step, vector_at}
 use Rattle.bitmap_reading.specs.Laws.Steps.{map-goes}
 use Rattle.bitmap_reading.specs.Reading.{map_step}
-use Rattle.bitmap_reading.specs.Rows.{Leads, PassedTo, Row, moves_from}
+use Rattle.bitmap_reading.specs.Rows.{Leads, Making, PassedTo, Row, moves_from}
 
 -- ---- the row
 
@@ -35,6 +37,57 @@ row_set s table row c v r h l d hd = go (ℕ_discrete d c)
     go : Dec (d ≡ c) → Leads s table d (get_or (set row c v) d None)
     go (yes e) = subst (λ (x : ℕ). Leads s table x (get_or (set row c v) x None)) (sym e) (subst (Leads s table c) (sym (get_or-set_same row c v None h)) l)
     go (no n) = subst (Leads s table d) (sym (get_or-set_other row c d v None n)) (r d hd)
+
+pub row_begun : (s : ℕ) (table : List ℕ) → Making s table (replicate 256 (Some 0)) 0
+row_begun s table = record {
+  made = λ c h. absurd (omega arith);
+  stay = λ c h l. get_or-replicate 256 c (Some 0) None l;
+}
+
+-- a byte that is not in the map
+pub row_stays : (s : ℕ) (table : List ℕ) (row : List (Option ℕ)) (i n : ℕ) → n ≡ i + 1 → Making s table row i → 0 < s → i < 256
+    → in_map table 0 i ≡ false → Making s table row n
+row_stays s table row i n en m h l e = record {
+  made = λ c hc. go c hc (ℕ_discrete c i);
+  stay = λ c hc lc. m.stay c (omega arith) lc;
+}
+  where
+    go : (c : ℕ) → c < n → Dec (c ≡ i) → Leads s table c (get_or row c None)
+    go c hc (yes z) =
+        subst (λ (x : ℕ). Leads s table x (get_or row x None)) (sym z)
+        (subst (Leads s table i) (sym (m.stay i (omega arith) l)) (leads_to s table i 0 0 h (sym (step_stay s table i e))))
+    go c hc (no ne) = m.made c (omega arith)
+
+-- the 16 bytes of a word that is 0
+pub row_over : (s : ℕ) (table : List ℕ) (row : List (Option ℕ)) (j : ℕ) → Making s table row (16 * j) → 0 < s → j < 16 → number_at table 0 j ≡ 0
+    → Making s table row (16 * (j + 1))
+unfolding in_map
+row_over s table row j m h l e = record {
+  made = λ c hc. go c hc (decided (ltb c (16 * j)));
+  stay = λ c hc lc. m.stay c (omega arith) lc;
+}
+  where
+    off : (c : ℕ) → c / 16 ≡ j → in_map table 0 c ≡ false
+    off c z = rw z (rw e (rw (zero-div (2 ^ (c % 16))) refl))
+
+    go : (c : ℕ) → c < 16 * (j + 1) → (ltb c (16 * j) ≡ true) ⊎ (ltb c (16 * j) ≡ false) → Leads s table c (get_or row c None)
+    go c hc (inl lt) = m.made c (ltb-true c (16 * j) lt)
+    go c hc (inr not_lt) =
+        let le : 16 * j ≤ c = ltb-false c (16 * j) not_lt in
+        let z : c / 16 ≡ j = omega arith in
+        subst (Leads s table c) (sym (m.stay c le (omega arith))) (leads_to s table c 0 0 h (sym (step_stay s table c (off c z))))
+
+-- a byte of the map
+pub row_led : (s : ℕ) (table : List ℕ) (row : List (Option ℕ)) (i n : ℕ) (v : Option ℕ) → n ≡ i + 1 → Making s table row i → i < length row
+    → Leads s table i v → Making s table (set row i v) n
+row_led s table row i n v en m h l = record {
+  made = λ c hc. go c hc (ℕ_discrete c i);
+  stay = λ c hc lc. get_or-set_other row i c v None (λ z. omega arith) ∙ m.stay c (omega arith) lc;
+}
+  where
+    go : (c : ℕ) → c < n → Dec (c ≡ i) → Leads s table c (get_or (set row i v) c None)
+    go c hc (yes z) = subst (λ (x : ℕ). Leads s table x (get_or (set row i v) x None)) (sym z) (subst (Leads s table i) (sym (get_or-set_same row i v None h)) l)
+    go c hc (no ne) = subst (Leads s table c) (sym (get_or-set_other row i c v None ne)) (m.made c (omega arith))
 
 -- ---- a quick step
 

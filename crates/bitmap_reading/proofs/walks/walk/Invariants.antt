@@ -2,7 +2,7 @@
 use Prim.Native.Nat.{◌-◌}
 use lib.ListN.{length}
 use Rattle.bitmap_reading.specs.Walks.{GoingMap}
-use Rattle.bitmap_reading.proofs.walks.on_bitmap.Given as goal
+use Rattle.bitmap_reading.proofs.walks.walk.Given as goal
 
 abbrev pub invariant-loop-i : goal.invariant-loop-i
 invariant-loop-i l = GoingMap l.table.states l.table.numbers.now l.count l.piece l.initial.list l.start l.list l.q l.w l.i l.moves

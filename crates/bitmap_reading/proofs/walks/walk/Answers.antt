@@ -5,8 +5,8 @@ use mathlib.Core.Path.{◌∙◌, sym}
 use native.Mathlib.Omega.{arith}
 use Rattle.bitmap.specs.Laws.Steps.{sound}
 use Rattle.bitmap_reading.specs.Laws.Walks.{map-all, map_begin, map_damaged, map-full, map-pass, map-took}
-use Rattle.bitmap_reading.proofs.walks.on_bitmap.Goals as goal
-use Rattle.bitmap_reading.proofs.walks.on_bitmap.Goals.{In-Some-put_all}
+use Rattle.bitmap_reading.proofs.walks.walk.Goals as goal
+use Rattle.bitmap_reading.proofs.walks.walk.Goals.{In-Some-put_all}
 
 -- the byte is taken, and its records written
 taken : (c : In-Some-put_all) → GoingMap c.args.table.now.states c.args.table.now.numbers.now c.args.count c.args.piece.now c.args.list.now c.args.start
@@ -19,7 +19,7 @@ taken c =
 pub loop-i-init : goal.loop-i-init
 loop-i-init c =
     let a = c.args in
-    map_begin a.table.now.states a.table.now.numbers.now a.count a.piece.now a.list.now a.start c.requires.0
+    map_begin a.table.now.states a.table.now.numbers.now a.count a.piece.now a.list.now a.start c.requires.start_in_bounds.0
 
 pub returns-in_default : goal.returns-in_default
 returns-in_default c =
@@ -53,14 +53,14 @@ overflow_add-moves c =
     let fine =
     sound c.args.table.now.states c.args.table.now.numbers.now l.q _ _ _ l.invariant.below
     (sym c.in-Some.is ∙ c.next.ensures) in
-    omega (arith, fine.1, l.invariant.few, l.invariant.below, l.invariant.going.most, c.args.table.now.few, c.requires.1)
+    omega (arith, fine.1, l.invariant.few, l.invariant.below, l.invariant.going.most, c.args.table.now.few, c.requires.start_in_bounds.1)
 
 pub pass-p-requires : goal.pass-p-requires
 pass-p-requires c =
     let done = taken (goal.at.pass-p-requires c).In-Some-put_all in
     record {
-      s_in_bounds = (done.below, rw c.in-Some-row.is at c.row_for-row.ensures);
-      from_in_bounds = (done.going.most, (omega (arith, c.requires.1), done.few));
+      s_in_bounds = (done.below, rw c.in-Some-row.is at c.requires.row_leads);
+      from_in_bounds = (done.going.most, (omega (arith, c.requires.start_in_bounds.1), done.few));
     }
 
 pub loop-i-preserved-in-loop-i : goal.loop-i-preserved-in-loop-i
