@@ -18,30 +18,42 @@ pub struct Buffer {
     pub used: usize,
 }
 
+// Hands the first `used` bytes to the system, all of them where there are no more.
+pub fn flush(bytes: &[u8; 65536], used: usize) {
+    io::write_all(STDOUT, &bytes[..used.min(SIZE)]);
+}
+
+// One byte more behind the first `used`; how many wait then. The count goes by value: a field would be read and written for each byte.
+#[tactic(auto, unfolding(crate::specs::Buffer::put_bytes, crate::specs::Buffer::put_byte, crate::specs::Buffer::put_by))]
+pub fn put_byte(bytes: &mut [u8; 65536], used: usize, byte: u8) -> usize
+    ensures { Puts (buffer bytes.old used) (byte ∷ []) (buffer bytes.new result) }
+{
+    if used < SIZE {
+        bytes[used] = byte;
+        return used + 1;
+    }
+    flush(bytes, SIZE);
+    bytes[0] = byte;
+    1
+}
+
 impl Buffer {
     // One byte more.
-    #[tactic(auto, unfolding(crate::specs::Buffer::put_bytes, crate::specs::Buffer::put_byte, crate::specs::Buffer::put_by))]
     pub fn put_byte(&mut self, byte: u8)
         ensures { Puts self.old (byte ∷ []) self.new }
     {
-        let used = self.used;
-        if used < SIZE {
-            self.bytes[used] = byte;
-            self.used = used + 1;
-            return;
-        }
-        self.flush();
-        self.bytes[0] = byte;
-        self.used = 1;
+        self.used = put_byte(&mut self.bytes, self.used, byte);
     }
 
     // Bytes as they are.
     pub fn put_words(&mut self, words: &[u8])
         ensures { Puts self.old words.now self.new }
     {
+        let mut used = self.used;
         for byte in words {
-            self.put_byte(*byte);
+            used = put_byte(&mut self.bytes, used, *byte);
         }
+        self.used = used;
     }
 
     // The decimal digits of a number.
@@ -64,7 +76,7 @@ impl Buffer {
     pub fn flush(&mut self)
         ensures { self.new ≡ buffer self.old.bytes 0 }
     {
-        io::write_all(STDOUT, &self.bytes[..self.used.min(SIZE)]);
+        flush(&self.bytes, self.used);
         self.used = 0;
     }
 }

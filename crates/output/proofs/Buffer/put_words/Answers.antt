@@ -6,4 +6,4 @@ loop-byte-init c = put-none c.args.self.now
 
 pub loop-byte-preserved : goal.loop-byte-preserved
 loop-byte-preserved c =
-    put_next c.args.words.now c.loop-byte.byte-index c.loop-byte-test.true c.loop-byte.invariant c.put_byte.ensures
+    put_next c.args.words.now c.loop-byte.byte-index c.loop-byte-test.true c.loop-byte.invariant c.put_byte-used.ensures
