@@ -18,17 +18,22 @@ for part in crates/*/{src,specs,proofs}; do
   [[ ! -d $part ]] || cp -r "$part/." "$copy/$part/"
 done
 
-# crate::module::Type::function stands in the module's file
+# crate::module::Type::function stands in the module's file, or where its type has its methods in another of the crate
 IFS=' ' read -ra names <<<"${function//::/ }"
 file=$copy/crates/${names[0]}/src
 for name in "${names[@]:1:${#names[@]}-2}"; do
   [[ $name != [a-z]* ]] || file+=/$name
 done
 [[ $file != */src ]] || file+=/lib
+file+=.rt
+type=${names[-2]}
+if [[ $type != [a-z]* ]] && ! grep -qE "\bfn ${names[-1]}\b" "$file"; then
+  file=$(grep -rlE "^impl\b.* $type\b" "$copy/crates/${names[0]}/src" | xargs -r grep -lE "\bfn ${names[-1]}\b" || true)
+fi
 perl -i -pe '
   BEGIN { $name = shift }
   s/^(\s*)(?=(pub(\([a-z]+\))? )?(const )?fn \Q$name\E\b)/$1#[inline(never)]\n$1/ and $n++;
-  END { die "it has $n functions of that name\n" if $n != 1 }' "${names[-1]}" "$file.rt" || { echo "the library has no function $function" >&2; exit 1; }
+  END { die "it has $n functions of that name\n" if $n != 1 }' "${names[-1]}" "$file" || { echo "the library has no function $function" >&2; exit 1; }
 
 build_archive "$copy" "$folder/proof.txt" || { cat "$folder/proof.txt" >&2; exit 1; }
 nm "$copy/$ARCHIVE" | grep -q " t $function$" || { echo "$function was not kept apart" >&2; exit 1; }

@@ -1,10 +1,10 @@
-// Our engines' shapes written in Rust, function for function as they were divided before docs/DESIGN-PASS.md: what the proved code
-// is held against. CHECKED says whether each index is tested, as Rust's own indexing does, or not, as the proved code need not.
+// Our engines' shapes written in Rust, function for function: what the proved code is held against. CHECKED says whether each
+// index is tested, as Rust's own indexing does, or not, as the proved code need not.
 use crate::engine::{Engine, Out};
 use crate::ours::{self, SplitTables, BITMAP_SLOT, WHOLE_SLOT};
-use crate::same_shape_bitmap::on_bitmap;
+use crate::same_shape_bitmap::{on_bitmap, MapTable};
 use crate::same_shape_split::on_split;
-use crate::same_shape_whole::on_whole;
+use crate::same_shape_whole::{on_whole, WholeTable};
 use crate::tags::Tag;
 
 #[derive(Clone, Copy, PartialEq)]
@@ -15,11 +15,23 @@ pub enum Stop {
 }
 
 /// What reading comes to; P is the kind of place.
+#[derive(Clone, Copy)]
 pub struct Went<P> {
     pub taken: usize,
     pub place: P,
     pub records: usize,
     pub stop: Stop,
+}
+
+impl<P> Went<P> {
+    pub fn stopped(taken: usize, place: P, records: usize, stop: Stop) -> Went<P> {
+        Went {
+            taken,
+            place,
+            records,
+            stop,
+        }
+    }
 }
 
 #[inline(always)]
@@ -60,15 +72,21 @@ pub fn set<const CHECKED: bool, T>(run: &mut [T], i: usize, x: T) {
     }
 }
 
+fn put_bit<const CHECKED: bool>(list: &mut [u32], w: usize, end: u32, tag: u32, bit: u16) -> usize {
+    if bit == 0 {
+        return w;
+    }
+    let i = 2 * w;
+    set::<CHECKED, u32>(list, i, end);
+    set::<CHECKED, u32>(list, i + 1, tag);
+    w + 1
+}
+
 fn put<const CHECKED: bool>(list: &mut [u32], from: usize, end: u32, hits: u16) -> usize {
     let mut w = from;
     let mut rest = hits;
     for tag in 0..16 {
-        if rest % 2 != 0 {
-            set::<CHECKED, u32>(list, 2 * w, end);
-            set::<CHECKED, u32>(list, 2 * w + 1, tag);
-            w += 1;
-        }
+        w = put_bit::<CHECKED>(list, w, end, tag, rest % 2);
         rest /= 2;
     }
     w
@@ -84,7 +102,8 @@ pub fn put_all<const CHECKED: bool>(
     if hits == 0 {
         return Some(w);
     }
-    if list.len() / 2 - w < hits.count_ones() as usize {
+    let count = hits.count_ones() as usize;
+    if list.len() / 2 - w < count {
         return None;
     }
     Some(put::<CHECKED>(list, w, end, hits))
@@ -92,11 +111,7 @@ pub fn put_all<const CHECKED: bool>(
 
 /// The next 64 bytes, or as many as there are.
 pub fn soon(at: usize, len: usize) -> usize {
-    if len - at < 64 {
-        len
-    } else {
-        at + 64
-    }
+    at + 64_usize.min(len - at)
 }
 
 pub struct OneBitInRust<const CHECKED: bool> {
@@ -123,7 +138,8 @@ impl<const CHECKED: bool> Engine for OneBitInRust<CHECKED> {
         let mut at = from;
         while at < to {
             let went = on_split::<CHECKED>(
-                [&self.tables.first, &self.tables.second],
+                &self.tables.first,
+                &self.tables.second,
                 slots,
                 self.place,
                 at as u32,
@@ -158,17 +174,13 @@ impl<const CHECKED: bool> Engine for WholeByteInRust<CHECKED> {
     }
 
     fn piece(&mut self, input: &[u8], from: usize, to: usize, out: &mut Out) {
-        let s = self.table.len() / WHOLE_SLOT;
+        let table = WholeTable::<CHECKED> {
+            numbers: &self.table,
+            states: self.table.len() / WHOLE_SLOT,
+        };
         let mut at = from;
         while at < to {
-            let went = on_whole::<CHECKED>(
-                &self.table,
-                s,
-                self.place,
-                at as u32,
-                &input[at..to],
-                &mut out.list,
-            );
+            let went = on_whole(&table, self.place, at as u32, &input[at..to], &mut out.list);
             assert!(went.stop != Stop::Damaged, "the table was built");
             self.place = went.place;
             at += went.taken;
@@ -179,7 +191,7 @@ impl<const CHECKED: bool> Engine for WholeByteInRust<CHECKED> {
 
 pub struct BitmapInRust<const CHECKED: bool> {
     table: Vec<u16>,
-    place: usize,
+    place: u16,
     moves: usize,
 }
 
@@ -200,20 +212,22 @@ impl<const CHECKED: bool> Engine for BitmapInRust<CHECKED> {
     }
 
     fn piece(&mut self, input: &[u8], from: usize, to: usize, out: &mut Out) {
-        let s = self.table.len() / BITMAP_SLOT;
+        let table = MapTable::<CHECKED> {
+            numbers: &self.table,
+            states: self.table.len() / BITMAP_SLOT,
+        };
         let mut at = from;
         while at < to {
-            let (went, moves) = on_bitmap::<CHECKED>(
-                &self.table,
-                s,
-                self.place,
+            let went = on_bitmap(
+                &table,
+                usize::from(self.place),
                 at as u32,
                 &input[at..to],
                 &mut out.list,
             );
             assert!(went.stop != Stop::Damaged, "the table was built");
-            self.place = went.place;
-            self.moves += moves;
+            self.place = went.place.state;
+            self.moves += went.place.moves;
             at += went.taken;
             out.take(went.records);
         }

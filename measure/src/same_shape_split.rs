@@ -2,17 +2,19 @@
 // finds at a byte is noted, and the notes are then written as records. A table that no byte leads away from its place, and that
 // finds nothing there, is asleep and left out. Blocks are sized by the room that is left in the list.
 use crate::same_shape::{at, between, put_all, set, Stop, Went};
-use crate::same_shape_steps::{is_awake, put_starts, walk_if, Hits, Part, Starts, Walked, MOST};
+use crate::same_shape_steps::{is_awake, BitTable, Machines, Walked};
 
-/// The states of both tables' machines.
-type Place = [usize; 16];
-type Tables<'t> = [&'t [u16]; 2];
+/// The most bytes of a block.
+const MOST: usize = 256;
+
+/// The parts of the split layout.
+const PARTS: usize = 2;
 
 /// No block is made shorter than this, whatever was found before it.
 const FEW: usize = 4;
 
 /// A to Z are taken to a to z, every other byte to itself.
-static FOLD: [u8; 256] = {
+const FOLD: [u8; 256] = {
     let mut fold = [0; 256];
     let mut byte = 0;
     while byte < 256 {
@@ -22,257 +24,260 @@ static FOLD: [u8; 256] = {
     fold
 };
 
-fn part_of(place: Place, g: usize) -> Part {
+fn fold_table() -> [u8; 256] {
+    FOLD
+}
+
+fn folded<const CHECKED: bool>(fold: &[u8; 256], c: u8) -> u8 {
+    at::<CHECKED, u8>(fold, usize::from(c))
+}
+
+fn fold_all<const CHECKED: bool>(bytes: &[u8], out: &mut [u8]) {
+    let fold = fold_table();
+    for (i, c) in bytes.iter().enumerate() {
+        set::<CHECKED, u8>(out, i, folded::<CHECKED>(&fold, *c));
+    }
+}
+
+/// The states of part g.
+fn part_of<const CHECKED: bool>(place: [usize; 16], g: usize) -> [usize; 8] {
     let mut own = [0; 8];
-    own.copy_from_slice(&place[8 * g..8 * g + 8]);
+    let from = g * 8;
+    own.copy_from_slice(between::<CHECKED, usize>(&place, from, from + 8));
     own
 }
 
-fn with_part(place: Place, g: usize, own: Part) -> Place {
-    let mut all = place;
-    all[8 * g..8 * g + 8].copy_from_slice(&own);
+/// A place, by the states of each part.
+fn joined(first: [usize; 8], second: [usize; 8]) -> [usize; 16] {
+    let mut all = [0; 16];
+    all[..8].copy_from_slice(&first);
+    all[8..].copy_from_slice(&second);
     all
 }
 
-/// What is known of each table: its slots, and whether it is awake.
-struct Known<'t> {
-    tables: Tables<'t>,
+/// The table of exact tags, and that of folded ones.
+#[derive(Clone, Copy)]
+struct SplitTables<'a, const CHECKED: bool> {
+    exact: BitTable<'a, CHECKED>,
+    folded: BitTable<'a, CHECKED>,
+}
+
+/// The starts of a part, laid into a run of their own, if it is awake at its place.
+fn starts_of<'a, const CHECKED: bool>(
+    machines: &Machines<CHECKED, 1>,
+    place: [usize; 8],
+    run: &'a mut [usize],
+) -> Option<&'a [usize]> {
+    if !is_awake(machines, place) {
+        return None;
+    }
+    machines.put_starts(run);
+    Some(run)
+}
+
+/// Both tables, with what is known of them at a place; their starts are laid into a run.
+fn tables_at<'a, const CHECKED: bool>(
+    first: &'a [u16],
+    second: &'a [u16],
     slots: [usize; 2],
-    awake: [bool; 2],
-}
-
-fn known_of<const CHECKED: bool>(tables: Tables, slots: [usize; 2], start: Place) -> Known {
-    let awake = [0, 1].map(|g| is_awake::<CHECKED>(tables[g], slots[g], part_of(start, g)));
-    Known {
-        tables,
-        slots,
-        awake,
+    start: [usize; 16],
+    run: &'a mut [usize; 256],
+) -> SplitTables<'a, CHECKED> {
+    let exact = Machines {
+        numbers: first,
+        slots: slots[0],
+    };
+    let folded = Machines {
+        numbers: second,
+        slots: slots[1],
+    };
+    let (one, other) = run.split_at_mut(128);
+    SplitTables {
+        exact: BitTable {
+            machines: exact,
+            starts: starts_of(&exact, part_of::<CHECKED>(start, 0), one),
+        },
+        folded: BitTable {
+            machines: folded,
+            starts: starts_of(&folded, part_of::<CHECKED>(start, 1), other),
+        },
     }
 }
 
-/// The starts of both tables, one behind the other; those of one that is awake.
-fn starts_of<const CHECKED: bool>(known: &Known) -> [Starts; 2] {
-    let mut all = [[0; 128]; 2];
-    for (g, out) in all.iter_mut().enumerate() {
-        if known.awake[g] {
-            put_starts::<CHECKED>(known.slots[g], out);
-        }
-    }
-    all
-}
-
-fn fold_all<const CHECKED: bool>(bytes: &[u8], out: &mut [u8; MOST]) {
-    let mut i = 0;
-    while i < bytes.len() {
-        let byte = usize::from(at::<CHECKED, u8>(bytes, i));
-        set::<CHECKED, u8>(out, i, at::<CHECKED, u8>(&FOLD, byte));
-        i += 1;
-    }
-}
-
-/// Some bytes for table g, with what is its own.
-fn walk_of<const CHECKED: bool>(
-    known: &Known,
-    starts: &[Starts; 2],
-    g: usize,
-    start: Place,
-    bytes: &[u8],
-    hits: &mut Hits,
-) -> Walked<Part> {
-    let ([first, second], awake, s) = (known.tables, known.awake[g], known.slots[g]);
-    let place = part_of(start, g);
-    let own = &starts[g];
-    if g == 0 {
-        return walk_if::<CHECKED>(awake, first, s, own, place, bytes, hits);
-    }
-    walk_if::<CHECKED>(awake, second, s, own, place, bytes, hits)
-}
-
-/// Each table, the second first, up to the byte to which that came.
-fn walk_parts<const CHECKED: bool>(
-    known: &Known,
-    starts: &[Starts; 2],
-    start: Place,
+/// The second table over the whole block, then the first up to the byte to which the second came.
+fn walk_both<const CHECKED: bool>(
+    tables: &SplitTables<CHECKED>,
+    start: [usize; 16],
     block: &[u8],
     near: &[u8],
-    hits: &mut Hits,
-) -> Walked<Place> {
-    let (mut at, mut place, mut loud) = (block.len(), start, false);
-    for (g, bytes) in [(1, near), (0, block)] {
-        let bytes = between::<CHECKED, u8>(bytes, 0, at);
-        let r = walk_of::<CHECKED>(known, starts, g, start, bytes, hits);
-        place = with_part(place, g, r.place);
-        at = r.at;
-        loud |= r.loud;
+    hits: &mut [u16; 256],
+) -> Walked<16> {
+    let of_second = part_of::<CHECKED>(start, PARTS - 1);
+    let second = tables.folded.walk(of_second, near, block.len(), hits);
+    let of_first = part_of::<CHECKED>(start, 0);
+    let first = tables.exact.walk(of_first, block, second.at, hits);
+    Walked {
+        at: first.at,
+        place: joined(first.place, second.place),
+        loud: second.loud | first.loud,
     }
-    Walked { at, place, loud }
 }
 
 /// The second table reads a folded copy, which is made where it is awake.
 fn walk_block<const CHECKED: bool>(
-    known: &Known,
-    starts: &[Starts; 2],
-    start: Place,
+    tables: &SplitTables<CHECKED>,
+    start: [usize; 16],
     block: &[u8],
-    hits: &mut Hits,
-) -> Walked<Place> {
-    if !known.awake[1] {
-        return walk_parts::<CHECKED>(known, starts, start, block, block, hits);
+    hits: &mut [u16; 256],
+) -> Walked<16> {
+    if tables.folded.starts.is_none() {
+        return walk_both(tables, start, block, block, hits);
     }
-    let mut near = [0; MOST];
+    let mut near = [0; 256];
     fold_all::<CHECKED>(block, &mut near);
     let folded = between::<CHECKED, u8>(&near, 0, block.len());
-    walk_parts::<CHECKED>(known, starts, start, block, folded, hits)
+    walk_both(tables, start, block, folded, hits)
 }
 
-/// The records of the bytes up to end, behind the first so many: up to the first byte whose records find no room. Gives that byte,
-/// and the number of records.
+/// The bytes whose records are written, and how many records there are then.
+#[derive(Clone, Copy)]
+struct Wrote {
+    at: usize,
+    records: usize,
+}
+
+/// The records of the bytes up to end, behind the first so many: up to the first byte whose records find no room.
 fn write_rows<const CHECKED: bool>(
-    hits: &Hits,
+    hits: &[u16; 256],
     end: usize,
     count: u32,
     list: &mut [u32],
     from: usize,
-) -> (usize, usize) {
-    let (mut i, mut w) = (0, from);
-    while i < end {
+) -> Wrote {
+    let mut w = from;
+    for i in 0..end {
         let v = at::<CHECKED, u16>(hits, i);
-        let Some(written) = put_all::<CHECKED>(list, w, count + i as u32 + 1, v) else {
-            break;
+        let Some(x) = put_all::<CHECKED>(list, w, count + (i as u32) + 1, v) else {
+            return Wrote { at: i, records: w };
         };
-        w = written;
-        i += 1;
+        w = x;
     }
-    (i, w)
+    Wrote {
+        at: end,
+        records: w,
+    }
 }
 
 /// The same, if something was noted; and then nothing is noted any more.
 fn write_noted<const CHECKED: bool>(
-    all: &Walked<Place>,
-    hits: &mut Hits,
+    loud: bool,
+    hits: &mut [u16; 256],
+    end: usize,
     count: u32,
     list: &mut [u32],
     from: usize,
-) -> (usize, usize) {
-    if !all.loud {
-        return (all.at, from);
+) -> Wrote {
+    if loud {
+        let r = write_rows::<CHECKED>(hits, end, count, list, from);
+        *hits = [0; 256];
+        return r;
     }
-    let wrote = write_rows::<CHECKED>(hits, all.at, count, list, from);
-    *hits = [0; MOST];
-    wrote
-}
-
-fn at_most(n: usize) -> usize {
-    if n < MOST {
-        n
-    } else {
-        MOST
+    Wrote {
+        at: end,
+        records: from,
     }
 }
 
 /// The bytes of a piece's first block, for a list of so many numbers.
 fn first_size(list: usize) -> usize {
-    at_most(list / 4) + FEW
+    (list / 4).min(MOST) + FEW
 }
 
 /// Those of the next, by how many records there are before and behind a block of so many bytes.
 fn next_size(size: usize, before: usize, records: usize, list: usize) -> usize {
     if records <= before {
-        return at_most(size) * 2;
+        return size.min(MOST) * 2;
     }
     let found = records - before;
     let all = list / 2;
     if all <= records {
         return FEW;
     }
-    let room = at_most(all - records);
-    at_most(room * at_most(size) / found) * 3 / 4 + FEW
+    let room = (all - records).min(MOST);
+    (room * size.min(MOST) / found).min(MOST) * 3 / 4 + FEW
 }
 
-/// At least one byte, and no more than a block has.
-fn some_of(size: usize) -> usize {
-    if size < MOST {
-        size + 1
-    } else {
-        MOST
-    }
-}
-
-/// Where a block of so many bytes ends that begins at a byte.
+/// Where a block of about so many bytes ends that begins at a byte: at least one, and no more than a block has.
 fn block_end(at: usize, len: usize, size: usize) -> usize {
-    let most = some_of(size);
-    if len - at < most {
-        len
-    } else {
-        at + most
-    }
+    at + (len - at).min(size.min(MOST - 1) + 1)
 }
 
 /// One block, its records behind the first so many. Where not all of it is taken, it is walked again up to the byte that isn't.
 fn read_block<const CHECKED: bool>(
-    (known, starts): (&Known, &[Starts; 2]),
-    start: Place,
+    tables: &SplitTables<CHECKED>,
+    start: [usize; 16],
     count: u32,
     block: &[u8],
     list: &mut [u32],
     from: usize,
-    hits: &mut Hits,
-) -> Went<Place> {
-    let all = walk_block::<CHECKED>(known, starts, start, block, hits);
-    let (taken, records) = write_noted::<CHECKED>(&all, hits, count, list, from);
-    let (place, stop) = if block.len() <= taken {
-        (all.place, Stop::All)
-    } else {
-        let front = between::<CHECKED, u8>(block, 0, taken);
-        let again = walk_block::<CHECKED>(known, starts, start, front, hits);
-        let full = taken < all.at;
-        (again.place, if full { Stop::Full } else { Stop::Damaged })
-    };
-    Went {
-        taken,
-        place,
-        records,
-        stop,
+    hits: &mut [u16; 256],
+) -> Went<[usize; 16]> {
+    let all = walk_block(tables, start, block, hits);
+    let end = all.at;
+    let wrote = write_noted::<CHECKED>(all.loud, hits, end, count, list, from);
+    let at = wrote.at;
+    if block.len() <= at {
+        return Went::stopped(at, all.place, wrote.records, Stop::All);
     }
+    let taken = between::<CHECKED, u8>(block, 0, at);
+    let again = walk_block(tables, start, taken, hits);
+    let place = again.place;
+    if at < end {
+        return Went::stopped(at, place, wrote.records, Stop::Full);
+    }
+    Went::stopped(at, place, wrote.records, Stop::Damaged)
 }
 
 /// A block after another.
 fn on_blocks<const CHECKED: bool>(
-    made: (&Known, &[Starts; 2]),
-    start: Place,
+    tables: &SplitTables<CHECKED>,
+    start: [usize; 16],
     count: u32,
     piece: &[u8],
     list: &mut [u32],
-    hits: &mut Hits,
-) -> Went<Place> {
+    hits: &mut [u16; 256],
+) -> Went<[usize; 16]> {
+    let mut at = start;
     let mut size = first_size(list.len());
-    let mut went = Went {
-        taken: 0,
-        place: start,
-        records: 0,
-        stop: Stop::All,
-    };
-    while went.taken < piece.len() && went.stop == Stop::All {
-        let (i, from, place) = (went.taken, went.records, went.place);
+    let mut w = 0;
+    let mut i = 0;
+    while i < piece.len() {
         let to = block_end(i, piece.len(), size);
         let block = between::<CHECKED, u8>(piece, i, to);
-        went = read_block::<CHECKED>(made, place, count + i as u32, block, list, from, hits);
-        size = next_size(size, from, went.records, list.len());
-        went.taken += i;
+        let seen = count + (i as u32);
+        let r = read_block(tables, at, seen, block, list, w, hits);
+        at = r.place;
+        size = next_size(size, w, r.records, list.len());
+        w = r.records;
+        i += r.taken;
+        let Stop::All = r.stop else {
+            return Went::stopped(i, at, w, r.stop);
+        };
     }
-    went
+    Went::stopped(i, at, w, Stop::All)
 }
 
 pub fn on_split<const CHECKED: bool>(
-    tables: Tables,
+    first: &[u16],
+    second: &[u16],
     slots: [usize; 2],
-    start: Place,
+    start: [usize; 16],
     count: u32,
     piece: &[u8],
     list: &mut [u32],
-) -> Went<Place> {
-    let known = known_of::<CHECKED>(tables, slots, start);
-    let starts = starts_of::<CHECKED>(&known);
-    let mut hits = [0; MOST];
-    on_blocks::<CHECKED>((&known, &starts), start, count, piece, list, &mut hits)
+) -> Went<[usize; 16]> {
+    let mut hits = [0; 256];
+    let mut starts = [0; 256];
+    let tables = tables_at::<CHECKED>(first, second, slots, start, &mut starts);
+    on_blocks(&tables, start, count, piece, list, &mut hits)
 }
