@@ -1,7 +1,8 @@
 -- Dealing bit by bit, and slot by slot.
 use Rattle.std.specs.Prelude.{◌%◌, ◌*◌, ◌+◌, ◌/◌, ◌<◌, ◌^◌, ◌≤◌, suc, ℕ, Bool, false, true, ◌⊎◌, ◌≡◌, refl, drop, get_or, length, set}
 use mathlib.Core.List.{List, [], ◌∷◌, map}
-use Rattle.std.proofs.Common.{inl, inr, ◌∙◌, ap, sym, mod-lt, mul-add, mul_assoc, mul_comm, mul-le-mul_left, mul-le-mul_right, mul-zero, pow-suc, suc-mul, zero-mul, add-mul, div-add-mod', add-one, arith, lit<, drop_of_length-le, length-set, pow_mono, drop-cons, get_or-set_other, get_or-set_same}
+use Rattle.std.proofs.Common.{inl, inr, ◌∙◌, ap, sym, mod-lt, mul-add, mul_assoc, mul_comm, mul-le-mul_left, mul-le-mul_right, mul-zero, pow-suc, suc-mul, zero-mul, div-add-mod', add-one, arith, lit<, drop_of_length-le, length-set, pow_mono, drop-cons, get_or-set_other, get_or-set_same}
+use Rattle.std.proofs.lemmas.List.{set-get_or}
 use Rattle.std.proofs.Math.Decide.{dec_lt, ℕ_discrete}
 use Rattle.std.proofs.Math.Arith.{digits_div, digits_mod}
 use Rattle.std.proofs.Math.ListN.{get_or-eq_default}
@@ -137,6 +138,10 @@ module _ (deal : ℕ → ℕ) (m : ℕ) where
             get_or-set_other after i (q * (m + 1) + m) v 0 (λ x. d (one_place q g.slot m m (omega arith) (omega arith) (x ∙ g.place)).0)
             ∙ g.vectors q (omega arith)
 
+    -- a vector of no tags stays
+    pub dealing_past : deal 0 ≡ 0 → i < length after → get_or after i 0 ≡ 0 → DealingOut deal m before after (i + (m + 1))
+    dealing_past none less zero = rw (sym (set-get_or after i 0)) (dealing_more less (get_or after i 0) (zero ∙ sym none ∙ ap deal (sym zero)))
+
     pub dealing_all : deal 0 ≡ 0 → length after ≤ i → DealtOut deal m before after
     dealing_all none h = record { long = g.long; vectors = λ q. vector q (dec_lt q g.slot); nexts = g.nexts }
       where
@@ -158,17 +163,3 @@ module _ (deal : ℕ → ℕ) (m : ℕ) where
   slots_end q n h =
       let less : n % (m + 1) < m + 1 = mod-lt n (omega arith) in
       omega (arith, mul-le-mul_right {m = n / (m + 1)} {n = q} (m + 1) h, div-add-mod' n (m + 1), less)
-
-  -- slot after slot
-  pub dealing_next : (before after : List ℕ) (q : ℕ) → DealingOut deal m before after (q * (m + 1) + m) → q * (m + 1) + m < length after
-      → (v : ℕ) → v ≡ deal (get_or after (q * (m + 1) + m) 0) → DealingOut deal m before (set after (q * (m + 1) + m) v) ((q + 1) * (m + 1) + m)
-  dealing_next before after q g less v e =
-      let d = dealing_more before after (q * (m + 1) + m) g less v e in
-      record {
-        slot = d.slot;
-        place = omega (arith, d.place, add-mul q 1 (m + 1));
-        long = d.long;
-        vectors = d.vectors;
-        raw = d.raw;
-        nexts = d.nexts;
-      }
