@@ -94,9 +94,8 @@ fn deal(v: u16, kinds: &[usize], kind: usize) -> u16
     d.out as u16
 }
 
-// The vector of every slot, where a slot has a next for each letter and its vector behind them. Most slots of most tables have none, so a
-// vector of no tags is passed over, and the place is carried along: `step_by` tests twice a turn, and a place made of the slot's number is
-// multiplied.
+// The vector of every slot, where a slot has a next for each letter and its vector behind them. The vectors of most slots have no tag, and are
+// passed over. The place is carried along: `step_by` tests twice a turn, and a place made of the slot's number is multiplied.
 pub fn deal_out(kinds: &[usize], kind: usize, letters: usize, slots: &mut [u16])
     requires { (length kinds.now ≤ 16) × (letters ≤ 256) }
     ensures { DealtOut (dealt (is_of kind) kinds.now) letters slots.old slots.new }

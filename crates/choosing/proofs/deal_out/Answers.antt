@@ -15,18 +15,16 @@ loop-init c =
 -- the place lies in the run while a slot is left
 pub bounds-slots-at : goal.bounds-slots-at
 bounds-slots-at c =
-    let a = c.args in
     let l = c.loop in
-    let fits = slot_fits (dealt (is_of a.kind) a.kinds.now) a.letters l.counter (length a.slots.now) c.loop-test.true in
-    omega (arith, l.invariant.0.long, l.invariant.1, fits)
+    omega (arith, l.invariant.0.long, l.invariant.1, slot_fits c.args.letters l.counter (length c.args.slots.now) c.loop-test.true)
 
 pub loop-preserved : goal.loop-preserved
 loop-preserved c =
     let a = c.args in
     let l = c.loop in
     let f = dealt (is_of a.kind) a.kinds.now in
-    let fits = slot_fits f a.letters l.counter (length a.slots.now) c.loop-test.true in
-    let here : l.at < length l.slots = omega (arith, l.invariant.0.long, l.invariant.1, fits) in
+    let here : l.at < length l.slots =
+    omega (arith, l.invariant.0.long, l.invariant.1, slot_fits a.letters l.counter (length a.slots.now) c.loop-test.true) in
     let next : l.at + (a.letters + 1) ≡ (l.counter + 1) * (a.letters + 1) + a.letters = omega (arith, l.invariant.1, add-mul l.counter 1 (a.letters + 1)) in
     elim c.if-slots-at-gt0.branch [
       | then-slots-at-gt0 w ↦ (rw w.slots-is (dealing_more f a.letters a.slots.now l.slots l.at l.invariant.0 here w.deal.result w.deal.ensures), next)
@@ -41,6 +39,6 @@ pub returns : goal.returns
 returns c =
     let a = c.args in
     let l = c.loop in
-    let ends = slots_end (dealt (is_of a.kind) a.kinds.now) a.letters l.counter (length a.slots.now) (omega (arith, c.loop-test.false)) in
+    let ends = slots_end a.letters l.counter (length a.slots.now) (omega (arith, c.loop-test.false)) in
     dealing_all (dealt (is_of a.kind) a.kinds.now) a.letters a.slots.now l.slots l.at l.invariant.0 (dealt-zero (is_of a.kind) a.kinds.now)
     (omega (arith, l.invariant.0.long, l.invariant.1, ends))

@@ -1,7 +1,7 @@
 -- Dealing bit by bit, and slot by slot.
 use Rattle.std.specs.Prelude.{◌%◌, ◌*◌, ◌+◌, ◌/◌, ◌<◌, ◌^◌, ◌≤◌, suc, ℕ, Bool, false, true, ◌⊎◌, ◌≡◌, refl, drop, get_or, length, set}
 use mathlib.Core.List.{List, [], ◌∷◌, map}
-use Rattle.std.proofs.Common.{inl, inr, ◌∙◌, ap, sym, mod-lt, mul-add, mul_assoc, mul_comm, mul-le-mul_left, mul-le-mul_right, mul-zero, pow-suc, suc-mul, zero-mul, div-add-mod', add-one, arith, lit<, drop_of_length-le, length-set, pow_mono, drop-cons, get_or-set_other, get_or-set_same}
+use Rattle.std.proofs.Common.{inl, inr, ◌∙◌, ap, sym, mod-lt, mul-add, mul_assoc, mul_comm, mul-le-mul_left, mul-le-mul_right, mul-zero, pow-suc, suc-mul, zero-mul, div-lt_iff_lt-mul, le-div_iff_mul-le, add-one, arith, lit<, drop_of_length-le, length-set, pow_mono, drop-cons, get_or-set_other, get_or-set_same}
 use Rattle.std.proofs.lemmas.List.{set-get_or}
 use Rattle.std.proofs.Math.Decide.{dec_lt, ℕ_discrete}
 use Rattle.std.proofs.Math.Arith.{digits_div, digits_mod}
@@ -97,6 +97,15 @@ bit_most value left =
 
 -- ---- slot by slot
 
+module _ (m : ℕ) where
+  -- the vector of slot q of a run is in it, where the run has more than q slots
+  pub slot_fits : (q n : ℕ) → q < n / (m + 1) → q * (m + 1) + m < n
+  slot_fits q n h = omega (arith, (le-div_iff_mul-le {k = m + 1} {x = suc q} {y = n} (omega arith)).0 (omega (arith, h)), suc-mul q (m + 1))
+
+  -- and where it has no more, it is behind it
+  pub slots_end : (q n : ℕ) → n / (m + 1) ≤ q → n ≤ q * (m + 1) + m
+  slots_end q n h = omega (arith, (div-lt_iff_lt-mul {k = m + 1} {x = n} {y = suc q} (omega arith)).0 (omega (arith, h)), suc-mul q (m + 1))
+
 module _ (deal : ℕ → ℕ) (m : ℕ) where
   -- two numbers of slots stand at one place only if they are the same number of the same slot
   one_place : (p q b c : ℕ) → b < m + 1 → c < m + 1 → p * (m + 1) + b ≡ q * (m + 1) + c → (p ≡ q) × (b ≡ c)
@@ -152,14 +161,3 @@ module _ (deal : ℕ → ℕ) (m : ℕ) where
             omega (arith, g.long, g.place, h, mul-le-mul_right {m = g.slot} {n = q} (m + 1) (omega arith)) in
             let zero : get_or before (q * (m + 1) + m) 0 ≡ 0 = get_or-eq_default before 0 behind in
             g.raw q (omega arith) ∙ zero ∙ sym none ∙ ap deal (sym zero)
-
-  -- the vector of slot q of a run is in it, where the run has more than q slots
-  pub slot_fits : (q n : ℕ) → q < n / (m + 1) → q * (m + 1) + m < n
-  slot_fits q n h =
-      omega (arith, mul-le-mul_right {m = suc q} {n = n / (m + 1)} (m + 1) h, suc-mul q (m + 1), div-add-mod' n (m + 1))
-
-  -- and where it has no more, it is behind it
-  pub slots_end : (q n : ℕ) → n / (m + 1) ≤ q → n ≤ q * (m + 1) + m
-  slots_end q n h =
-      let less : n % (m + 1) < m + 1 = mod-lt n (omega arith) in
-      omega (arith, mul-le-mul_right {m = n / (m + 1)} {n = q} (m + 1) h, div-add-mod' n (m + 1), less)
